@@ -2,7 +2,7 @@
 ghost use Rattle.std.specs.Prelude.{◌≡◌, ◌≤◌, IsTrue, None, OnOk};
 ghost use Rattle.std.specs.Option.{ForSome};
 ghost use Rattle.blk_image.specs.Image.{Block as block, HasRange};
-ghost use Rattle.blk_image.specs.Told.{Applies, AppliesPrefix, Rises, Commits, Stays};
+ghost use Rattle.blk_image.specs.Told.{Applies, Commits, MakesPartOf, Rises, Stays};
 ghost use Rattle.blk_format.specs.Address.{blocks_256, file_selector, kind_of, place};
 ghost use Rattle.blk_io.specs.declared.folder.FileId.TheVariants as FileId;
 ghost use Rattle.blk_io.specs.Faults.{IfDamaged, IfDevice, IsShort};
@@ -33,7 +33,7 @@ pub fn link_front<F: Folder>(f: &mut F, files: &BlockFiles, entry: Addr) -> Resu
     ensures checked { OnOk result (ForSome (F.told f.old).files (λ image. HasRange image (block (file_selector entry)) (place entry) 4)) }
     ensures is_open { ForSome (F.told f.new).files (IsOpen files.now) }
     ensures steps { OnOk result (ForSome (F.told f.old).files (λ from. Applies (F.told f.old) (F.told f.new) (link_front_steps from entry))) }
-    ensures prefix { ForSome (F.told f.old).files (λ from. AppliesPrefix (F.told f.old) (F.told f.new) (link_front_steps from entry)) }
+    ensures prefix { MakesPartOf (F.told f.old) (F.told f.new) (λ from. link_front_steps from entry) }
 
     // Until the word of the bucket is written all is as before, and from then on the record is linked and nothing else has changed.
     ensures commits { ForSome (F.told f.old).files (λ from. CanBeLinked entry from → Commits 1 (F.told f.old) (F.told f.new) (λ image. image ≡ from) (IsLinkedInFront from entry)) }
@@ -44,7 +44,6 @@ pub fn link_front<F: Folder>(f: &mut F, files: &BlockFiles, entry: Addr) -> Resu
     ensures untold { IfDamaged result (λ _. (F.told f.old).files ≡ None) }
 
     // A folder that tells no files goes on telling none.
-    ensures silent { (F.told f.old).files ≡ None → (F.told f.new).files ≡ None }
 
     ensures later { F.faults f.old ≤ F.faults f.new }
     ensures device { IfDevice result (Rises (F.faults f.old) (F.faults f.new)) }

@@ -1,7 +1,7 @@
 // Records that are taken out of a chain.
 ghost use Rattle.std.specs.Prelude.{◌≡◌, ◌≤◌, IfSome, IsTrue, None, OnOk, Some};
 ghost use Rattle.std.specs.Option.{ForSome};
-ghost use Rattle.blk_image.specs.Told.{Applies, AppliesPrefix, Rises, Commits, Stays};
+ghost use Rattle.blk_image.specs.Told.{Applies, Commits, MakesPartOf, Rises, Stays};
 ghost use Rattle.blk_format.specs.Address.{blocks_256, kind_of};
 ghost use Rattle.blk_io.specs.Faults.{IfDamaged, IfDevice};
 ghost use Rattle.blk_format.specs.Sealed.{RecordChecks};
@@ -35,12 +35,11 @@ fn unlink_behind<F: Folder>(
     ensures checked { OnOk result (ForSome (F.told f.old).files (RecordChecks before)) }
     ensures is_open { ForSome (F.told f.new).files (IsOpen files.now) }
     ensures steps { OnOk result (ForSome (F.told f.old).files (λ from. Applies (F.told f.old) (F.told f.new) (unlink_steps from entry (Some before)))) }
-    ensures prefix { ForSome (F.told f.old).files (λ from. AppliesPrefix (F.told f.old) (F.told f.new) (unlink_steps from entry (Some before))) }
+    ensures prefix { MakesPartOf (F.told f.old) (F.told f.new) (λ from. unlink_steps from entry (Some before)) }
     ensures commits { ForSome (F.told f.old).files (λ from. CanBeUnlinked entry (Some before) from → Commits (words_to_unlink (Some before)) (F.told f.old) (F.told f.new) (IsStillLinked from entry (Some before)) (IsUnlinked from entry (Some before))) }
     ensures damaged { IfDamaged result (IsUnlinkDamage (F.told f.old) entry (Some before)) }
     ensures unwritten { IfDamaged result (λ _. Stays (F.told f.old) (F.told f.new)) }
     ensures untold { ForSome (F.told f.old).files (RecordChecks before) → IfDamaged result (λ _. (F.told f.old).files ≡ None) }
-    ensures silent { (F.told f.old).files ≡ None → (F.told f.new).files ≡ None }
     ensures later { F.faults f.old ≤ F.faults f.new }
     ensures device { IfDevice result (Rises (F.faults f.old) (F.faults f.new)) }
 {
@@ -56,12 +55,11 @@ fn unlink_first<F: Folder>(f: &mut F, files: &BlockFiles, entry: Addr) -> Result
     ensures unlinked { OnOk result (ForSome (F.told f.old).files (λ from. CanBeUnlinked entry None from → ForSome (F.told f.new).files (IsUnlinked from entry None))) }
     ensures is_open { ForSome (F.told f.new).files (IsOpen files.now) }
     ensures steps { OnOk result (ForSome (F.told f.old).files (λ from. Applies (F.told f.old) (F.told f.new) (unlink_steps from entry None))) }
-    ensures prefix { ForSome (F.told f.old).files (λ from. AppliesPrefix (F.told f.old) (F.told f.new) (unlink_steps from entry None)) }
+    ensures prefix { MakesPartOf (F.told f.old) (F.told f.new) (λ from. unlink_steps from entry None) }
     ensures commits { ForSome (F.told f.old).files (λ from. CanBeUnlinked entry None from → Commits (words_to_unlink None) (F.told f.old) (F.told f.new) (IsStillLinked from entry None) (IsUnlinked from entry None)) }
     ensures damaged { IfDamaged result (IsUnlinkDamage (F.told f.old) entry None) }
     ensures unwritten { IfDamaged result (λ _. Stays (F.told f.old) (F.told f.new)) }
     ensures untold { IfDamaged result (λ _. (F.told f.old).files ≡ None) }
-    ensures silent { (F.told f.old).files ≡ None → (F.told f.new).files ≡ None }
     ensures later { F.faults f.old ≤ F.faults f.new }
     ensures device { IfDevice result (Rises (F.faults f.old) (F.faults f.new)) }
 {
@@ -93,7 +91,7 @@ pub fn unlink<F: Folder>(f: &mut F, files: &BlockFiles, found: &Found) -> Result
     ensures sealed { OnOk result (ForSome (F.told f.old).files (λ from. ForSome (F.told f.new).files (IsSealedAgain from found.now.entry found.now.before))) }
     ensures is_open { ForSome (F.told f.new).files (IsOpen files.now) }
     ensures steps { OnOk result (ForSome (F.told f.old).files (λ from. Applies (F.told f.old) (F.told f.new) (unlink_steps from found.now.entry found.now.before))) }
-    ensures prefix { ForSome (F.told f.old).files (λ from. AppliesPrefix (F.told f.old) (F.told f.new) (unlink_steps from found.now.entry found.now.before)) }
+    ensures prefix { MakesPartOf (F.told f.old) (F.told f.new) (λ from. unlink_steps from found.now.entry found.now.before) }
 
     // Until that one word is written the chains are the old ones, and from then on the record is unlinked; each record checks as before.
     ensures commits { ForSome (F.told f.old).files (λ from. CanBeUnlinked found.now.entry found.now.before from → Commits (words_to_unlink found.now.before) (F.told f.old) (F.told f.new) (IsStillLinked from found.now.entry found.now.before) (IsUnlinked from found.now.entry found.now.before)) }
@@ -104,7 +102,6 @@ pub fn unlink<F: Folder>(f: &mut F, files: &BlockFiles, found: &Found) -> Result
     ensures untold { ForSome (F.told f.old).files (BeforeChecks found.now.before) → IfDamaged result (λ _. (F.told f.old).files ≡ None) }
 
     // A folder that tells no files goes on telling none.
-    ensures silent { (F.told f.old).files ≡ None → (F.told f.new).files ≡ None }
 
     ensures later { F.faults f.old ≤ F.faults f.new }
     ensures device { IfDevice result (Rises (F.faults f.old) (F.faults f.new)) }

@@ -2,7 +2,7 @@
 ghost use Rattle.std.specs.Prelude.{◌≡◌, ◌+◌, ◌*◌, ◌<◌, ◌≤◌, IsTrue, max, None, OnOk, OnErr};
 ghost use Rattle.std.specs.Option.{ForSome};
 ghost use Rattle.blk_image.specs.Image.{HasRange, Block as block};
-ghost use Rattle.blk_image.specs.Told.{Applies, AppliesPrefix, Passes, Rises, Stays};
+ghost use Rattle.blk_image.specs.Told.{Applies, AppliesPrefix, MakesPartOf, Passes, Rises, Stays};
 ghost use Rattle.blk_format.specs.Address.{header_size};
 ghost use Rattle.blk_format.specs.BlockFiles.{is_among, most_blocks, kind_among};
 ghost use Rattle.blk_disk.specs.Tables.{Agrees, Enlarges, all_files, blocks_of, files_of, length_in};
@@ -33,7 +33,7 @@ impl BlockFiles {
         requires below { blocks_of self.old file < most_blocks }
         requires agrees { ForSome (F.told f.old).files (Agrees self.old) }
         ensures steps { OnOk result (ForSome (F.told f.old).files (λ image. Applies (F.told f.old) (F.told f.new) (grow_steps self.old file image))) }
-        ensures prefix { ForSome (F.told f.old).files (λ image. AppliesPrefix (F.told f.old) (F.told f.new) (grow_steps self.old file image)) }
+        ensures prefix { MakesPartOf (F.told f.old) (F.told f.new) (λ image. grow_steps self.old file image) }
         ensures kept { OnOk result (Enlarges self.old self.new file (growth.grown (blocks_of self.old file)) (max (length_in self.old file) (growth.grown_length self.old file))) }
         ensures same { OnErr result (self.new ≡ self.old) }
         ensures agrees { OnOk result (ForSome (F.told f.new).files (Agrees self.new)) }
@@ -42,7 +42,6 @@ impl BlockFiles {
         // well-formed folder is still well formed.
         ensures stops { ForSome (F.told f.old).files (λ from. Passes (F.told f.old) (F.told f.new) (StaysWholeOutside (growth_of file) from)) }
 
-        ensures silent { (F.told f.old).files ≡ None → (F.told f.new).files ≡ None }
         ensures later { F.faults f.old ≤ F.faults f.new }
         ensures failed { OnErr result (Rises (F.faults f.old) (F.faults f.new)) }
     {

@@ -2,7 +2,7 @@
 ghost use Rattle.std.specs.Prelude.{[], ◌≡◌, ◌+◌, ◌%◌, ◌^◌, ◌<◌, ◌≤◌, ◌⊎◌, All, IsTrue, None, OnErr, OnOk, length};
 ghost use Rattle.std.specs.Option.{ForSome};
 ghost use Rattle.blk_image.specs.Steps.{with_words};
-ghost use Rattle.blk_image.specs.Told.{Applies, AppliesPrefix, Passes, Rises, Stays};
+ghost use Rattle.blk_image.specs.Told.{Applies, AppliesPrefix, MakesPartOf, Passes, Rises, Stays};
 ghost use Rattle.blk_format.specs.Address.{file_selector, kind_of, place};
 ghost use Rattle.blk_format.specs.Records as records;
 ghost use Rattle.blk_addr.specs.Kind.{kind_number};
@@ -50,7 +50,7 @@ impl BlockFiles {
         ensures checks { ForSome (F.told f.old).files (RecordChecks addr) → ForSome (F.told f.new).files (RecordChecks addr) }
         ensures agrees { ForSome (F.told f.new).files (Agrees self.now) }
         ensures steps { OnOk result (ForSome (F.told f.old).files (λ from. Applies (F.told f.old) (F.told f.new) (sealed_steps from addr changes.now))) }
-        ensures prefix { ForSome (F.told f.old).files (λ from. AppliesPrefix (F.told f.old) (F.told f.new) (sealed_steps from addr changes.now)) }
+        ensures prefix { MakesPartOf (F.told f.old) (F.told f.new) (λ from. sealed_steps from addr changes.now) }
 
         // At each word of an update of a record that checks, it still checks and has a front of the changes, and nothing else has changed.
         ensures stops { ForSome (F.told f.old).files (λ from. RecordChecks addr from → Passes (F.told f.old) (F.told f.new) (IsMidUpdate from addr changes.now)) }
@@ -61,7 +61,6 @@ impl BlockFiles {
         ensures untold { ForSome (F.told f.old).files (RecordChecks addr) → IfDamaged result (λ _. (F.told f.old).files ≡ None) }
 
         // A folder that tells no files goes on telling none.
-        ensures silent { (F.told f.old).files ≡ None → (F.told f.new).files ≡ None }
 
         ensures later { F.faults f.old ≤ F.faults f.new }
         ensures device { IfDevice result (Rises (F.faults f.old) (F.faults f.new)) }
@@ -148,14 +147,13 @@ impl BlockFiles {
         ensures updated { OnOk result (ForSome (F.told f.old).files (λ from. ForSome (F.told f.new).files (IsUpdated from addr []))) }
         ensures agrees { ForSome (F.told f.new).files (Agrees self.now) }
         ensures steps { OnOk result (ForSome (F.told f.old).files (λ from. Applies (F.told f.old) (F.told f.new) (seal_steps from addr))) }
-        ensures prefix { ForSome (F.told f.old).files (λ from. AppliesPrefix (F.told f.old) (F.told f.new) (seal_steps from addr)) }
+        ensures prefix { MakesPartOf (F.told f.old) (F.told f.new) (λ from. seal_steps from addr) }
 
         // Before and after the word the record checks with its fields, and nothing else has changed.
         ensures stops { ForSome (F.told f.old).files (λ from. RecordChecks addr from → Passes (F.told f.old) (F.told f.new) (IsMidUpdate from addr [])) }
         ensures damaged { IfDamaged result (IsFailedRecord (F.told f.old) addr (record_size addr)) }
         ensures unwritten { IfDamaged result (λ _. Stays (F.told f.old) (F.told f.new)) }
         ensures untold { ForSome (F.told f.old).files (RecordChecks addr) → IfDamaged result (λ _. (F.told f.old).files ≡ None) }
-        ensures silent { (F.told f.old).files ≡ None → (F.told f.new).files ≡ None }
         ensures later { F.faults f.old ≤ F.faults f.new }
         ensures device { IfDevice result (Rises (F.faults f.old) (F.faults f.new)) }
     {

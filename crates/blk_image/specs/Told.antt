@@ -1,5 +1,5 @@
 -- What a folder tells, and what its calls do to that.
-use Rattle.std.specs.Prelude.{◌≡◌, ℕ, zero, suc, ◌-◌, ◌^◌, ◌<◌, min, List, [], ◌∷◌, ◌++◌, length, take, drop, Option}
+use Rattle.std.specs.Prelude.{◌≡◌, ℕ, zero, suc, ◌-◌, ◌^◌, ◌<◌, min, List, [], ◌∷◌, ◌++◌, length, take, drop, Option, None}
 use Rattle.std.specs.Option.{option_map, ForSome}
 use Rattle.blk_image.specs.Bytes.{range_at}
 use Rattle.blk_image.specs.Image.{File, Image, AreBytes, byte, length_of}
@@ -42,6 +42,11 @@ pub record AppliesPrefix (old new : Told) (steps : List TrailStep) : Type 0 wher
   pub left : List TrailStep
   pub split : steps ≡ made ++ left
   pub applies : Applies old new made
+
+-- of files that are told, some of the steps that they ask for were made, from the first on; files that aren't told stay untold
+pub record MakesPartOf (old new : Told) (steps_on : Image → List TrailStep) : Type 0 where
+  pub made : ForSome old.files (λ from. AppliesPrefix old new (steps_on from))
+  pub silent : old.files ≡ None → new.files ≡ None
 
 -- P holds of the files before each step, and Q after the last
 abbrev pub Until : (Image → Type 0) → (Image → Type 0) → Image → List TrailStep → Type 0

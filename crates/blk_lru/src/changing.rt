@@ -1,7 +1,7 @@
 // Changes of the use list, each a transaction.
 ghost use Rattle.std.specs.Prelude.{◌≡◌, ◌≢◌, ◌++◌, ◌∷◌, ◌≤◌, ℕ, List, IfOk, IfSome, IsTrue, None, OnOk, Some, true};
 ghost use Rattle.std.specs.Option.{ForSome};
-ghost use Rattle.blk_image.specs.Told.{Applies, AppliesPrefix, Passes, Rises, Stays};
+ghost use Rattle.blk_image.specs.Told.{Applies, MakesPartOf, Passes, Rises, Stays};
 ghost use Rattle.blk_format.specs.Sealed.{sealed_steps};
 ghost use Rattle.blk_volume.specs.Completion.{insert, move, remove as removal};
 ghost use Rattle.blk_volume.specs.ListPlans.{touch_writes, writes_of};
@@ -45,7 +45,7 @@ pub fn insert_front<F: Folder>(f: &mut F, files: &BlockFiles, node: Addr) -> Res
     ensures inserted { OnOk result (ForSome (F.told f.old).files (λ from. CanBeInserted (list_of from) (walked from) node → ForSome (F.told f.new).files (HasListAtRest (node ∷ walked from)))) }
     ensures sealed { OnOk result (ForSome (F.told f.old).files (λ from. ForSome (F.told f.new).files (Seals from (writes_of insert node (list_of from))))) }
     ensures steps { OnOk result (ForSome (F.told f.old).files (λ from. Applies (F.told f.old) (F.told f.new) (operation_steps insert node from))) }
-    ensures prefix { ForSome (F.told f.old).files (λ from. AppliesPrefix (F.told f.old) (F.told f.new) (operation_steps insert node from)) }
+    ensures prefix { MakesPartOf (F.told f.old) (F.told f.new) (λ from. operation_steps insert node from) }
 
     // At each word completing gives the old list, or from the transaction word on the new one; nothing but the list changes.
     ensures stops { ForSome (F.told f.old).files (λ from. CanBeInserted (list_of from) (walked from) node → Passes (F.told f.old) (F.told f.new) (IsMidOperation files.now (writes_of insert node (list_of from)) (walked from) (node ∷ walked from) from)) }
@@ -55,7 +55,6 @@ pub fn insert_front<F: Folder>(f: &mut F, files: &BlockFiles, node: Addr) -> Res
     // A folder that tells its files gives a damage only where the node can't be inserted.
     ensures damaged { IfDamaged result (IsInsertDamage files.now (F.told f.old) (F.told f.new)) }
     ensures untold { ForSome (F.told f.old).files (λ from. CanBeInserted (list_of from) (walked from) node) → IfDamaged result (λ _. (F.told f.old).files ≡ None) }
-    ensures silent { (F.told f.old).files ≡ None → (F.told f.new).files ≡ None }
 
     ensures later { F.faults f.old ≤ F.faults f.new }
     ensures device { IfDevice result (Rises (F.faults f.old) (F.faults f.new)) }
@@ -81,7 +80,7 @@ pub fn remove<F: Folder>(f: &mut F, files: &BlockFiles, node: Addr) -> Result<()
     ensures removed { OnOk result (ForSome (F.told f.old).files (λ from. (prefix suffix : List ℕ) → HasListAtRest (prefix ++ node ∷ suffix) from → ForSome (F.told f.new).files (HasListAtRest (prefix ++ suffix)))) }
     ensures sealed { OnOk result (ForSome (F.told f.old).files (λ from. ForSome (F.told f.new).files (Seals from (writes_of removal node (list_of from))))) }
     ensures steps { OnOk result (ForSome (F.told f.old).files (λ from. Applies (F.told f.old) (F.told f.new) (operation_steps removal node from))) }
-    ensures prefix { ForSome (F.told f.old).files (λ from. AppliesPrefix (F.told f.old) (F.told f.new) (operation_steps removal node from)) }
+    ensures prefix { MakesPartOf (F.told f.old) (F.told f.new) (λ from. operation_steps removal node from) }
 
     // At each word completing gives the old list, or from the transaction word on the new one; nothing but the list changes.
     ensures stops { ForSome (F.told f.old).files (λ from. (prefix suffix : List ℕ) → HasListAtRest (prefix ++ node ∷ suffix) from → Passes (F.told f.old) (F.told f.new) (IsMidOperation files.now (writes_of removal node (list_of from)) (prefix ++ node ∷ suffix) (prefix ++ suffix) from)) }
@@ -91,7 +90,6 @@ pub fn remove<F: Folder>(f: &mut F, files: &BlockFiles, node: Addr) -> Result<()
     // A folder that tells its files gives a damage only where the node isn't listed.
     ensures damaged { IfDamaged result (IsRemovalDamage node files.now (F.told f.old) (F.told f.new)) }
     ensures untold { ForSome (F.told f.old).files (IsListed node) → IfDamaged result (λ _. (F.told f.old).files ≡ None) }
-    ensures silent { (F.told f.old).files ≡ None → (F.told f.new).files ≡ None }
 
     ensures later { F.faults f.old ≤ F.faults f.new }
     ensures device { IfDevice result (Rises (F.faults f.old) (F.faults f.new)) }
@@ -118,7 +116,7 @@ pub fn touch<F: Folder>(f: &mut F, files: &BlockFiles, node: Addr, moment: u64) 
     ensures times { OnOk result (ForSome (F.told f.old).files (λ _. ForSome (F.told f.new).files (AreTimes node moment))) }
     ensures sealed { OnOk result (ForSome (F.told f.old).files (λ from. ForSome (F.told f.new).files (λ image. Seals from (touch_writes node (list_of from)) image × IsSealed image node))) }
     ensures steps { OnOk result (ForSome (F.told f.old).files (λ from. Applies (F.told f.old) (F.told f.new) (steps_of_touch node moment from))) }
-    ensures prefix { ForSome (F.told f.old).files (λ from. AppliesPrefix (F.told f.old) (F.told f.new) (steps_of_touch node moment from)) }
+    ensures prefix { MakesPartOf (F.told f.old) (F.told f.new) (λ from. steps_of_touch node moment from) }
 
     // At each word completing gives the old list, or from the transaction word on the new one; nothing but the list and the times changes.
     ensures stops { ForSome (F.told f.old).files (λ from. (prefix suffix : List ℕ) → HasListAtRest (prefix ++ node ∷ suffix) from → Passes (F.told f.old) (F.told f.new) (IsMidTouch files.now node (touch_writes node (list_of from)) (prefix ++ node ∷ suffix) (node ∷ prefix ++ suffix) from)) }
@@ -128,7 +126,6 @@ pub fn touch<F: Folder>(f: &mut F, files: &BlockFiles, node: Addr, moment: u64) 
     // A folder that tells its files gives a damage only where the node isn't listed.
     ensures damaged { IfDamaged result (IsTouchDamage node files.now (F.told f.old) (F.told f.new)) }
     ensures untold { ForSome (F.told f.old).files (IsListed node) → IfDamaged result (λ _. (F.told f.old).files ≡ None) }
-    ensures silent { (F.told f.old).files ≡ None → (F.told f.new).files ≡ None }
 
     ensures later { F.faults f.old ≤ F.faults f.new }
     ensures device { IfDevice result (Rises (F.faults f.old) (F.faults f.new)) }
@@ -143,11 +140,10 @@ fn set_times<F: Folder>(f: &mut F, files: &BlockFiles, node: Addr, moment: u64) 
     requires is_open { ForSome (F.told f.old).files (IsOpen files.now) }
     ensures checked { OnOk result (ForSome (F.told f.old).files (λ image. (list_of image).checks node ≡ true)) }
     ensures steps { OnOk result (ForSome (F.told f.old).files (λ from. Applies (F.told f.old) (F.told f.new) (sealed_steps from node (times_of moment)))) }
-    ensures prefix { ForSome (F.told f.old).files (λ from. AppliesPrefix (F.told f.old) (F.told f.new) (sealed_steps from node (times_of moment))) }
+    ensures prefix { MakesPartOf (F.told f.old) (F.told f.new) (λ from. sealed_steps from node (times_of moment)) }
     ensures is_open { ForSome (F.told f.new).files (IsOpen files.now) }
     ensures damaged { IfDamaged result (IsWrongNode files.now (F.told f.new)) }
     ensures untold { ForSome (F.told f.old).files (λ image. (list_of image).checks node ≡ true) → IfDamaged result (λ _. (F.told f.old).files ≡ None) }
-    ensures silent { (F.told f.old).files ≡ None → (F.told f.new).files ≡ None }
     ensures later { F.faults f.old ≤ F.faults f.new }
     ensures device { IfDevice result (Rises (F.faults f.old) (F.faults f.new)) }
 {
@@ -169,11 +165,10 @@ fn move_front<F: Folder>(f: &mut F, files: &BlockFiles, node: Addr) -> Result<()
     ensures checked { OnOk result (ForSome (F.told f.old).files (λ from. CanBeMade from (touch_writes node (list_of from)))) }
     ensures linked { OnOk result (ForSome (F.told f.old).files (λ from. (list_of from).head ≢ node → HasGoodLinks (list_of from) node)) }
     ensures steps { OnOk result (ForSome (F.told f.old).files (λ from. Applies (F.told f.old) (F.told f.new) (steps_of_writes (touch_writes node (list_of from)) from))) }
-    ensures prefix { ForSome (F.told f.old).files (λ from. AppliesPrefix (F.told f.old) (F.told f.new) (steps_of_writes (touch_writes node (list_of from)) from)) }
+    ensures prefix { MakesPartOf (F.told f.old) (F.told f.new) (λ from. steps_of_writes (touch_writes node (list_of from)) from) }
     ensures is_open { ForSome (F.told f.new).files (IsOpen files.now) }
     ensures damaged { IfDamaged result (IsTouchDamage node files.now (F.told f.old) (F.told f.new)) }
     ensures untold { ForSome (F.told f.old).files (IsListed node) → IfDamaged result (λ _. (F.told f.old).files ≡ None) }
-    ensures silent { (F.told f.old).files ≡ None → (F.told f.new).files ≡ None }
     ensures later { F.faults f.old ≤ F.faults f.new }
     ensures device { IfDevice result (Rises (F.faults f.old) (F.faults f.new)) }
 {
@@ -198,11 +193,10 @@ fn move_behind<F: Folder>(
     ensures checked { OnOk result (ForSome (F.told f.old).files (λ from. CanBeMade from (writes_of move node (list_of from)))) }
     ensures linked { OnOk result (ForSome (F.told f.old).files (λ from. HasGoodLinks (list_of from) node)) }
     ensures steps { OnOk result (ForSome (F.told f.old).files (λ from. Applies (F.told f.old) (F.told f.new) (operation_steps move node from))) }
-    ensures prefix { ForSome (F.told f.old).files (λ from. AppliesPrefix (F.told f.old) (F.told f.new) (operation_steps move node from)) }
+    ensures prefix { MakesPartOf (F.told f.old) (F.told f.new) (λ from. operation_steps move node from) }
     ensures is_open { ForSome (F.told f.new).files (IsOpen files.now) }
     ensures damaged { IfDamaged result (IsRemovalDamage node files.now (F.told f.old) (F.told f.new)) }
     ensures untold { ForSome (F.told f.old).files (IsListed node) → IfDamaged result (λ _. (F.told f.old).files ≡ None) }
-    ensures silent { (F.told f.old).files ≡ None → (F.told f.new).files ≡ None }
     ensures later { F.faults f.old ≤ F.faults f.new }
     ensures device { IfDevice result (Rises (F.faults f.old) (F.faults f.new)) }
 {

@@ -1,7 +1,7 @@
 // The operation in flight, completed.
 ghost use Rattle.std.specs.Prelude.{◌≡◌, ◌≤◌, None, IfOk, IfSome, OnOk, map, true};
 ghost use Rattle.std.specs.Option.{ForSome};
-ghost use Rattle.blk_image.specs.Told.{Applies, AppliesPrefix, Passes, Rises, Stays};
+ghost use Rattle.blk_image.specs.Told.{Applies, MakesPartOf, Passes, Rises, Stays};
 ghost use Rattle.blk_volume.specs.ListPlans.{completion_writes};
 ghost use Rattle.blk_volume.specs.View.{list_of};
 ghost use Rattle.blk_volume.specs.ListSteps.{AreOf, AllWriteWords, Seals};
@@ -52,7 +52,7 @@ pub fn complete<F: Folder>(f: &mut F, files: &BlockFiles) -> Result<(), Fault>
     ensures sealed { OnOk result (ForSome (F.told f.old).files (λ from. ForSome (F.told f.new).files (Seals from (completion_writes (list_of from))))) }
     ensures done { OnOk result (ForSome (F.told f.old).files (λ from. ForSome (F.told f.new).files (IsCompleted from))) }
     ensures steps { OnOk result (ForSome (F.told f.old).files (λ from. Applies (F.told f.old) (F.told f.new) (completion_steps from))) }
-    ensures prefix { ForSome (F.told f.old).files (λ from. AppliesPrefix (F.told f.old) (F.told f.new) (completion_steps from)) }
+    ensures prefix { MakesPartOf (F.told f.old) (F.told f.new) (λ from. completion_steps from) }
 
     // At each word completing gives what it gave at the entry, so it may be stopped and begun again; nothing but the list changes.
     ensures stops { ForSome (F.told f.old).files (λ from. Passes (F.told f.old) (F.told f.new) (IsMidCompletion files.now from)) }
@@ -62,7 +62,6 @@ pub fn complete<F: Folder>(f: &mut F, files: &BlockFiles) -> Result<(), Fault>
     // A folder that tells its files never gives a damage.
     ensures damaged { IfDamaged result (IsCompletingDamage files.now (F.told f.new)) }
     ensures untold { IfDamaged result (λ _. (F.told f.old).files ≡ None) }
-    ensures silent { (F.told f.old).files ≡ None → (F.told f.new).files ≡ None }
 
     ensures later { F.faults f.old ≤ F.faults f.new }
     ensures device { IfDevice result (Rises (F.faults f.old) (F.faults f.new)) }

@@ -3,7 +3,7 @@ ghost use Rattle.std.specs.Prelude.{◌≡◌, ◌<◌, ◌≤◌, ◌^◌, ◌%
 ghost use Rattle.std.specs.Option.{ForSome};
 ghost use Rattle.blk_image.specs.Image.{Index as index};
 ghost use Rattle.blk_image.specs.Steps.{word_step};
-ghost use Rattle.blk_image.specs.Told.{Applies, AppliesPrefix, Rises};
+ghost use Rattle.blk_image.specs.Told.{Applies, AppliesPrefix, MakesPartOf, Rises};
 ghost use Rattle.blk_format.specs.Headers.{header_length, HasWholeIndex};
 ghost use Rattle.blk_format.specs.Sealed.{sealed_steps};
 ghost use Rattle.blk_volume.specs.View.{list_of};
@@ -56,11 +56,10 @@ pub(crate) fn perform<F: Folder>(
     requires is_open { ForSome (F.told f.old).files (IsOpen files.now) }
     ensures checked { OnOk result (ForSome (F.told f.old).files (λ image. CanBeMade image (map meant writes.now))) }
     ensures steps { OnOk result (ForSome (F.told f.old).files (λ from. Applies (F.told f.old) (F.told f.new) (steps_of_writes (map meant writes.now) from))) }
-    ensures prefix { ForSome (F.told f.old).files (λ from. AppliesPrefix (F.told f.old) (F.told f.new) (steps_of_writes (map meant writes.now) from)) }
+    ensures prefix { MakesPartOf (F.told f.old) (F.told f.new) (λ from. steps_of_writes (map meant writes.now) from) }
     ensures is_open { ForSome (F.told f.new).files (IsOpen files.now) }
     ensures damaged { IfDamaged result (IsWrongNode files.now (F.told f.new)) }
     ensures untold { ForSome (F.told f.old).files (λ image. CanBeMade image (map meant writes.now)) → IfDamaged result (λ _. (F.told f.old).files ≡ None) }
-    ensures silent { (F.told f.old).files ≡ None → (F.told f.new).files ≡ None }
     ensures later { F.faults f.old ≤ F.faults f.new }
     ensures device { IfDevice result (Rises (F.faults f.old) (F.faults f.new)) }
 {
@@ -77,10 +76,9 @@ fn write_one<F: Folder>(f: &mut F, files: &BlockFiles, write: Write) -> Result<(
     requires is_open { ForSome (F.told f.old).files (IsOpen files.now) }
     ensures checked { OnOk result (ForSome (F.told f.old).files (λ image. AreOf (λ n. (list_of image).checks n ≡ true) (meant write ∷ []))) }
     ensures steps { OnOk result (ForSome (F.told f.old).files (λ from. Applies (F.told f.old) (F.told f.new) (write_steps (meant write) from))) }
-    ensures prefix { ForSome (F.told f.old).files (λ from. AppliesPrefix (F.told f.old) (F.told f.new) (write_steps (meant write) from)) }
+    ensures prefix { MakesPartOf (F.told f.old) (F.told f.new) (λ from. write_steps (meant write) from) }
     ensures damaged { IfDamaged result (IsWrongNode files.now (F.told f.new)) }
     ensures untold { ForSome (F.told f.old).files (λ image. AreOf (λ n. (list_of image).checks n ≡ true) (meant write ∷ [])) → IfDamaged result (λ _. (F.told f.old).files ≡ None) }
-    ensures silent { (F.told f.old).files ≡ None → (F.told f.new).files ≡ None }
     ensures later { F.faults f.old ≤ F.faults f.new }
     ensures device { IfDevice result (Rises (F.faults f.old) (F.faults f.new)) }
 {
@@ -107,10 +105,9 @@ fn set_link<F: Folder>(
     requires agrees { ForSome (F.told f.old).files (Agrees files.now) }
     ensures checked { OnOk result (ForSome (F.told f.old).files (λ image. (list_of image).checks node ≡ true)) }
     ensures steps { OnOk result (ForSome (F.told f.old).files (λ from. Applies (F.told f.old) (F.told f.new) (sealed_steps from node ((at, word) ∷ [])))) }
-    ensures prefix { ForSome (F.told f.old).files (λ from. AppliesPrefix (F.told f.old) (F.told f.new) (sealed_steps from node ((at, word) ∷ []))) }
+    ensures prefix { MakesPartOf (F.told f.old) (F.told f.new) (λ from. sealed_steps from node ((at, word) ∷ [])) }
     ensures damaged { IfDamaged result (IsWrongNode files.now (F.told f.new)) }
     ensures untold { ForSome (F.told f.old).files (λ image. (list_of image).checks node ≡ true) → IfDamaged result (λ _. (F.told f.old).files ≡ None) }
-    ensures silent { (F.told f.old).files ≡ None → (F.told f.new).files ≡ None }
     ensures later { F.faults f.old ≤ F.faults f.new }
     ensures device { IfDevice result (Rises (F.faults f.old) (F.faults f.new)) }
 {

@@ -2,7 +2,7 @@
 ghost use Rattle.std.specs.Prelude.{◌≡◌, ◌+◌, ◌≤◌, None, OnOk, All, true};
 ghost use Rattle.std.specs.Option.{ForSome};
 ghost use Rattle.blk_image.specs.Image.{Image};
-ghost use Rattle.blk_image.specs.Told.{Along, Applies, AppliesPrefix, Passes, Rises};
+ghost use Rattle.blk_image.specs.Told.{Along, Applies, MakesPartOf, Passes, Rises};
 ghost use Rattle.blk_volume.specs.ListView.{first_or};
 ghost use Rattle.blk_io.specs.Faults.{IfDamaged, IfDevice};
 ghost use Rattle.blk_disk.specs.Tables.{is_record_among};
@@ -31,7 +31,7 @@ pub fn mend_chain<F: Folder>(
     requires stand { All (λ w. is_record_among files.now w ≡ true) records.now }
     requires is_open { ForSome (F.told f.old).files (IsOpen files.now) }
     ensures steps { OnOk result (ForSome (F.told f.old).files (λ from. Applies (F.told f.old) (F.told f.new) (chain_steps bucket records.now from))) }
-    ensures prefix { ForSome (F.told f.old).files (λ from. AppliesPrefix (F.told f.old) (F.told f.new) (chain_steps bucket records.now from)) }
+    ensures prefix { MakesPartOf (F.told f.old) (F.told f.new) (λ from. chain_steps bucket records.now from) }
 
     // Where the chains before this one are mended, this one is then too, and the same is kept and found at each word.
     ensures mended { OnOk result (ForSome (F.told f.old).files (λ from. (entry : Image) → IsNextChain entry bucket records.now from → ForSome (F.told f.new).files (HasChainsUpTo entry (bucket + 1)))) }
@@ -42,7 +42,6 @@ pub fn mend_chain<F: Folder>(
     // A folder that tells its files gives a damage only where the records aren't those that are kept.
     ensures damaged { IfDamaged result (IsChainDamage bucket files.now (F.told f.new)) }
     ensures untold { ForSome (F.told f.old).files (λ from. (entry : Image) × IsNextChain entry bucket records.now from) → IfDamaged result (λ _. (F.told f.old).files ≡ None) }
-    ensures silent { (F.told f.old).files ≡ None → (F.told f.new).files ≡ None }
 
     ensures later { F.faults f.old ≤ F.faults f.new }
     ensures device { IfDevice result (Rises (F.faults f.old) (F.faults f.new)) }
@@ -56,12 +55,11 @@ fn link<F: Folder>(f: &mut F, files: &BlockFiles, records: &[Addr]) -> Result<()
     requires stand { All (λ w. is_record_among files.now w ≡ true) records.now }
     requires is_open { ForSome (F.told f.old).files (IsOpen files.now) }
     ensures steps { OnOk result (ForSome (F.told f.old).files (λ from. Applies (F.told f.old) (F.told f.new) (next_words_steps records.now from))) }
-    ensures prefix { ForSome (F.told f.old).files (λ from. AppliesPrefix (F.told f.old) (F.told f.new) (next_words_steps records.now from)) }
+    ensures prefix { MakesPartOf (F.told f.old) (F.told f.new) (λ from. next_words_steps records.now from) }
     ensures damaged { IfDamaged result (IsWrongRecord files.now (F.told f.new)) }
 
     // A folder that tells its files gives a damage only where not all of them check at each word.
     ensures untold { ForSome (F.told f.old).files (λ from. Along (AllCheck records.now) from (next_words_steps records.now from)) → IfDamaged result (λ _. (F.told f.old).files ≡ None) }
-    ensures silent { (F.told f.old).files ≡ None → (F.told f.new).files ≡ None }
     ensures later { F.faults f.old ≤ F.faults f.new }
     ensures device { IfDevice result (Rises (F.faults f.old) (F.faults f.new)) }
 {

@@ -1,7 +1,7 @@
 // The words by which chains are linked: those of the table, and the nexts of records. One is written only where it differs.
 ghost use Rattle.std.specs.Prelude.{◌≡◌, ◌+◌, ◌≤◌, ◌⊎◌, None, OnOk, true};
 ghost use Rattle.std.specs.Option.{ForSome};
-ghost use Rattle.blk_image.specs.Told.{Applies, AppliesPrefix, Rises};
+ghost use Rattle.blk_image.specs.Told.{Applies, MakesPartOf, Rises};
 ghost use Rattle.blk_format.specs.Headers.{HasWholeIndex, place_of_bucket};
 ghost use Rattle.blk_format.specs.Sealed.{RecordChecks};
 ghost use Rattle.blk_volume.specs.View.{store_of};
@@ -34,10 +34,9 @@ pub(crate) fn first_word(records: &[Addr]) -> u32
 pub(crate) fn set_front<F: Folder>(f: &mut F, number: u16, word: u32) -> Result<(), Fault>
     requires complete { ForSome (F.told f.old).files HasWholeIndex }
     ensures steps { OnOk result (ForSome (F.told f.old).files (λ from. Applies (F.told f.old) (F.told f.new) (bucket_steps number word from))) }
-    ensures prefix { ForSome (F.told f.old).files (λ from. AppliesPrefix (F.told f.old) (F.told f.new) (bucket_steps number word from)) }
+    ensures prefix { MakesPartOf (F.told f.old) (F.told f.new) (λ from. bucket_steps number word from) }
     ensures damaged { IfDamaged result (IsShort (F.told f.new) FileId.Index (place_of_bucket number) 4) }
     ensures untold { IfDamaged result (λ _. (F.told f.old).files ≡ None) }
-    ensures silent { (F.told f.old).files ≡ None → (F.told f.new).files ≡ None }
     ensures later { F.faults f.old ≤ F.faults f.new }
     ensures device { IfDevice result (Rises (F.faults f.old) (F.faults f.new)) }
 {
@@ -60,10 +59,9 @@ pub(crate) fn set_next<F: Folder>(
     requires is_open { ForSome (F.told f.old).files (IsOpen files.now) }
     ensures checked { OnOk result (ForSome (F.told f.old).files (λ image. ((store_of image).chain_next entry ≡ word) ⊎ RecordChecks entry image)) }
     ensures steps { OnOk result (ForSome (F.told f.old).files (λ from. Applies (F.told f.old) (F.told f.new) (next_steps entry word from))) }
-    ensures prefix { ForSome (F.told f.old).files (λ from. AppliesPrefix (F.told f.old) (F.told f.new) (next_steps entry word from)) }
+    ensures prefix { MakesPartOf (F.told f.old) (F.told f.new) (λ from. next_steps entry word from) }
     ensures damaged { IfDamaged result (IsWrongRecord files.now (F.told f.new)) }
     ensures untold { ForSome (F.told f.old).files (RecordChecks entry) → IfDamaged result (λ _. (F.told f.old).files ≡ None) }
-    ensures silent { (F.told f.old).files ≡ None → (F.told f.new).files ≡ None }
     ensures later { F.faults f.old ≤ F.faults f.new }
     ensures device { IfDevice result (Rises (F.faults f.old) (F.faults f.new)) }
 {

@@ -2,7 +2,7 @@
 ghost use Rattle.std.specs.Prelude.{◌≡◌, ◌+◌, ◌≤◌, ◌<◌, None, OnOk, length, unwrap_or};
 ghost use Rattle.std.specs.Option.{ForSome};
 ghost use Rattle.blk_image.specs.Footprint.{SameOutside};
-ghost use Rattle.blk_image.specs.Told.{Applies, AppliesPrefix, Passes, Rises};
+ghost use Rattle.blk_image.specs.Told.{Applies, MakesPartOf, Passes, Rises};
 ghost use Rattle.blk_io.specs.Faults.{IfDamaged, IfDevice};
 ghost use Rattle.blk_disk.specs.Tables.{Agrees};
 ghost use Rattle.blk_entry.specs.Keys.{IsCut, IsInFile, IsInside, data_at};
@@ -64,9 +64,8 @@ fn copy_piece<F: Folder>(
     requires agrees { ForSome (F.told f.old).files (Agrees files.now) }
     requires to_there { ForSome (F.told f.old).files (IsInFile to at (length piece.old)) }
     ensures steps { OnOk result (ForSome (F.told f.old).files (λ old. Applies (F.told f.old) (F.told f.new) (data_steps to at (data_at old from at (length piece.old))))) }
-    ensures prefix { ForSome (F.told f.old).files (λ old. AppliesPrefix (F.told f.old) (F.told f.new) (data_steps to at (data_at old from at (length piece.old)))) }
+    ensures prefix { MakesPartOf (F.told f.old) (F.told f.new) (λ old. data_steps to at (data_at old from at (length piece.old))) }
     ensures agrees { ForSome (F.told f.new).files (Agrees files.now) }
-    ensures silent { (F.told f.old).files ≡ None → (F.told f.new).files ≡ None }
     ensures damaged { IfDamaged result (IsCut (F.told f.old) from at (length piece.old)) }
     ensures untold { ForSome (F.told f.old).files (IsInFile from at (length piece.old)) → IfDamaged result (λ _. (F.told f.old).files ≡ None) }
     ensures later { F.faults f.old ≤ F.faults f.new }

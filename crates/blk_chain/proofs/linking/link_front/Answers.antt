@@ -1,4 +1,4 @@
-use Rattle.std.proofs.Common.{sym, subst, None, ◌≡◌}
+use Rattle.std.proofs.Common.{sym, subst, None, ◌≡◌, rules}
 use Rattle.blk_io.proofs.Carried.{carried}
 use Rattle.std.specs.Option.{ForSome}
 use Rattle.blk_image.specs.Told.{Told}
@@ -28,7 +28,10 @@ left_done g c =
     (λ image there. (c.requires.is_open image there).agrees) (λ image there. (c.requires.is_open image there).whole_index) c.in_ok-hash.ensures.value (g.F.Folder.told c.field.new.f) c.in_ok-hash.ensures.stays (part_whole c.in_ok-set_bucket.ensures.steps)
 
 pub returns-in_err-set_bucket-clause-prefix : goal.returns-in_err-set_bucket-clause-prefix
-returns-in_err-set_bucket-clause-prefix g c = (left_failed g c).part
+returns-in_err-set_bucket-clause-prefix g c = record {
+  made = (left_failed g c).part;
+  silent = search rules;
+}
 
 pub returns-in_err-set_bucket-clause-commits : goal.returns-in_err-set_bucket-clause-commits
 returns-in_err-set_bucket-clause-commits g c = (left_failed g c).commits
@@ -47,7 +50,10 @@ returns-clause-linked g c =
     (λ image there. (c.requires.is_open image there).agrees) (λ image there. (c.requires.is_open image there).whole_index) c.in_ok-hash.ensures.value (g.F.Folder.told c.field.new.f) c.in_ok-hash.ensures.stays c.in_ok-set_bucket.ensures.steps
 
 pub returns-clause-prefix : goal.returns-clause-prefix
-returns-clause-prefix g c = (left_done g c).part
+returns-clause-prefix g c = record {
+  made = (left_done g c).part;
+  silent = search rules;
+}
 
 pub returns-clause-commits : goal.returns-clause-commits
 returns-clause-commits g c = (left_done g c).commits

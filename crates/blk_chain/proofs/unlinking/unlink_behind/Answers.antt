@@ -38,11 +38,14 @@ returns-clause-steps g c =
     on_ok_weaker c.update_sealed.result (λ whole. said g c (λ (t : Told) (from : Image) (n : ℕ). Applies t (g.F.Folder.told c.update_sealed.new.f) (sealed_steps from c.args.before (with_next n))) whole) c.update_sealed.ensures.steps
 
 pub returns-clause-prefix : goal.returns-clause-prefix
-returns-clause-prefix g c = said g c (λ (t : Told) (from : Image) (n : ℕ). AppliesPrefix t (g.F.Folder.told c.update_sealed.new.f) (sealed_steps from c.args.before (with_next n))) c.update_sealed.ensures.prefix
+returns-clause-prefix g c = record {
+  made = said g c (λ (t : Told) (from : Image) (n : ℕ). AppliesPrefix t (g.F.Folder.told c.update_sealed.new.f) (sealed_steps from c.args.before (with_next n))) c.update_sealed.ensures.prefix.made;
+  silent = λ none. c.update_sealed.ensures.prefix.silent (subst (λ (t : Told). t.files ≡ None) (sym c.in_ok-next.ensures.stays) none);
+}
 
 pub returns-clause-commits : goal.returns-clause-commits
 returns-clause-commits g c =
-    turns_then (g.F.Folder.told c.args.f.now) (g.F.Folder.told c.update_sealed.new.f) (g.met.F.Folder.are_bytes c.args.f.now) c.args.entry c.args.before c.args.files.now (λ image there. (c.requires.is_open image there).agrees) c.requires.stands_before (returns-clause-prefix g c)
+    turns_then (g.F.Folder.told c.args.f.now) (g.F.Folder.told c.update_sealed.new.f) (g.met.F.Folder.are_bytes c.args.f.now) c.args.entry c.args.before c.args.files.now (λ image there. (c.requires.is_open image there).agrees) c.requires.stands_before (returns-clause-prefix g c).made
 
 pub returns-clause-sealed : goal.returns-clause-sealed
 returns-clause-sealed g c =
@@ -57,13 +60,10 @@ returns-clause-unlinked g c =
     (λ updated. unlinked_then (g.F.Folder.told c.args.f.now) (g.F.Folder.told c.update_sealed.new.f) (g.met.F.Folder.are_bytes c.args.f.now) c.args.entry c.args.before (moments g c)
     (said g c (λ (t : Told) (from : Image) (n : ℕ). ForSome (g.F.Folder.told c.update_sealed.new.f).files (IsUpdated from c.args.before (with_next n))) updated)) c.update_sealed.ensures.updated
 
-pub returns-clause-silent : goal.returns-clause-silent
-returns-clause-silent g c none = c.update_sealed.ensures.silent (subst (λ (t : Told). t.files ≡ None) (sym c.in_ok-next.ensures.stays) none)
-
 whole_index_at_end : (g : given.Over) (c : goal.After-update_sealed g) → ForSome (g.F.Folder.told c.update_sealed.new.f).files HasWholeIndex
 whole_index_at_end g c =
-    told_at_end (g.F.Folder.told c.args.f.now).files (g.F.Folder.told c.update_sealed.new.f).files (λ image. length_of image Index ≡ index_length) (returns-clause-silent g c)
-    (still_complete (g.F.Folder.told c.args.f.now) (g.F.Folder.told c.update_sealed.new.f) (g.met.F.Folder.are_bytes c.args.f.now) c.args.entry c.args.before (λ image there. (c.requires.is_open image there).whole_index) (returns-clause-prefix g c))
+    told_at_end (g.F.Folder.told c.args.f.now).files (g.F.Folder.told c.update_sealed.new.f).files (λ image. length_of image Index ≡ index_length) (returns-clause-prefix g c).silent
+    (still_complete (g.F.Folder.told c.args.f.now) (g.F.Folder.told c.update_sealed.new.f) (g.met.F.Folder.are_bytes c.args.f.now) c.args.entry c.args.before (λ image there. (c.requires.is_open image there).whole_index) (returns-clause-prefix g c).made)
 
 pub returns-clause-is_open : goal.returns-clause-is_open
 returns-clause-is_open g c image here = record { agrees = c.update_sealed.ensures.agrees image here; whole_index = whole_index_at_end g c image here }

@@ -1,4 +1,4 @@
-use Rattle.std.proofs.Common.{◌≡◌, None, sym, ◌∙◌, subst}
+use Rattle.std.proofs.Common.{◌≡◌, None, sym, ◌∙◌, subst, rules}
 use Rattle.std.specs.Option.{ForSome}
 use Rattle.blk_image.specs.Told.{Told}
 use Rattle.blk_image.proofs.Runs.{part_whole}
@@ -35,7 +35,10 @@ left_done g c =
     c.in_ok-next.ensures.value (g.F.Folder.told c.field.new.f) c.in_ok-next.ensures.stays c.in_ok-hash.ensures.value (g.F.Folder.told c.field-2.new.f) c.in_ok-hash.ensures.stays (part_whole c.in_ok-set_bucket.ensures.steps)
 
 pub returns-in_err-set_bucket-clause-prefix : goal.returns-in_err-set_bucket-clause-prefix
-returns-in_err-set_bucket-clause-prefix g c = (left_failed g c).part
+returns-in_err-set_bucket-clause-prefix g c = record {
+  made = (left_failed g c).part;
+  silent = search rules;
+}
 
 pub returns-in_err-set_bucket-clause-commits : goal.returns-in_err-set_bucket-clause-commits
 returns-in_err-set_bucket-clause-commits g c = (left_failed g c).commits
@@ -54,7 +57,10 @@ returns-clause-unlinked g c =
     c.in_ok-next.ensures.value (g.F.Folder.told c.field.new.f) c.in_ok-next.ensures.stays c.in_ok-hash.ensures.value (g.F.Folder.told c.field-2.new.f) c.in_ok-hash.ensures.stays c.in_ok-set_bucket.ensures.steps
 
 pub returns-clause-prefix : goal.returns-clause-prefix
-returns-clause-prefix g c = (left_done g c).part
+returns-clause-prefix g c = record {
+  made = (left_done g c).part;
+  silent = search rules;
+}
 
 pub returns-clause-commits : goal.returns-clause-commits
 returns-clause-commits g c = (left_done g c).commits

@@ -29,10 +29,10 @@ returns-clause-sets g c = record {
   checks = c.update_sealed.ensures.checks;
   agrees = c.update_sealed.ensures.agrees;
   steps = c.update_sealed.ensures.steps;
-  prefix = c.update_sealed.ensures.prefix;
+  prefix = c.update_sealed.ensures.prefix.made;
   stops = λ from there good. passes_weaker (c.update_sealed.ensures.stops from there good) (moment_of g c from there good) (moment_of g c from there good);
   damaged = c.update_sealed.ensures.damaged;
   unwritten = c.update_sealed.ensures.unwritten;
   untold = c.update_sealed.ensures.untold;
-  silent = c.update_sealed.ensures.silent;
+  silent = c.update_sealed.ensures.prefix.silent;
 }

@@ -1,4 +1,4 @@
-use Rattle.std.proofs.Common.{◌≡◌, List, ◌∷◌, None, map, sym, ap, ◌∙◌, subst, true}
+use Rattle.std.proofs.Common.{◌≡◌, List, ◌∷◌, None, map, sym, ap, ◌∙◌, subst, true, rules}
 use Rattle.std.specs.Prelude.{OnOk}
 use Rattle.std.specs.Option.{ForSome}
 use Rattle.std.proofs.lemmas.Result.{on_ok_weaker}
@@ -65,7 +65,10 @@ pub returns-clause-steps : goal.returns-clause-steps
 returns-clause-steps g c = whole_as (g.F.Folder.told c.args.f.now) (g.F.Folder.told c.first.new.f) (g.F.Folder.told c.perform.new.f) c.in_ok-head.ensures.stays (map meant c.deref.result.now) (λ from. writes_of 1 c.args.node (list_of from)) (plan_is g c.before) c.perform.result c.perform.ensures.steps
 
 pub returns-clause-prefix : goal.returns-clause-prefix
-returns-clause-prefix g c = part_as (g.F.Folder.told c.args.f.now) (g.F.Folder.told c.first.new.f) (g.F.Folder.told c.perform.new.f) c.in_ok-head.ensures.stays (map meant c.deref.result.now) (λ from. writes_of 1 c.args.node (list_of from)) (plan_is g c.before) c.perform.ensures.prefix
+returns-clause-prefix g c = record {
+  made = part_as (g.F.Folder.told c.args.f.now) (g.F.Folder.told c.first.new.f) (g.F.Folder.told c.perform.new.f) c.in_ok-head.ensures.stays (map meant c.deref.result.now) (λ from. writes_of 1 c.args.node (list_of from)) (plan_is g c.before) c.perform.ensures.prefix.made;
+  silent = search rules;
+}
 
 checked_here : (g : given.Over) (c : goal.After-perform g) → OnOk c.perform.result (ForSome (g.F.Folder.told c.args.f.now).files (λ from. CanBeMade from (writes_of 1 c.args.node (list_of from))))
 checked_here g c = checked_as (g.F.Folder.told c.args.f.now) (g.F.Folder.told c.first.new.f) (g.F.Folder.told c.perform.new.f) c.in_ok-head.ensures.stays (map meant c.deref.result.now) (λ from. writes_of 1 c.args.node (list_of from)) (plan_is g c.before) c.perform.result c.perform.ensures.checked
@@ -99,5 +102,5 @@ pub returns-clause-stops : goal.returns-clause-stops
 returns-clause-stops g c from there can =
     let ws : List ListWrite = writes_of 1 c.args.node (list_of from) in
     let ready = ready_here g c from there in
-    part_passes (g.F.Folder.told c.args.f.now) (g.F.Folder.told c.perform.new.f) from there (steps_of_writes ws from) (quiet-writes ws from) (returns-clause-prefix g c from there) (IsMidOperation c.args.files.now ws (walked from) (c.args.node ∷ walked from) from)
+    part_passes (g.F.Folder.told c.args.f.now) (g.F.Folder.told c.perform.new.f) from there (steps_of_writes ws from) (quiet-writes ws from) ((returns-clause-prefix g c).made from there) (IsMidOperation c.args.files.now ws (walked from) (c.args.node ∷ walked from) from)
     (along_operation c.args.files.now from ready.kept ws (walked from) (c.args.node ∷ walked from) (inserts-turn c.args.node (list_of from) (walked from) can) (steps_of_writes ws from) (writes-in_turn from ws (ready_writable ready) (inserts-can from c.args.node (walked from) can)))

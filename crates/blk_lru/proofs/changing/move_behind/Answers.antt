@@ -1,4 +1,4 @@
-use Rattle.std.proofs.Common.{◌≡◌, Some, map, sym, ap, ◌∙◌, subst, true}
+use Rattle.std.proofs.Common.{◌≡◌, Some, map, sym, ap, ◌∙◌, subst, true, rules}
 use Rattle.std.specs.Prelude.{OnOk}
 use Rattle.std.specs.Option.{ForSome}
 use Rattle.std.proofs.lemmas.Result.{on_ok_weaker}
@@ -46,7 +46,10 @@ pub returns-clause-steps : goal.returns-clause-steps
 returns-clause-steps g c = whole_as (g.F.Folder.told c.args.f.now) (g.F.Folder.told c.neighbours.new.f) (g.F.Folder.told c.perform.new.f) c.in_ok-neighbours.ensures.stays (map meant c.deref.result.now) (λ from. writes_of 3 c.args.node (list_of from)) (plan_is g c.before) c.perform.result c.perform.ensures.steps
 
 pub returns-clause-prefix : goal.returns-clause-prefix
-returns-clause-prefix g c = part_as (g.F.Folder.told c.args.f.now) (g.F.Folder.told c.neighbours.new.f) (g.F.Folder.told c.perform.new.f) c.in_ok-neighbours.ensures.stays (map meant c.deref.result.now) (λ from. writes_of 3 c.args.node (list_of from)) (plan_is g c.before) c.perform.ensures.prefix
+returns-clause-prefix g c = record {
+  made = part_as (g.F.Folder.told c.args.f.now) (g.F.Folder.told c.neighbours.new.f) (g.F.Folder.told c.perform.new.f) c.in_ok-neighbours.ensures.stays (map meant c.deref.result.now) (λ from. writes_of 3 c.args.node (list_of from)) (plan_is g c.before) c.perform.ensures.prefix.made;
+  silent = search rules;
+}
 
 checked_here : (g : given.Over) (c : goal.After-perform g) → OnOk c.perform.result (ForSome (g.F.Folder.told c.args.f.now).files (λ from. CanBeMade from (writes_of 3 c.args.node (list_of from))))
 checked_here g c = checked_as (g.F.Folder.told c.args.f.now) (g.F.Folder.told c.neighbours.new.f) (g.F.Folder.told c.perform.new.f) c.in_ok-neighbours.ensures.stays (map meant c.deref.result.now) (λ from. writes_of 3 c.args.node (list_of from)) (plan_is g c.before) c.perform.result c.perform.ensures.checked

@@ -1,4 +1,4 @@
-use Rattle.std.proofs.Common.{◌≡◌, ◌∙◌, ℕ, List, [], Option, None, Some, true, false, nat_eq, ap, sym, subst, refl}
+use Rattle.std.proofs.Common.{◌≡◌, ◌∙◌, ℕ, List, [], Option, None, Some, true, false, nat_eq, ap, sym, subst, refl, rules}
 use Rattle.std.specs.Prelude.{◌==◌}
 use Rattle.std.specs.Option.{option_eq, ForSome}
 use Rattle.std.proofs.lemmas.Bool.{eq-eqb, eqb-true, ne_eqb}
@@ -71,9 +71,11 @@ returns-clause-steps g c =
     c.move_behind.ensures.steps
 
 pub returns-clause-prefix : goal.returns-clause-prefix
-returns-clause-prefix g c =
-    touching g c (λ from ws. AppliesPrefix (g.F.Folder.told c.args.f.now) (g.F.Folder.told c.move_behind.new.f) (steps_of_writes ws from))
-    (subst (λ (t : Told). ForSome (g.F.Folder.told c.first.new.f).files (λ from. AppliesPrefix t (g.F.Folder.told c.move_behind.new.f) (steps_of_writes (writes_of 3 c.args.node (list_of from)) from))) c.in_ok-head.ensures.stays c.move_behind.ensures.prefix)
+returns-clause-prefix g c = record {
+  made = touching g c (λ from ws. AppliesPrefix (g.F.Folder.told c.args.f.now) (g.F.Folder.told c.move_behind.new.f) (steps_of_writes ws from))
+    (subst (λ (t : Told). ForSome (g.F.Folder.told c.first.new.f).files (λ from. AppliesPrefix t (g.F.Folder.told c.move_behind.new.f) (steps_of_writes (writes_of 3 c.args.node (list_of from)) from))) c.in_ok-head.ensures.stays c.move_behind.ensures.prefix.made);
+  silent = search rules;
+}
 
 pub returns-clause-checked : goal.returns-clause-checked
 returns-clause-checked g c = on_ok_weaker c.move_behind.result (λ can. touching g c (λ from ws. CanBeMade from ws) can) c.move_behind.ensures.checked

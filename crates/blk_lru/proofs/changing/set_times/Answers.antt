@@ -35,7 +35,7 @@ pub returns-clause-is_open : goal.returns-clause-is_open
 returns-clause-is_open g c image here =
     let old = g.F.Folder.told c.args.f.now in
     (part_kept c.args.files.now old (g.F.Folder.told c.update_sealed.new.f) (λ from. sealed_steps from c.args.node (times_of c.args.moment))
-    (λ from there. kept_sealed c.args.files.now c.args.node (times_of c.args.moment) from (c.requires.is_open from there)) c.update_sealed.ensures.silent c.update_sealed.ensures.prefix image here)
+    (λ from there. kept_sealed c.args.files.now c.args.node (times_of c.args.moment) from (c.requires.is_open from there)) c.update_sealed.ensures.prefix.silent c.update_sealed.ensures.prefix.made image here)
 
 pub update_sealed-requires-clause-agrees : goal.update_sealed-requires-clause-agrees
 update_sealed-requires-clause-agrees g c image there = (c.requires.is_open image there).agrees

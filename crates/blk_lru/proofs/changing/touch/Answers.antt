@@ -1,4 +1,4 @@
-use Rattle.std.proofs.Common.{arith, ◌≡◌, ℕ, Bool, List, ◌∷◌, ◌++◌, Some, ap, sym, ◌∙◌, true, inr}
+use Rattle.std.proofs.Common.{arith, ◌≡◌, ℕ, Bool, List, ◌∷◌, ◌++◌, Some, ap, sym, ◌∙◌, true, inr, rules}
 use Rattle.std.specs.Prelude.{OnOk}
 use Rattle.std.specs.Option.{ForSome, option_map}
 use Rattle.std.proofs.lemmas.Result.{on_ok_weaker}
@@ -37,12 +37,15 @@ passes old now from files there ready node moment part prefix suffix rest =
     (along_touch files from ready.kept ws (prefix ++ node ∷ suffix) (node ∷ prefix ++ suffix) (touches-turn node (list_of from) prefix suffix rest) node (steps_of_touch node moment from) (touches-in_turn from node moment prefix suffix (ready_writable ready) rest))
 
 pub returns-in_err-move_front-clause-prefix : goal.returns-in_err-move_front-clause-prefix
-returns-in_err-move_front-clause-prefix g c from there = part_only _ (c.in_err-move_front.ensures.prefix from there)
+returns-in_err-move_front-clause-prefix g c = record {
+  made = λ from there. part_only _ (c.in_err-move_front.ensures.prefix.made from there);
+  silent = search rules;
+}
 
 pub returns-in_err-move_front-clause-stops : goal.returns-in_err-move_front-clause-stops
 returns-in_err-move_front-clause-stops g c from there prefix suffix rest =
     passes (g.F.Folder.told c.args.f.now) (g.F.Folder.told c.move_front.new.f) from c.args.files.now there (told_ready c.args.files.now (g.F.Folder.told c.args.f.now) c.requires.is_open (g.met.F.Folder.are_bytes c.args.f.now) from there) c.args.node c.args.moment
-    (part_only _ (c.in_err-move_front.ensures.prefix from there)) prefix suffix rest
+    (part_only _ (c.in_err-move_front.ensures.prefix.made from there)) prefix suffix rest
 
 -- the list's part was made
 between_is : (g : given.Over) (c : goal.After-set_times g) (from : Image) → (g.F.Folder.told c.args.f.now).files ≡ Some from → (g.F.Folder.told c.move_front.new.f).files ≡ Some (after (steps_of_writes (touch_writes c.args.node (list_of from)) from) from)
@@ -67,10 +70,13 @@ pub returns-clause-steps : goal.returns-clause-steps
 returns-clause-steps g c = on_ok_weaker c.set_times.result (λ grows from there. grows_then (c.in_ok-move_front.ensures.steps from there) (grows _ (between_is g c from there))) c.set_times.ensures.steps
 
 part_here : (g : given.Over) (c : goal.After-set_times g) → ForSome (g.F.Folder.told c.args.f.now).files (λ from. AppliesPrefix (g.F.Folder.told c.args.f.now) (g.F.Folder.told c.set_times.new.f) (steps_of_touch c.args.node c.args.moment from))
-part_here g c from there = part_then (c.in_ok-move_front.ensures.steps from there) (c.set_times.ensures.prefix _ (between_is g c from there))
+part_here g c from there = part_then (c.in_ok-move_front.ensures.steps from there) (c.set_times.ensures.prefix.made _ (between_is g c from there))
 
 pub returns-clause-prefix : goal.returns-clause-prefix
-returns-clause-prefix g c = part_here g c
+returns-clause-prefix g c = record {
+  made = part_here g c;
+  silent = search rules;
+}
 
 pub returns-clause-stops : goal.returns-clause-stops
 returns-clause-stops g c from there prefix suffix rest = passes (g.F.Folder.told c.args.f.now) (g.F.Folder.told c.set_times.new.f) from c.args.files.now there (ready_here g c from there) c.args.node c.args.moment (part_here g c from there) prefix suffix rest
@@ -115,4 +121,4 @@ returns-clause-untold g c listed =
           let good = (linked (list_of from) a.0 c.args.node a.1 a.2.whole).good in
           still_checks from (ready_writable (ready_here g c from there)) c.args.node c.args.moment good (touch_writes c.args.node (list_of from)) (touches-can from c.args.node a.0 a.1 a.2)),
     ))
-    c.in_ok-move_front.ensures.silent))
+    c.in_ok-move_front.ensures.prefix.silent))

@@ -1,4 +1,4 @@
-use Rattle.std.proofs.Common.{◌≡◌, ◌∙◌, List, map, sym, ap, subst, true}
+use Rattle.std.proofs.Common.{◌≡◌, ◌∙◌, List, map, sym, ap, subst, true, rules}
 use Rattle.std.specs.Prelude.{OnOk}
 use Rattle.std.specs.Option.{ForSome}
 use Rattle.std.proofs.lemmas.Result.{on_ok_weaker}
@@ -51,7 +51,10 @@ pub returns-clause-steps : goal.returns-clause-steps
 returns-clause-steps g c = whole_as (g.F.Folder.told c.args.f.now) (g.F.Folder.told c.pending.new.f) (g.F.Folder.told c.perform.new.f) c.in_ok-plan.ensures.stays (map meant c.deref.result.now) (λ from. completion_writes (list_of from)) (plan_is g c.before) c.perform.result c.perform.ensures.steps
 
 pub returns-clause-prefix : goal.returns-clause-prefix
-returns-clause-prefix g c = part_as (g.F.Folder.told c.args.f.now) (g.F.Folder.told c.pending.new.f) (g.F.Folder.told c.perform.new.f) c.in_ok-plan.ensures.stays (map meant c.deref.result.now) (λ from. completion_writes (list_of from)) (plan_is g c.before) c.perform.ensures.prefix
+returns-clause-prefix g c = record {
+  made = part_as (g.F.Folder.told c.args.f.now) (g.F.Folder.told c.pending.new.f) (g.F.Folder.told c.perform.new.f) c.in_ok-plan.ensures.stays (map meant c.deref.result.now) (λ from. completion_writes (list_of from)) (plan_is g c.before) c.perform.ensures.prefix.made;
+  silent = search rules;
+}
 
 pub returns-clause-untold : goal.returns-clause-untold
 returns-clause-untold g c = untold_as (g.F.Folder.told c.args.f.now) (g.F.Folder.told c.pending.new.f) (g.F.Folder.told c.perform.new.f) c.in_ok-plan.ensures.stays (map meant c.deref.result.now) (λ from. completion_writes (list_of from)) (plan_is g c.before) c.perform.result c.perform.ensures.untold (λ from there. completions-can from)
@@ -73,5 +76,5 @@ pub returns-clause-stops : goal.returns-clause-stops
 returns-clause-stops g c from there =
     let ready = ready_here g c from there in
     let ws : List ListWrite = completion_writes (list_of from) in
-    part_passes (g.F.Folder.told c.args.f.now) (g.F.Folder.told c.perform.new.f) from there (completion_steps from) (quiet-writes ws from) (returns-clause-prefix g c from there) (IsMidCompletion c.args.files.now from)
+    part_passes (g.F.Folder.told c.args.f.now) (g.F.Folder.told c.perform.new.f) from there (completion_steps from) (quiet-writes ws from) ((returns-clause-prefix g c).made from there) (IsMidCompletion c.args.files.now from)
     (along_completion c.args.files.now from ready.kept (completion_steps from) (writes-in_turn from ws (ready_writable ready) (completions-can from)))

@@ -1,5 +1,5 @@
 use Rattle.blk_disk.specs.Tables.{is_node_among}
-use Rattle.std.proofs.Common.{◌≡◌, ◌∷◌, [], ◌+◌, List, None, drop, map, sym, subst, true, refl, arith}
+use Rattle.std.proofs.Common.{◌≡◌, ◌∷◌, [], ◌+◌, List, None, drop, map, sym, subst, true, refl, arith, rules}
 use Rattle.blk_volume.specs.ListView.{ListWrite}
 use Rattle.blk_io.proofs.Carried.{carried}
 use Rattle.blk_lru.specs.Writes.{meant}
@@ -24,17 +24,19 @@ write_one-requires-clause-is_open g c image there =
     midst c.args.files.now old ws ready c.requires.words now (meant c.write-item.result ∷ left) reached image there
 
 pub returns-in_err-write_one-clause-prefix : goal.returns-in_err-write_one-clause-prefix
-returns-in_err-write_one-clause-prefix g c =
-    let old = g.F.Folder.told c.args.f.now in
+returns-in_err-write_one-clause-prefix g c = record {
+  made = let old = g.F.Folder.told c.args.f.now in
     let ws : List ListWrite = map meant c.args.writes.now in
     let ready = told_ready c.args.files.now old c.requires.is_open (g.met.F.Folder.are_bytes c.args.f.now) in
     let now = g.F.Folder.told c.loop-write.f in
     let left : List ListWrite = map meant (drop (c.loop-write.write-index + 1) c.args.writes.now) in
     let reached : Reached old now ws (meant c.write-item.result ∷ left) = subst (Reached old now ws) (at_item c.args.writes.now c.loop-write.write-index c.write-item.result c.write-item.result c.loop-write-test.true (sym c.write-item.is)) c.loop-write.invariant.reached in
     let next = g.F.Folder.told c.write_one.new.f in
-    let part = in_part c.args.files.now old ws ready c.requires.words now next (meant c.write-item.result) left reached c.in_err-write_one.ensures.prefix in
-    let silent : old.files ≡ None → next.files ≡ None = λ none. c.in_err-write_one.ensures.silent (reached.wrote.silent none) in
-    part
+    let part = in_part c.args.files.now old ws ready c.requires.words now next (meant c.write-item.result) left reached c.in_err-write_one.ensures.prefix.made in
+    let silent : old.files ≡ None → next.files ≡ None = λ none. c.in_err-write_one.ensures.prefix.silent (reached.wrote.silent none) in
+    part;
+  silent = search rules;
+}
 
 pub returns-in_err-write_one-clause-is_open : goal.returns-in_err-write_one-clause-is_open
 returns-in_err-write_one-clause-is_open g c image there =
@@ -45,8 +47,8 @@ returns-in_err-write_one-clause-is_open g c image there =
     let left : List ListWrite = map meant (drop (c.loop-write.write-index + 1) c.args.writes.now) in
     let reached : Reached old now ws (meant c.write-item.result ∷ left) = subst (Reached old now ws) (at_item c.args.writes.now c.loop-write.write-index c.write-item.result c.write-item.result c.loop-write-test.true (sym c.write-item.is)) c.loop-write.invariant.reached in
     let next = g.F.Folder.told c.write_one.new.f in
-    let part = in_part c.args.files.now old ws ready c.requires.words now next (meant c.write-item.result) left reached c.in_err-write_one.ensures.prefix in
-    let silent : old.files ≡ None → next.files ≡ None = λ none. c.in_err-write_one.ensures.silent (reached.wrote.silent none) in
+    let part = in_part c.args.files.now old ws ready c.requires.words now next (meant c.write-item.result) left reached c.in_err-write_one.ensures.prefix.made in
+    let silent : old.files ≡ None → next.files ≡ None = λ none. c.in_err-write_one.ensures.prefix.silent (reached.wrote.silent none) in
     part_ready c.args.files.now old ws ready c.requires.words next silent part image there
 
 pub returns-in_err-write_one-clause-untold : goal.returns-in_err-write_one-clause-untold
@@ -70,7 +72,7 @@ loop-write-preserved g c =
     let reached : Reached old now ws (meant c.write-item.result ∷ left) = subst (Reached old now ws) (at_item c.args.writes.now c.loop-write.write-index c.write-item.result c.write-item.result c.loop-write-test.true (sym c.write-item.is)) c.loop-write.invariant.reached in
     let next = g.F.Folder.told c.write_one.new.f in
     record {
-      reached = one_more c.args.files.now old ws ready c.requires.words now next (meant c.write-item.result) left reached c.in_ok-write_one.ensures.steps c.in_ok-write_one.ensures.silent c.in_ok-write_one.ensures.checked;
+      reached = one_more c.args.files.now old ws ready c.requires.words now next (meant c.write-item.result) left reached c.in_ok-write_one.ensures.steps c.in_ok-write_one.ensures.prefix.silent c.in_ok-write_one.ensures.checked;
       later = omega (arith, c.loop-write.invariant.later, c.in_ok-write_one.ensures.later);
     }
 
@@ -93,13 +95,20 @@ returns-clause-steps g c =
     (done_all c.args.files.now old ws ready c.requires.words now reached).applies
 
 pub returns-clause-prefix : goal.returns-clause-prefix
-returns-clause-prefix g c =
-    let old = g.F.Folder.told c.args.f.now in
+returns-clause-prefix g c = record {
+  made = let old = g.F.Folder.told c.args.f.now in
     let ws : List ListWrite = map meant c.args.writes.now in
     let ready = told_ready c.args.files.now old c.requires.is_open (g.met.F.Folder.are_bytes c.args.f.now) in
     let now = g.F.Folder.told c.loop-write.f in
     let reached : Reached old now ws [] = subst (Reached old now ws) (all_done c.args.writes.now c.loop-write.write-index c.loop-write-test.false) c.loop-write.invariant.reached in
-    wrote_part (done_all c.args.files.now old ws ready c.requires.words now reached)
+    wrote_part (done_all c.args.files.now old ws ready c.requires.words now reached);
+  silent = let old = g.F.Folder.told c.args.f.now in
+    let ws : List ListWrite = map meant c.args.writes.now in
+    let ready = told_ready c.args.files.now old c.requires.is_open (g.met.F.Folder.are_bytes c.args.f.now) in
+    let now = g.F.Folder.told c.loop-write.f in
+    let reached : Reached old now ws [] = subst (Reached old now ws) (all_done c.args.writes.now c.loop-write.write-index c.loop-write-test.false) c.loop-write.invariant.reached in
+    (done_all c.args.files.now old ws ready c.requires.words now reached).silent;
+}
 
 pub returns-clause-is_open : goal.returns-clause-is_open
 returns-clause-is_open g c image there =
@@ -110,12 +119,3 @@ returns-clause-is_open g c image there =
     let reached : Reached old now ws [] = subst (Reached old now ws) (all_done c.args.writes.now c.loop-write.write-index c.loop-write-test.false) c.loop-write.invariant.reached in
     let wrote : Wrote old now ws = done_all c.args.files.now old ws ready c.requires.words now reached in
     part_ready c.args.files.now old ws ready c.requires.words now wrote.silent (wrote_part wrote) image there
-
-pub returns-clause-silent : goal.returns-clause-silent
-returns-clause-silent g c =
-    let old = g.F.Folder.told c.args.f.now in
-    let ws : List ListWrite = map meant c.args.writes.now in
-    let ready = told_ready c.args.files.now old c.requires.is_open (g.met.F.Folder.are_bytes c.args.f.now) in
-    let now = g.F.Folder.told c.loop-write.f in
-    let reached : Reached old now ws [] = subst (Reached old now ws) (all_done c.args.writes.now c.loop-write.write-index c.loop-write-test.false) c.loop-write.invariant.reached in
-    (done_all c.args.files.now old ws ready c.requires.words now reached).silent

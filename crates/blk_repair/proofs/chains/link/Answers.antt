@@ -1,4 +1,4 @@
-use Rattle.std.proofs.Common.{◌≡◌, ℕ, ◌+◌, List, None, drop, refl, arith, subst, sym}
+use Rattle.std.proofs.Common.{◌≡◌, ℕ, ◌+◌, List, None, drop, refl, arith, subst, sym, rules}
 use Rattle.std.specs.Option.{ForSome}
 use Rattle.std.proofs.lemmas.List.Elements.{All-get_or}
 use Rattle.blk_image.specs.Image.{Image}
@@ -22,9 +22,11 @@ pub loop-i-init : goal.loop-i-init
 loop-i-init g c = record { progress = begun (g.F.Folder.told c.args.f.now) (g.F.Folder.told c.args.f.now) (next_words_steps c.args.records.now) refl; is_open = c.requires.is_open; later = omega arith }
 
 pub returns-in_err-set_next-clause-prefix : goal.returns-in_err-set_next-clause-prefix
-returns-in_err-set_next-clause-prefix g c =
-    stopped c.loop-i.invariant.progress (next_steps c.index-records-i.result c.first_word-behind.result) (next_words_steps (drop (c.loop-i.i + 1) c.args.records.now)) (g.F.Folder.told c.set_next.new.f)
-    (link-leads c.args.records.now c.loop-i.i c.index-records-i.result c.first_word-behind.result c.loop-i-test.true c.index-records-i.is c.first_word-behind.ensures) c.in_err-set_next.ensures.prefix
+returns-in_err-set_next-clause-prefix g c = record {
+  made = stopped c.loop-i.invariant.progress (next_steps c.index-records-i.result c.first_word-behind.result) (next_words_steps (drop (c.loop-i.i + 1) c.args.records.now)) (g.F.Folder.told c.set_next.new.f)
+    (link-leads c.args.records.now c.loop-i.i c.index-records-i.result c.first_word-behind.result c.loop-i-test.true c.index-records-i.is c.first_word-behind.ensures) c.in_err-set_next.ensures.prefix.made;
+  silent = search rules;
+}
 
 pub returns-in_err-set_next-clause-untold : goal.returns-in_err-set_next-clause-untold
 returns-in_err-set_next-clause-untold g c all =
@@ -35,17 +37,20 @@ returns-in_err-set_next-clause-untold g c all =
 
 pub loop-i-preserved : goal.loop-i-preserved
 loop-i-preserved g c = record {
-  progress = went_on c.loop-i.invariant.progress (next_steps c.index-records-i.result c.first_word-behind.result) (next_words_steps (drop (c.loop-i.i + 1) c.args.records.now)) (g.F.Folder.told c.set_next.new.f) (leads g c) c.in_ok-set_next.ensures.steps c.in_ok-set_next.ensures.silent;
+  progress = went_on c.loop-i.invariant.progress (next_steps c.index-records-i.result c.first_word-behind.result) (next_words_steps (drop (c.loop-i.i + 1) c.args.records.now)) (g.F.Folder.told c.set_next.new.f) (leads g c) c.in_ok-set_next.ensures.steps c.in_ok-set_next.ensures.prefix.silent;
   is_open = open_now;
   later = omega (arith, c.loop-i.invariant.later, c.in_ok-set_next.ensures.later);
 }
   where
     open_now : ForSome (g.F.Folder.told c.set_next.new.f).files (IsOpen c.args.files.now)
     open_now = stays-open c.args.files.now (g.F.Folder.told c.loop-i.f) (g.F.Folder.told c.set_next.new.f) (next_steps c.index-records-i.result c.first_word-behind.result) (next-open c.args.files.now c.index-records-i.result c.first_word-behind.result)
-        c.loop-i.invariant.is_open c.in_ok-set_next.ensures.prefix c.in_ok-set_next.ensures.silent
+        c.loop-i.invariant.is_open c.in_ok-set_next.ensures.prefix.made c.in_ok-set_next.ensures.prefix.silent
 
 pub returns-clause-steps : goal.returns-clause-steps
 returns-clause-steps g c = ended c.loop-i.invariant.progress (links-end c.args.records.now c.loop-i.i c.loop-i-test.false)
 
 pub returns-clause-prefix : goal.returns-clause-prefix
-returns-clause-prefix g c image there = part_whole (returns-clause-steps g c image there)
+returns-clause-prefix g c = record {
+  made = λ image there. part_whole (returns-clause-steps g c image there);
+  silent = search rules;
+}

@@ -1,4 +1,4 @@
-use Rattle.std.proofs.Common.{◌≡◌, ℕ, ◌+◌, ◌<◌, List, [], None, refl, ap, subst, sym, ◌∙◌, inl, inr, arith}
+use Rattle.std.proofs.Common.{◌≡◌, ℕ, ◌+◌, ◌<◌, List, [], None, refl, ap, subst, sym, ◌∙◌, inl, inr, arith, rules}
 use Rattle.std.specs.Option.{ForSome}
 use Rattle.std.proofs.lemmas.Result.{on_ok_weaker}
 use Rattle.blk_image.specs.Image.{Image}
@@ -23,21 +23,23 @@ front words bucket w P is h = subst (λ (v : ℕ). P (bucket_steps bucket v)) is
 pub link-requires-clause-is_open : goal.link-requires-clause-is_open
 link-requires-clause-is_open g c =
     stays-open c.args.files.now (g.F.Folder.told c.args.f.now) (g.F.Folder.told c.set_front.new.f) (bucket_steps c.args.bucket c.first_word.result) (bucket-open c.args.files.now c.args.bucket c.first_word.result) c.requires.is_open
-    c.in_ok-set_front.ensures.prefix c.in_ok-set_front.ensures.silent
+    c.in_ok-set_front.ensures.prefix.made c.in_ok-set_front.ensures.prefix.silent
 
 pub returns-in_err-set_front-clause-prefix : goal.returns-in_err-set_front-clause-prefix
-returns-in_err-set_front-clause-prefix g c =
-    stopped (begun (g.F.Folder.told c.args.f.now) (g.F.Folder.told c.args.f.now) (chain_steps c.args.bucket c.args.records.now) refl) (bucket_steps c.args.bucket (first_or 0 c.args.records.now)) (next_words_steps c.args.records.now) (g.F.Folder.told c.set_front.new.f)
+returns-in_err-set_front-clause-prefix g c = record {
+  made = stopped (begun (g.F.Folder.told c.args.f.now) (g.F.Folder.told c.args.f.now) (chain_steps c.args.bucket c.args.records.now) refl) (bucket_steps c.args.bucket (first_or 0 c.args.records.now)) (next_words_steps c.args.records.now) (g.F.Folder.told c.set_front.new.f)
     (chain-leads c.args.bucket c.args.records.now)
-    (front c.args.records.now c.args.bucket c.first_word.result (λ (s : Image → List TrailStep). ForSome (g.F.Folder.told c.args.f.now).files (λ from. AppliesPrefix (g.F.Folder.told c.args.f.now) (g.F.Folder.told c.set_front.new.f) (s from))) c.first_word.ensures c.in_err-set_front.ensures.prefix)
+    (front c.args.records.now c.args.bucket c.first_word.result (λ (s : Image → List TrailStep). ForSome (g.F.Folder.told c.args.f.now).files (λ from. AppliesPrefix (g.F.Folder.told c.args.f.now) (g.F.Folder.told c.set_front.new.f) (s from))) c.first_word.ensures c.in_err-set_front.ensures.prefix.made);
+  silent = search rules;
+}
 
 pub returns-in_err-set_front-clause-stops : goal.returns-in_err-set_front-clause-stops
-returns-in_err-set_front-clause-stops g c = chain-passes (g.F.Folder.told c.args.f.now) (g.F.Folder.told c.set_front.new.f) c.args.bucket c.args.records.now c.ranges.bucket.fits (returns-in_err-set_front-clause-prefix g c)
+returns-in_err-set_front-clause-stops g c = chain-passes (g.F.Folder.told c.args.f.now) (g.F.Folder.told c.set_front.new.f) c.args.bucket c.args.records.now c.ranges.bucket.fits (returns-in_err-set_front-clause-prefix g c).made
 
 pub returns-in_err-set_front-clause-is_open : goal.returns-in_err-set_front-clause-is_open
 returns-in_err-set_front-clause-is_open g c =
     stays-open c.args.files.now (g.F.Folder.told c.args.f.now) (g.F.Folder.told c.set_front.new.f) (chain_steps c.args.bucket c.args.records.now) (chain-open c.args.files.now c.args.bucket c.args.records.now) c.requires.is_open
-    (returns-in_err-set_front-clause-prefix g c) c.in_err-set_front.ensures.silent
+    (returns-in_err-set_front-clause-prefix g c).made c.in_err-set_front.ensures.prefix.silent
 
 pub returns-in_err-set_front-clause-damaged : goal.returns-in_err-set_front-clause-damaged
 returns-in_err-set_front-clause-damaged g c =
@@ -54,29 +56,29 @@ half g c =
     went_on (begun (g.F.Folder.told c.args.f.now) (g.F.Folder.told c.args.f.now) (chain_steps c.args.bucket c.args.records.now) refl) (bucket_steps c.args.bucket (first_or 0 c.args.records.now)) (next_words_steps c.args.records.now) (g.F.Folder.told c.set_front.new.f)
     (chain-leads c.args.bucket c.args.records.now)
     (front c.args.records.now c.args.bucket c.first_word.result (λ (s : Image → List TrailStep). ForSome (g.F.Folder.told c.args.f.now).files (λ from. Applies (g.F.Folder.told c.args.f.now) (g.F.Folder.told c.set_front.new.f) (s from))) c.first_word.ensures c.in_ok-set_front.ensures.steps)
-    c.in_ok-set_front.ensures.silent
-
-pub returns-clause-silent : goal.returns-clause-silent
-returns-clause-silent g c none = c.link.ensures.silent (c.in_ok-set_front.ensures.silent none)
+    c.in_ok-set_front.ensures.prefix.silent
 
 pub returns-clause-steps : goal.returns-clause-steps
 returns-clause-steps g c =
     on_ok_weaker c.link.result
-    (λ made. ended (went_on (half g c) (next_words_steps c.args.records.now) (λ _. []) (g.F.Folder.told c.link.new.f) (links-lead c.args.records.now) made c.link.ensures.silent) (λ image. refl)) c.link.ensures.steps
+    (λ made. ended (went_on (half g c) (next_words_steps c.args.records.now) (λ _. []) (g.F.Folder.told c.link.new.f) (links-lead c.args.records.now) made c.link.ensures.prefix.silent) (λ image. refl)) c.link.ensures.steps
 
 pub returns-clause-prefix : goal.returns-clause-prefix
-returns-clause-prefix g c = stopped (half g c) (next_words_steps c.args.records.now) (λ _. []) (g.F.Folder.told c.link.new.f) (links-lead c.args.records.now) c.link.ensures.prefix
+returns-clause-prefix g c = record {
+  made = stopped (half g c) (next_words_steps c.args.records.now) (λ _. []) (g.F.Folder.told c.link.new.f) (links-lead c.args.records.now) c.link.ensures.prefix.made;
+  silent = λ none. c.link.ensures.prefix.silent (c.in_ok-set_front.ensures.prefix.silent none);
+}
 
 pub returns-clause-mended : goal.returns-clause-mended
 returns-clause-mended g c = on_ok_weaker c.link.result (λ made. chain-mended (g.F.Folder.told c.args.f.now) (g.F.Folder.told c.link.new.f) c.args.bucket c.args.records.now c.ranges.bucket.fits made) (returns-clause-steps g c)
 
 pub returns-clause-stops : goal.returns-clause-stops
-returns-clause-stops g c = chain-passes (g.F.Folder.told c.args.f.now) (g.F.Folder.told c.link.new.f) c.args.bucket c.args.records.now c.ranges.bucket.fits (returns-clause-prefix g c)
+returns-clause-stops g c = chain-passes (g.F.Folder.told c.args.f.now) (g.F.Folder.told c.link.new.f) c.args.bucket c.args.records.now c.ranges.bucket.fits (returns-clause-prefix g c).made
 
 pub returns-clause-is_open : goal.returns-clause-is_open
 returns-clause-is_open g c =
     stays-open c.args.files.now (g.F.Folder.told c.args.f.now) (g.F.Folder.told c.link.new.f) (chain_steps c.args.bucket c.args.records.now) (chain-open c.args.files.now c.args.bucket c.args.records.now) c.requires.is_open
-    (returns-clause-prefix g c) (returns-clause-silent g c)
+    (returns-clause-prefix g c).made (returns-clause-prefix g c).silent
 
 pub returns-clause-damaged : goal.returns-clause-damaged
 returns-clause-damaged g c = if_damaged_weaker c.link.result _ _ (λ damage wrong. inr wrong) c.link.ensures.damaged
@@ -87,4 +89,4 @@ returns-clause-untold g c next =
     (c.link.ensures.untold
     (now_has (g.F.Folder.told c.args.f.now) (g.F.Folder.told c.set_front.new.f) (bucket_steps c.args.bucket (first_or 0 c.args.records.now)) (λ image. Along (AllCheck c.args.records.now) image (next_words_steps c.args.records.now image))
     (front c.args.records.now c.args.bucket c.first_word.result (λ (s : Image → List TrailStep). ForSome (g.F.Folder.told c.args.f.now).files (λ from. Applies (g.F.Folder.told c.args.f.now) (g.F.Folder.told c.set_front.new.f) (s from))) c.first_word.ensures c.in_ok-set_front.ensures.steps)
-    c.in_ok-set_front.ensures.silent (λ image there. links-check (next image there).0 c.args.bucket c.args.records.now image c.ranges.bucket.fits (next image there).1)))
+    c.in_ok-set_front.ensures.prefix.silent (λ image there. links-check (next image there).0 c.args.bucket c.args.records.now image c.ranges.bucket.fits (next image there).1)))

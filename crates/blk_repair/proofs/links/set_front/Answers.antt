@@ -1,4 +1,4 @@
-use Rattle.std.proofs.Common.{sym, subst}
+use Rattle.std.proofs.Common.{sym, subst, rules}
 use Rattle.blk_image.specs.Image.{Index}
 use Rattle.blk_image.specs.Steps.{word_step}
 use Rattle.blk_format.specs.Headers.{place_of_bucket}
@@ -12,9 +12,11 @@ returns-then-now-word-clause-steps g c x there =
     subst (Applies (g.F.Folder.told c.args.f.now) (g.F.Folder.told c.bucket.new.f)) (sym (bucket-right x c.args.number c.args.word c.in_ok-now.now (c.in_ok-now.ensures.word x there) c.if-now-word.true)) (grows_none c.in_ok-now.ensures.stays)
 
 pub returns-in_err-set_bucket-clause-prefix : goal.returns-in_err-set_bucket-clause-prefix
-returns-in_err-set_bucket-clause-prefix g c x there =
-    subst (AppliesPrefix (g.F.Folder.told c.args.f.now) (g.F.Folder.told c.set_bucket.new.f)) (sym (bucket-other x c.args.number c.args.word c.in_ok-now.now (c.in_ok-now.ensures.word x there) c.if-now-word.false))
-    (subst (λ (t : Told). AppliesPrefix t (g.F.Folder.told c.set_bucket.new.f) (word_step Index (place_of_bucket c.args.number) c.args.word)) c.in_ok-now.ensures.stays c.in_err-set_bucket.ensures.prefix)
+returns-in_err-set_bucket-clause-prefix g c = record {
+  made = λ x there. subst (AppliesPrefix (g.F.Folder.told c.args.f.now) (g.F.Folder.told c.set_bucket.new.f)) (sym (bucket-other x c.args.number c.args.word c.in_ok-now.now (c.in_ok-now.ensures.word x there) c.if-now-word.false))
+    (subst (λ (t : Told). AppliesPrefix t (g.F.Folder.told c.set_bucket.new.f) (word_step Index (place_of_bucket c.args.number) c.args.word)) c.in_ok-now.ensures.stays c.in_err-set_bucket.ensures.prefix);
+  silent = search rules;
+}
 
 pub returns-clause-steps : goal.returns-clause-steps
 returns-clause-steps g c x there =
@@ -22,4 +24,7 @@ returns-clause-steps g c x there =
     (subst (λ (t : Told). Applies t (g.F.Folder.told c.set_bucket.new.f) (word_step Index (place_of_bucket c.args.number) c.args.word)) c.in_ok-now.ensures.stays c.in_ok-set_bucket.ensures.steps)
 
 pub returns-clause-prefix : goal.returns-clause-prefix
-returns-clause-prefix g c x there = part_whole (returns-clause-steps g c x there)
+returns-clause-prefix g c = record {
+  made = λ x there. part_whole (returns-clause-steps g c x there);
+  silent = search rules;
+}

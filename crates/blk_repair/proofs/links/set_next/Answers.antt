@@ -1,4 +1,4 @@
-use Rattle.std.proofs.Common.{◌≡◌, ℕ, inl, inr, sym, subst, List, None}
+use Rattle.std.proofs.Common.{◌≡◌, ℕ, inl, inr, sym, subst, List, None, rules}
 use Rattle.std.specs.Option.{ForSome}
 use Rattle.std.proofs.lemmas.Result.{on_ok_weaker}
 use Rattle.blk_image.specs.Steps.{TrailStep}
@@ -50,6 +50,8 @@ returns-clause-steps g c =
     c.requires.is_open c.requires.stands c.in_ok-now.ensures.value c.if-now-word.false c.in_ok-now.ensures.stays whole) c.update_sealed.ensures.steps
 
 pub returns-clause-prefix : goal.returns-clause-prefix
-returns-clause-prefix g c =
-    next-later c.args.files.now (g.F.Folder.told c.args.f.now) (g.F.Folder.told c.field.new.f) c.args.entry c.args.word c.in_ok-now.now (λ (t : Told) (s : List TrailStep). AppliesPrefix t (g.F.Folder.told c.update_sealed.new.f) s)
-    c.requires.is_open c.requires.stands c.in_ok-now.ensures.value c.if-now-word.false c.in_ok-now.ensures.stays c.update_sealed.ensures.prefix
+returns-clause-prefix g c = record {
+  made = next-later c.args.files.now (g.F.Folder.told c.args.f.now) (g.F.Folder.told c.field.new.f) c.args.entry c.args.word c.in_ok-now.now (λ (t : Told) (s : List TrailStep). AppliesPrefix t (g.F.Folder.told c.update_sealed.new.f) s)
+    c.requires.is_open c.requires.stands c.in_ok-now.ensures.value c.if-now-word.false c.in_ok-now.ensures.stays c.update_sealed.ensures.prefix.made;
+  silent = search rules;
+}

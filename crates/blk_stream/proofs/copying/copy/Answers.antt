@@ -19,7 +19,7 @@ returns-in_err-copy_piece-clause-stops g c =
     let n : length (take c.min-n.result c.loop-at.buffer) ≡ c.min-n.result = omega (arith, length-take c.min-n.result c.loop-at.buffer, c.loop-at.invariant.long, c.min-n.ensures) in
     let low = c.loop-at.invariant.has.low in
     piece_passes c.args.files.now c.args.from c.args.to c.args.start c.args.end c.requires.from_inside c.requires.to_inside (omega (arith, low, c.loop-at-test.true)) (g.F.Folder.told c.args.f.now) (g.F.Folder.told c.loop-at.f) c.loop-at.at (length (take c.min-n.result c.loop-at.buffer))
-    (omega (arith, n, c.min-n.ensures, c.loop-at-test.true)) c.loop-at.invariant.has c.requires.to_there (g.F.Folder.told c.copy_piece.new.f) c.copy_piece.ensures.prefix
+    (omega (arith, n, c.min-n.ensures, c.loop-at-test.true)) c.loop-at.invariant.has c.requires.to_there (g.F.Folder.told c.copy_piece.new.f) c.copy_piece.ensures.prefix.made
 
 pub returns-in_err-copy_piece-clause-untold : goal.returns-in_err-copy_piece-clause-untold
 returns-in_err-copy_piece-clause-untold g c from_there =
@@ -52,7 +52,7 @@ loop-at-preserved g c =
     record {
       has = subst (λ (k : ℕ). HasCopied (g.F.Folder.told c.args.f.now) (g.F.Folder.told c.copy_piece.new.f) c.args.files.now c.args.from c.args.to c.args.start c.args.end (c.loop-at.at + k)) n
           (next_copied c.args.files.now c.args.from c.args.to c.args.start c.args.end c.requires.from_inside c.requires.to_inside (omega (arith, low, c.loop-at-test.true)) (g.F.Folder.told c.args.f.now) (g.F.Folder.told c.loop-at.f) c.loop-at.at (length (take c.min-n.result c.loop-at.buffer))
-          (omega (arith, n, c.min-n.ensures, c.loop-at-test.true)) c.loop-at.invariant.has c.requires.to_there (g.F.Folder.told c.copy_piece.new.f) c.in_ok-copy_piece.ensures.steps c.copy_piece.ensures.agrees c.copy_piece.ensures.silent);
+          (omega (arith, n, c.min-n.ensures, c.loop-at-test.true)) c.loop-at.invariant.has c.requires.to_there (g.F.Folder.told c.copy_piece.new.f) c.in_ok-copy_piece.ensures.steps c.copy_piece.ensures.agrees c.copy_piece.ensures.prefix.silent);
       long = omega (arith, long, rest, all, size, n);
       later = omega (arith, one, other);
     }

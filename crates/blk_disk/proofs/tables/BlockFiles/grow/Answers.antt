@@ -1,4 +1,4 @@
-use Rattle.std.proofs.Common.{◌∙◌, ap, sym, subst}
+use Rattle.std.proofs.Common.{◌∙◌, ap, sym, subst, rules}
 use Rattle.std.specs.Option.{option_map}
 use Rattle.blk_image.specs.Steps.{after}
 use Rattle.blk_image.proofs.Runs.{passes_none, some_inj}
@@ -22,10 +22,13 @@ raise-requires g c =
     (first_is c.args.self.now c.args.file (g.F.Folder.told c.args.f.now) (g.F.Folder.told c.lengthen.new.f) (g.F.Folder.told c.lengthen.new.f) c.requires.agrees c.requires.linked c.requires.below c.blocks-old.result c.min-blocks.result c.length_with-size.result c.blocks-old.ensures c.min-blocks.ensures c.length_with-size.ensures c.in_ok-lengthen.ensures.steps)
 
 pub returns-in_err-raise-clause-prefix : goal.returns-in_err-raise-clause-prefix
-returns-in_err-raise-clause-prefix g c = part_is c.args.self.now c.args.file (g.F.Folder.told c.args.f.now) (g.F.Folder.told c.lengthen.new.f) (g.F.Folder.told c.raise.new.f) c.requires.agrees c.requires.linked c.requires.below c.blocks-old.result c.min-blocks.result c.length_with-size.result c.blocks-old.ensures c.min-blocks.ensures c.length_with-size.ensures c.in_ok-lengthen.ensures.steps c.raise.ensures.prefix
+returns-in_err-raise-clause-prefix g c = record {
+  made = part_is c.args.self.now c.args.file (g.F.Folder.told c.args.f.now) (g.F.Folder.told c.lengthen.new.f) (g.F.Folder.told c.raise.new.f) c.requires.agrees c.requires.linked c.requires.below c.blocks-old.result c.min-blocks.result c.length_with-size.result c.blocks-old.ensures c.min-blocks.ensures c.length_with-size.ensures c.in_ok-lengthen.ensures.steps c.raise.ensures.prefix;
+  silent = search rules;
+}
 
 pub returns-in_err-raise-clause-stops : goal.returns-in_err-raise-clause-stops
-returns-in_err-raise-clause-stops g c = grow_stops c.args.self.now c.args.file (g.F.Folder.told c.args.f.now) (g.F.Folder.told c.lengthen.new.f) (g.F.Folder.told c.raise.new.f) c.requires.agrees c.requires.linked c.requires.below (returns-in_err-raise-clause-prefix g c)
+returns-in_err-raise-clause-stops g c = grow_stops c.args.self.now c.args.file (g.F.Folder.told c.args.f.now) (g.F.Folder.told c.lengthen.new.f) (g.F.Folder.told c.raise.new.f) c.requires.agrees c.requires.linked c.requires.below (returns-in_err-raise-clause-prefix g c).made
 
 pub enlarge-requires : goal.enlarge-requires
 enlarge-requires g c =
@@ -36,7 +39,10 @@ pub returns-clause-steps : goal.returns-clause-steps
 returns-clause-steps g c = whole_is c.args.self.now c.args.file (g.F.Folder.told c.args.f.now) (g.F.Folder.told c.lengthen.new.f) (g.F.Folder.told c.raise.new.f) c.requires.agrees c.requires.linked c.requires.below c.blocks-old.result c.min-blocks.result c.length_with-size.result c.blocks-old.ensures c.min-blocks.ensures c.length_with-size.ensures c.in_ok-lengthen.ensures.steps c.in_ok-raise.ensures.steps
 
 pub returns-clause-prefix : goal.returns-clause-prefix
-returns-clause-prefix g c = part_is c.args.self.now c.args.file (g.F.Folder.told c.args.f.now) (g.F.Folder.told c.lengthen.new.f) (g.F.Folder.told c.raise.new.f) c.requires.agrees c.requires.linked c.requires.below c.blocks-old.result c.min-blocks.result c.length_with-size.result c.blocks-old.ensures c.min-blocks.ensures c.length_with-size.ensures c.in_ok-lengthen.ensures.steps c.raise.ensures.prefix
+returns-clause-prefix g c = record {
+  made = part_is c.args.self.now c.args.file (g.F.Folder.told c.args.f.now) (g.F.Folder.told c.lengthen.new.f) (g.F.Folder.told c.raise.new.f) c.requires.agrees c.requires.linked c.requires.below c.blocks-old.result c.min-blocks.result c.length_with-size.result c.blocks-old.ensures c.min-blocks.ensures c.length_with-size.ensures c.in_ok-lengthen.ensures.steps c.raise.ensures.prefix;
+  silent = search rules;
+}
 
 pub returns-clause-kept : goal.returns-clause-kept
 returns-clause-kept g c = enlarges_is c.args.self.now c.args.file (g.F.Folder.told c.args.f.now) (g.F.Folder.told c.lengthen.new.f) (g.F.Folder.told c.raise.new.f) c.requires.agrees c.requires.linked c.requires.below c.blocks-old.result c.min-blocks.result c.length_with-size.result c.blocks-old.ensures c.min-blocks.ensures c.length_with-size.ensures c.enlarge.new.self c.length.result c.max-size.result c.length.ensures c.max-size.ensures c.enlarge.ensures
@@ -48,4 +54,4 @@ returns-clause-agrees g c =
     (returns-clause-kept g c)
 
 pub returns-clause-stops : goal.returns-clause-stops
-returns-clause-stops g c = grow_stops c.args.self.now c.args.file (g.F.Folder.told c.args.f.now) (g.F.Folder.told c.lengthen.new.f) (g.F.Folder.told c.raise.new.f) c.requires.agrees c.requires.linked c.requires.below (returns-clause-prefix g c)
+returns-clause-stops g c = grow_stops c.args.self.now c.args.file (g.F.Folder.told c.args.f.now) (g.F.Folder.told c.lengthen.new.f) (g.F.Folder.told c.raise.new.f) c.requires.agrees c.requires.linked c.requires.below (returns-clause-prefix g c).made

@@ -1,4 +1,4 @@
-use Rattle.std.proofs.Common.{[], ◌∙◌, ap, sym, subst}
+use Rattle.std.proofs.Common.{[], ◌∙◌, ap, sym, subst, rules}
 use Rattle.std.specs.Option.{ForSome}
 use Rattle.blk_image.specs.Image.{Image}
 use Rattle.blk_image.specs.Told.{Told}
@@ -21,8 +21,11 @@ returns-in_err-read_record-clause-stops g c from there good =
 pub returns-in_err-read_record-clause-agrees : goal.returns-in_err-read_record-clause-agrees
 returns-in_err-read_record-clause-agrees g c = subst (λ (t : Told). ForSome t.files (Agrees c.args.self.now)) (sym c.in_err-read_record.ensures.stays) c.requires.agrees
 
-pub returns-in_err-read_record-clause-silent : goal.returns-in_err-read_record-clause-silent
-returns-in_err-read_record-clause-silent g c none = ap (λ (t : Told). t.files) c.in_err-read_record.ensures.stays ∙ none
+pub returns-in_err-read_record-clause-prefix : goal.returns-in_err-read_record-clause-prefix
+returns-in_err-read_record-clause-prefix g c = record {
+  made = search rules;
+  silent = λ none. ap (λ (t : Told). t.files) c.in_err-read_record.ensures.stays ∙ none;
+}
 
 pub write_seal-requires-clause-agrees : goal.write_seal-requires-clause-agrees
 write_seal-requires-clause-agrees g c = subst (λ (t : Told). ForSome t.files (Agrees c.args.self.now)) (sym c.in_ok-read_record.ensures.stays) c.requires.agrees
@@ -30,16 +33,20 @@ write_seal-requires-clause-agrees g c = subst (λ (t : Told). ForSome t.files (A
 -- A record that was read.
 
 pub returns-in_err-write_seal-clause-prefix : goal.returns-in_err-write_seal-clause-prefix
-returns-in_err-write_seal-clause-prefix g c =
-    front_sealed c.args.self.now c.args.addr c.requires.stands c.requires.begins (g.F.Folder.told c.args.f.now) (g.F.Folder.told c.read_record.new.f) (g.F.Folder.told c.write_seal.new.f) c.in_ok-read_record.ensures.stays c.requires.agrees
+returns-in_err-write_seal-clause-prefix g c = record {
+  made = front_sealed c.args.self.now c.args.addr c.requires.stands c.requires.begins (g.F.Folder.told c.args.f.now) (g.F.Folder.told c.read_record.new.f) (g.F.Folder.told c.write_seal.new.f) c.in_ok-read_record.ensures.stays c.requires.agrees
     (kind_number c.kind-2.result) c.missing_seal.result c.read_record.new.bytes c.kind-2.ensures c.missing_seal.ensures c.in_ok-read_record.ensures.bytes
-    c.in_err-write_seal.ensures.prefix
+    c.in_err-write_seal.ensures.prefix;
+  silent = λ none. silent_part c.in_err-write_seal.ensures.prefix (ap (λ (t : Told). t.files) c.in_ok-read_record.ensures.stays ∙ none);
+}
 
 pub returns-clause-prefix : goal.returns-clause-prefix
-returns-clause-prefix g c =
-    front_sealed c.args.self.now c.args.addr c.requires.stands c.requires.begins (g.F.Folder.told c.args.f.now) (g.F.Folder.told c.read_record.new.f) (g.F.Folder.told c.write_seal.new.f) c.in_ok-read_record.ensures.stays c.requires.agrees
+returns-clause-prefix g c = record {
+  made = front_sealed c.args.self.now c.args.addr c.requires.stands c.requires.begins (g.F.Folder.told c.args.f.now) (g.F.Folder.told c.read_record.new.f) (g.F.Folder.told c.write_seal.new.f) c.in_ok-read_record.ensures.stays c.requires.agrees
     (kind_number c.kind-2.result) c.missing_seal.result c.read_record.new.bytes c.kind-2.ensures c.missing_seal.ensures c.in_ok-read_record.ensures.bytes
-    c.in_ok-write_seal.ensures.prefix
+    c.in_ok-write_seal.ensures.prefix;
+  silent = λ none. silent_part c.in_ok-write_seal.ensures.prefix (ap (λ (t : Told). t.files) c.in_ok-read_record.ensures.stays ∙ none);
+}
 
 pub returns-in_err-write_seal-clause-stops : goal.returns-in_err-write_seal-clause-stops
 returns-in_err-write_seal-clause-stops g c =
@@ -58,16 +65,10 @@ returns-in_err-write_seal-clause-agrees g c =
     agrees_sealed c.args.self.now c.args.addr c.missing_seal.result (g.F.Folder.told c.read_record.new.f) (g.F.Folder.told c.write_seal.new.f)
     (subst (λ (t : Told). ForSome t.files (Agrees c.args.self.now)) (sym c.in_ok-read_record.ensures.stays) c.requires.agrees) c.in_err-write_seal.ensures.prefix
 
-pub returns-in_err-write_seal-clause-silent : goal.returns-in_err-write_seal-clause-silent
-returns-in_err-write_seal-clause-silent g c none = silent_part c.in_err-write_seal.ensures.prefix (ap (λ (t : Told). t.files) c.in_ok-read_record.ensures.stays ∙ none)
-
 pub returns-clause-agrees : goal.returns-clause-agrees
 returns-clause-agrees g c =
     agrees_sealed c.args.self.now c.args.addr c.missing_seal.result (g.F.Folder.told c.read_record.new.f) (g.F.Folder.told c.write_seal.new.f)
     (subst (λ (t : Told). ForSome t.files (Agrees c.args.self.now)) (sym c.in_ok-read_record.ensures.stays) c.requires.agrees) c.in_ok-write_seal.ensures.prefix
-
-pub returns-clause-silent : goal.returns-clause-silent
-returns-clause-silent g c none = silent_part c.in_ok-write_seal.ensures.prefix (ap (λ (t : Told). t.files) c.in_ok-read_record.ensures.stays ∙ none)
 
 pub returns-clause-steps : goal.returns-clause-steps
 returns-clause-steps g c =

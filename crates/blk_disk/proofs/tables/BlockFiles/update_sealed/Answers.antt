@@ -1,4 +1,4 @@
-use Rattle.std.proofs.Common.{◌∙◌, ap, sym, subst}
+use Rattle.std.proofs.Common.{◌∙◌, ap, sym, subst, rules}
 use Rattle.std.specs.Option.{ForSome}
 use Rattle.blk_image.specs.Image.{Image}
 use Rattle.blk_image.specs.Told.{Told}
@@ -20,8 +20,11 @@ returns-in_err-read_record-clause-stops g c from there good =
 pub returns-in_err-read_record-clause-agrees : goal.returns-in_err-read_record-clause-agrees
 returns-in_err-read_record-clause-agrees g c = subst (λ (t : Told). ForSome t.files (Agrees c.args.self.now)) (sym c.in_err-read_record.ensures.stays) c.requires.agrees
 
-pub returns-in_err-read_record-clause-silent : goal.returns-in_err-read_record-clause-silent
-returns-in_err-read_record-clause-silent g c none = ap (λ (t : Told). t.files) c.in_err-read_record.ensures.stays ∙ none
+pub returns-in_err-read_record-clause-prefix : goal.returns-in_err-read_record-clause-prefix
+returns-in_err-read_record-clause-prefix g c = record {
+  made = search rules;
+  silent = λ none. ap (λ (t : Told). t.files) c.in_err-read_record.ensures.stays ∙ none;
+}
 
 pub update_record-requires-clause-agrees : goal.update_record-requires-clause-agrees
 update_record-requires-clause-agrees g c = subst (λ (t : Told). ForSome t.files (Agrees c.args.self.now)) (sym c.in_ok-read_record.ensures.stays) c.requires.agrees
@@ -29,19 +32,18 @@ update_record-requires-clause-agrees g c = subst (λ (t : Told). ForSome t.files
 -- A write that failed.
 
 pub returns-in_err-update_record-clause-prefix : goal.returns-in_err-update_record-clause-prefix
-returns-in_err-update_record-clause-prefix g c =
-    front_read c.args.addr c.args.changes.now c.read_record.new.bytes (g.F.Folder.told c.args.f.now) (g.F.Folder.told c.read_record.new.f) (g.F.Folder.told c.update_record.new.f) c.in_ok-read_record.ensures.stays c.in_ok-read_record.ensures.bytes c.in_err-update_record.ensures.prefix
+returns-in_err-update_record-clause-prefix g c = record {
+  made = front_read c.args.addr c.args.changes.now c.read_record.new.bytes (g.F.Folder.told c.args.f.now) (g.F.Folder.told c.read_record.new.f) (g.F.Folder.told c.update_record.new.f) c.in_ok-read_record.ensures.stays c.in_ok-read_record.ensures.bytes c.in_err-update_record.ensures.prefix;
+  silent = λ none. silent_part c.in_err-update_record.ensures.prefix (ap (λ (t : Told). t.files) c.in_ok-read_record.ensures.stays ∙ none);
+}
 
 pub returns-in_err-update_record-clause-stops : goal.returns-in_err-update_record-clause-stops
 returns-in_err-update_record-clause-stops g c =
     stops_read c.args.addr c.args.changes.now c.read_record.new.bytes (g.F.Folder.told c.args.f.now) (g.F.Folder.told c.read_record.new.f) (g.F.Folder.told c.update_record.new.f) c.in_ok-read_record.ensures.stays c.in_ok-read_record.ensures.bytes c.in_err-update_record.ensures.stops
 
-pub returns-in_err-update_record-clause-silent : goal.returns-in_err-update_record-clause-silent
-returns-in_err-update_record-clause-silent g c none = silent_part c.in_err-update_record.ensures.prefix (ap (λ (t : Told). t.files) c.in_ok-read_record.ensures.stays ∙ none)
-
 pub returns-in_err-update_record-clause-checks : goal.returns-in_err-update_record-clause-checks
 returns-in_err-update_record-clause-checks g c =
-    checks_after c.args.addr c.args.changes.now (g.F.Folder.told c.args.f.now) (g.F.Folder.told c.update_record.new.f) (returns-in_err-update_record-clause-silent g c) (returns-in_err-update_record-clause-stops g c)
+    checks_after c.args.addr c.args.changes.now (g.F.Folder.told c.args.f.now) (g.F.Folder.told c.update_record.new.f) (returns-in_err-update_record-clause-prefix g c).silent (returns-in_err-update_record-clause-stops g c)
 
 -- All words are written.
 
@@ -54,15 +56,14 @@ returns-clause-updated g c =
     updated_read c.args.addr c.args.changes.now c.read_record.new.bytes (g.F.Folder.told c.args.f.now) (g.F.Folder.told c.read_record.new.f) (g.F.Folder.told c.update_record.new.f) c.in_ok-read_record.ensures.stays c.in_ok-read_record.ensures.bytes c.in_ok-update_record.ensures.updated
 
 pub returns-clause-prefix : goal.returns-clause-prefix
-returns-clause-prefix g c =
-    front_read c.args.addr c.args.changes.now c.read_record.new.bytes (g.F.Folder.told c.args.f.now) (g.F.Folder.told c.read_record.new.f) (g.F.Folder.told c.update_record.new.f) c.in_ok-read_record.ensures.stays c.in_ok-read_record.ensures.bytes c.in_ok-update_record.ensures.prefix
+returns-clause-prefix g c = record {
+  made = front_read c.args.addr c.args.changes.now c.read_record.new.bytes (g.F.Folder.told c.args.f.now) (g.F.Folder.told c.read_record.new.f) (g.F.Folder.told c.update_record.new.f) c.in_ok-read_record.ensures.stays c.in_ok-read_record.ensures.bytes c.in_ok-update_record.ensures.prefix;
+  silent = λ none. silent_part c.in_ok-update_record.ensures.prefix (ap (λ (t : Told). t.files) c.in_ok-read_record.ensures.stays ∙ none);
+}
 
 pub returns-clause-stops : goal.returns-clause-stops
 returns-clause-stops g c =
     stops_read c.args.addr c.args.changes.now c.read_record.new.bytes (g.F.Folder.told c.args.f.now) (g.F.Folder.told c.read_record.new.f) (g.F.Folder.told c.update_record.new.f) c.in_ok-read_record.ensures.stays c.in_ok-read_record.ensures.bytes c.in_ok-update_record.ensures.stops
 
-pub returns-clause-silent : goal.returns-clause-silent
-returns-clause-silent g c none = silent_part c.in_ok-update_record.ensures.prefix (ap (λ (t : Told). t.files) c.in_ok-read_record.ensures.stays ∙ none)
-
 pub returns-clause-checks : goal.returns-clause-checks
-returns-clause-checks g c = checks_after c.args.addr c.args.changes.now (g.F.Folder.told c.args.f.now) (g.F.Folder.told c.update_record.new.f) (returns-clause-silent g c) (returns-clause-stops g c)
+returns-clause-checks g c = checks_after c.args.addr c.args.changes.now (g.F.Folder.told c.args.f.now) (g.F.Folder.told c.update_record.new.f) (returns-clause-prefix g c).silent (returns-clause-stops g c)
