@@ -88,9 +88,6 @@ pub fn write_data<F: Folder>(
     // At each word no other byte has changed.
     ensures outside { ForSome (F.told f.old).files (λ from. Passes (F.told f.old) (F.told f.new) (SameOutside (data_range addr at (length bytes.now)) from)) }
 
-    // A folder that tells no files goes on telling none.
-    ensures silent { (F.told f.old).files ≡ None → (F.told f.new).files ≡ None }
-
     ensures later { F.faults f.old ≤ F.faults f.new }
     ensures failed { OnErr result (Rises (F.faults f.old) (F.faults f.new)) }
 {

@@ -79,9 +79,6 @@ pub fn write_entry<F: Folder>(
     // At each word no byte outside the three places has changed, and so a well formed folder is still well formed.
     ensures stops { ForSome (F.told f.old).files (λ from. Passes (F.told f.old) (F.told f.new) (WritesEntryInProgress new.now (length key.now) from)) }
 
-    // A folder that tells no files goes on telling none.
-    ensures silent { (F.told f.old).files ≡ None → (F.told f.new).files ≡ None }
-
     // The fields are words, and the places addresses, whatever the answer.
     ensures words { AreWords new.now }
 

@@ -4,7 +4,6 @@ use Rattle.blk_image.specs.Image.{Image}
 use Rattle.blk_image.specs.Steps.{after}
 use Rattle.blk_image.specs.Told.{Along, AppliesPrefix}
 use Rattle.blk_image.proofs.Runs.{grows_then, part_then, passes_part, some_inj, told_whole}
-use Rattle.blk_io.proofs.Carried.{silent_part}
 use Rattle.blk_stream.specs.Inside.{WritesInProgress, WritesInside, here_steps, inside_steps}
 use Rattle.blk_stream.proofs.InsideWritten.{written_inside}
 use Rattle.blk_stream.proofs.InsideSteps.{here_moments, inside_moments, quiet_here, quiet_inside}
@@ -25,12 +24,6 @@ returns-clause-steps g c = on_ok_weaker c.write_size.result (λ grown. grows_the
 
 pub returns-clause-prefix : goal.returns-clause-prefix
 returns-clause-prefix g c = part g c
-
-pub returns-clause-silent : goal.returns-clause-silent
-returns-clause-silent g c none = silent_part (part g c) none
-
-pub returns-in_err-write_here-clause-silent : goal.returns-in_err-write_here-clause-silent
-returns-in_err-write_here-clause-silent g c none = silent_part c.in_err-write_here.ensures.prefix none
 
 pub returns-clause-stops : goal.returns-clause-stops
 returns-clause-stops g c from there apart =
