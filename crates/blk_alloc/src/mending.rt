@@ -4,6 +4,8 @@ ghost use Rattle.std.specs.Option.{ForSome};
 ghost use Rattle.blk_image.specs.Bytes.{content};
 ghost use Rattle.blk_image.specs.Image.{Block as block, HasRange, byte, length_of};
 ghost use Rattle.blk_image.specs.Told.{Rises, Stays};
+ghost use Rattle.blk_format.specs.Address.{header_size};
+ghost use Rattle.blk_format.specs.Headers.{block_fields_length};
 ghost use Rattle.blk_alloc.specs.Mending.{IsPartWritten, IsWritten, PassesNeeded};
 ghost use Rattle.blk_alloc.specs.Rebuilding.{HasTheseCounters, IsCounting};
 
@@ -73,8 +75,8 @@ pub(crate) fn mend_counters<F: Folder>(
     empty: &[u32; 4],
 ) -> Result<(), Failed>
     requires four { length empty.now ≡ 4 }
-    requires long_fields { length fields.now ≡ 80 }
-    requires header { ForSome (F.told f.old).files (λ image. 8192 ≤ length_of image (block file)) }
+    requires long_fields { length fields.now ≡ block_fields_length }
+    requires header { ForSome (F.told f.old).files (λ image. header_size ≤ length_of image (block file)) }
     requires fields { ForSome (F.told f.old).files (λ image. (i : ℕ) → 16 ≤ i → i < 40 → content fields.now i ≡ byte image (block file) i) }
     ensures done { OnOk result (ForSome (F.told f.new).files (λ image. HasTheseCounters (byte image (block file)) allocations empty.now)) }
     ensures stops { ForSome (F.told f.old).files (λ from. PassesNeeded (F.told f.old) (F.told f.new) (IsCounting file allocations empty.now from)) }

@@ -4,11 +4,14 @@ ghost use Rattle.std.specs.Option.{ForSome};
 ghost use Rattle.blk_image.specs.Bytes.{content, word_bytes};
 ghost use Rattle.blk_image.specs.Image.{Block as block, byte, length_of};
 ghost use Rattle.blk_image.specs.Told.{Rises, Stays};
+ghost use Rattle.blk_format.specs.Address.{header_size};
 ghost use Rattle.blk_format.specs.BlockFiles.{is_among, max_entries_in};
-ghost use Rattle.blk_format.specs.Maps.{groups_of};
+ghost use Rattle.blk_format.specs.Headers.{block_fields_length};
+ghost use Rattle.blk_format.specs.Maps.{groups_of, map_place};
 ghost use Rattle.blk_io.specs.Faults.{IfDamaged, IfDevice};
 ghost use Rattle.blk_disk.specs.Growth.{whole_length};
 ghost use Rattle.blk_disk.specs.Tables.{Agrees, Resizes, all_files, files_of, length_in};
+ghost use Rattle.blk_alloc.specs.Changes.{map_length};
 ghost use Rattle.blk_alloc.specs.Extending.{HasItsBlocks, KeepsStanding};
 ghost use Rattle.blk_alloc.specs.Mending.{PassesNeeded};
 ghost use Rattle.blk_alloc.specs.Rebuilding.{AreFitted, AreHeaderBytes, AreItsAllocations, AreRight, HasMarksOf, IsMending, IsMendingToEnd, IsRebuilding, IsRebuilt, IsShortRead, IsShortReadOf, RemakesInProgress};
@@ -37,11 +40,11 @@ fn mend_counts<F: Folder>(
     fields: &[u8],
 ) -> Result<(), Failed>
     requires few { groups ≤ 16224 }
-    requires long_map { length map.now ≡ 8112 }
-    requires long_fields { length fields.now ≡ 80 }
-    requires header { ForSome (F.told f.old).files (λ image. 8192 ≤ length_of image (block file)) }
+    requires long_map { length map.now ≡ map_length }
+    requires long_fields { length fields.now ≡ block_fields_length }
+    requires header { ForSome (F.told f.old).files (λ image. header_size ≤ length_of image (block file)) }
     requires groups { ForSome (F.told f.old).files (λ image. groups ≡ groups_of (max_entries_in image file)) }
-    requires map { ForSome (F.told f.old).files (λ image. (i : ℕ) → i < 8112 → content map.now i ≡ byte image (block file) (80 + i)) }
+    requires map { ForSome (F.told f.old).files (λ image. (i : ℕ) → i < map_length → content map.now i ≡ byte image (block file) (map_place + i)) }
     requires fields { ForSome (F.told f.old).files (λ image. (i : ℕ) → 16 ≤ i → i < 40 → content fields.now i ≡ byte image (block file) i) }
     ensures done { OnOk result (ForSome (F.told f.new).files (λ image. HasMarksOf claims.now image file)) }
     ensures stops { ForSome (F.told f.old).files (λ from. PassesNeeded (F.told f.old) (F.told f.new) (IsMending claims.now file from)) }
@@ -67,11 +70,11 @@ fn mend_marks<F: Folder>(
     fields: &[u8],
 ) -> Result<(), Failed>
     requires few { groups ≤ 16224 }
-    requires long_map { length map.now ≡ 8112 }
-    requires long_fields { length fields.now ≡ 80 }
-    requires header { ForSome (F.told f.old).files (λ image. 8192 ≤ length_of image (block file)) }
+    requires long_map { length map.now ≡ map_length }
+    requires long_fields { length fields.now ≡ block_fields_length }
+    requires header { ForSome (F.told f.old).files (λ image. header_size ≤ length_of image (block file)) }
     requires groups { ForSome (F.told f.old).files (λ image. groups ≡ groups_of (max_entries_in image file)) }
-    requires map { ForSome (F.told f.old).files (λ image. (i : ℕ) → i < 8112 → content map.now i ≡ byte image (block file) (80 + i)) }
+    requires map { ForSome (F.told f.old).files (λ image. (i : ℕ) → i < map_length → content map.now i ≡ byte image (block file) (map_place + i)) }
     requires fields { ForSome (F.told f.old).files (λ image. (i : ℕ) → 16 ≤ i → i < 40 → content fields.now i ≡ byte image (block file) i) }
     requires updating { ForSome (F.told f.old).files (λ image. (i : ℕ) → i < 4 → byte image (block file) (56 + i) ≡ content (word_bytes 1) i) }
     ensures done { OnOk result (ForSome (F.told f.new).files (λ image. IsRebuilt claims.now image file)) }
@@ -101,9 +104,9 @@ fn mend_file<F: Folder>(
     fields: &[u8],
 ) -> Result<(), Failed>
     requires few { groups ≤ 16224 }
-    requires long_map { length map.now ≡ 8112 }
-    requires long_fields { length fields.now ≡ 80 }
-    requires header { ForSome (F.told f.old).files (λ image. 8192 ≤ length_of image (block file)) }
+    requires long_map { length map.now ≡ map_length }
+    requires long_fields { length fields.now ≡ block_fields_length }
+    requires header { ForSome (F.told f.old).files (λ image. header_size ≤ length_of image (block file)) }
     requires groups { ForSome (F.told f.old).files (λ image. groups ≡ groups_of (max_entries_in image file)) }
     requires read { ForSome (F.told f.old).files (λ image. AreHeaderBytes image file map.now fields.now) }
     ensures done { OnOk result (ForSome (F.told f.new).files (λ image. IsRebuilt claims.now image file)) }
@@ -124,7 +127,7 @@ fn mend_file<F: Folder>(
 // Reads the header of a file, and writes those of its words that aren't as claims have them.
 fn remake<F: Folder>(f: &mut F, claims: &Claims, file: u8, groups: u32) -> Result<(), Fault>
     requires few { groups ≤ 16224 }
-    requires header { ForSome (F.told f.old).files (λ image. 8192 ≤ length_of image (block file)) }
+    requires header { ForSome (F.told f.old).files (λ image. header_size ≤ length_of image (block file)) }
     requires groups { ForSome (F.told f.old).files (λ image. groups ≡ groups_of (max_entries_in image file)) }
     ensures done { OnOk result (ForSome (F.told f.new).files (λ image. IsRebuilt claims.now image file)) }
     ensures stops { ForSome (F.told f.old).files (λ from. PassesNeeded (F.told f.old) (F.told f.new) (RemakesInProgress claims.now file from)) }
