@@ -12,7 +12,7 @@ use Rattle.blk_io.specs.declared.fault.Fault.TheVariants as fault
 use Rattle.blk_io.specs.Faults.{IsShort}
 use Rattle.blk_disk.specs.declared.tables.BlockFiles.{BlockFiles}
 use Rattle.blk_disk.specs.Tables.{stands_among}
-use Rattle.blk_lru.specs.Damages.{IsCompletingDamage}
+use Rattle.blk_lru.specs.Damages.{IsPendingDamage}
 use Rattle.blk_audit.specs.declared.fault.ScanFault.{ScanFault}
 use Rattle.blk_audit.specs.declared.fault.ScanFault.TheVariants.{Device, Damaged, Memory}
 
@@ -46,9 +46,9 @@ pub record IsNodesDamage (told : Told) (damage : Damage) : Type 0 where
   pub file : ℕ
   pub short : IsShortOfNodes told file damage
 
--- a walk was damaged at the head, at a word or a node of the operation in flight, or at nodes that stand
+-- a walk met too few bytes of the head, of a word or a node of the operation in flight, or of nodes that stand
 abbrev pub IsWalkDamage : BlockFiles → Told → Damage → Type 0
-IsWalkDamage files told damage = IsShort told names.Index IndexHead.HEADS 4 damage ⊎ (IsCompletingDamage files told damage ⊎ IsNodesDamage told damage)
+IsWalkDamage files told damage = IsShort told names.Index IndexHead.HEADS 4 damage ⊎ (IsPendingDamage files told damage ⊎ IsNodesDamage told damage)
 
 -- a record that stands was read, and its bytes are too few
 pub record IsRecordDamage (files : BlockFiles) (told : Told) (damage : Damage) : Type 0 where

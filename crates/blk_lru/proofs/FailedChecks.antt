@@ -1,6 +1,6 @@
 -- Damages, as the callers see them.
 use Rattle.blk_disk.specs.Tables.{is_node_among}
-use Rattle.std.proofs.Common.{◌⊎◌, ◌≡◌, ℕ, Result, Ok, Err, subst, sym, true}
+use Rattle.std.proofs.Common.{◌⊎◌, ◌+◌, arith, ◌≡◌, ℕ, Result, Ok, Err, subst, sym, true}
 use Rattle.blk_image.specs.Told.{Told, Stays}
 use Rattle.blk_format.specs.Address.{file_selector, place}
 use Rattle.blk_format.specs.Records.{node_size}
@@ -13,7 +13,7 @@ use Rattle.blk_io.specs.declared.fault.Fault.TheVariants.{Device, Damaged}
 use Rattle.blk_io.specs.Faults.{IfDamaged, IsShort}
 use Rattle.blk_disk.specs.declared.tables.BlockFiles.{BlockFiles}
 use Rattle.blk_disk.specs.Unsealed.{IsUnsealed}
-use Rattle.blk_lru.specs.Damages.{IsWrongNode}
+use Rattle.blk_lru.specs.Damages.{IsShortNode, IsWrongNode}
 use Rattle.blk_lru.proofs.NodeWords.{node_kind}
 
 -- what holds of a damage may be weaker
@@ -33,3 +33,19 @@ short_or_unsealed (Err (Damaged damage)) files old new w stands holds stays = re
   failed = subst (λ (t : Told). IsShort t (names.Block (file_selector w)) (place w) node_size damage ⊎ IsUnsealed t w damage) (sym stays)
       (subst (λ (n : ℕ). IsShort old (names.Block (file_selector w)) (place w) n damage ⊎ IsUnsealed old w damage) (node_bytes w (node_kind files w stands)) holds);
 }
+
+-- a node is read too short
+pub short_node : {A : Type 0} (r : Result A Fault) (files : BlockFiles) (old new : Told) (w : ℕ) → is_node_among files w ≡ true → Stays old new
+    → IfDamaged r (IsShort old (names.Block (file_selector w)) (place w + 0) node_size) → IfDamaged r (IsShortNode files new)
+short_node r files old new w stands stays holds = if_damaged_weaker r few holds
+  where
+    at_place : place w + 0 ≡ place w
+    at_place = omega arith
+
+    few : (damage : Damage) → IsShort old (names.Block (file_selector w)) (place w + 0) node_size damage → IsShortNode files new damage
+    few damage short = record {
+      node = w;
+      stands = stands;
+      short = subst (λ (t : Told). IsShort t (names.Block (file_selector w)) (place w) node_size damage) (sym stays)
+          (subst (λ (n : ℕ). IsShort old (names.Block (file_selector w)) n node_size damage) at_place short);
+    }

@@ -50,6 +50,16 @@ IsTouchDamage node files old new damage = (IsListHeadDamage files old damage × 
 abbrev pub IsFlightDamage : Told → Damage → Type 0
 IsFlightDamage told damage = IsShort told names.Index IndexHead.TRANSACTION 4 damage ⊎ (IsShort told names.Index IndexHead.OPERATION 4 damage ⊎ IsShort told names.Index IndexHead.HEADS 4 damage)
 
+-- a node that stands was read whole, and its bytes are too few
+pub record IsShortNode (files : BlockFiles) (told : Told) (damage : Damage) : Type 0 where
+  pub node : ℕ
+  pub stands : is_node_among files node ≡ true
+  pub short : IsShort told (names.Block (file_selector node)) (place node) node_size damage
+
+-- too few bytes were read of a word of the operation in flight, or of a node; one that doesn't check is no damage here
+abbrev pub IsPendingDamage : BlockFiles → Told → Damage → Type 0
+IsPendingDamage files told damage = IsFlightDamage told damage ⊎ IsShortNode files told damage
+
 -- completing was damaged at a word of the operation in flight, or at a node; a word that names no node is no damage
 abbrev pub IsCompletingDamage : BlockFiles → Told → Damage → Type 0
 IsCompletingDamage files told damage = IsFlightDamage told damage ⊎ IsWrongNode files told damage

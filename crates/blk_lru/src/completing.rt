@@ -8,7 +8,7 @@ ghost use Rattle.blk_volume.specs.ListSteps.{AreOf, AllWriteWords, Seals};
 ghost use Rattle.blk_volume.specs.ListImages.{IsCompleted, completion_steps};
 ghost use Rattle.blk_io.specs.Faults.{IfDamaged, IfDevice};
 ghost use Rattle.blk_disk.specs.Tables.{Agrees, is_node_among};
-ghost use Rattle.blk_lru.specs.Damages.{IsCompletingDamage, IsWrongNode};
+ghost use Rattle.blk_lru.specs.Damages.{IsCompletingDamage, IsPendingDamage, IsShortNode};
 ghost use Rattle.blk_lru.specs.Moments.{IsMidCompletion};
 ghost use Rattle.blk_lru.specs.Nodes.{AreLinksOf, list_among};
 ghost use Rattle.blk_lru.specs.Flights.{HasFlight, HasHead, HasNeighbours, HasNodeInFlight, HasOperands};
@@ -81,7 +81,7 @@ pub fn pending<F: Folder>(f: &mut F, files: &BlockFiles) -> Result<Plan, Fault>
     ensures stays { Stays (F.told f.old) (F.told f.new) }
 
     // Too few bytes, which a folder that tells its files gives only where its index is too short or the block files don't agree with it.
-    ensures damaged { IfDamaged result (IsCompletingDamage files.now (F.told f.new)) }
+    ensures damaged { IfDamaged result (IsPendingDamage files.now (F.told f.new)) }
     ensures untold { ForSome (F.told f.old).files (IsOpen files.now) → IfDamaged result (λ _. (F.told f.old).files ≡ None) }
 
     ensures later { F.faults f.old ≤ F.faults f.new }
@@ -108,7 +108,7 @@ fn in_flight<F: Folder>(
     ensures stand { IfOk result (λ found. IfSome found (AreNodes files.now)) }
     ensures checked { OnOk result (ForSome (F.told f.old).files (HasNodeInFlight files.now)) }
     ensures stays { Stays (F.told f.old) (F.told f.new) }
-    ensures damaged { IfDamaged result (IsCompletingDamage files.now (F.told f.new)) }
+    ensures damaged { IfDamaged result (IsPendingDamage files.now (F.told f.new)) }
     ensures untold { ForSome (F.told f.old).files (IsOpen files.now) → IfDamaged result (λ _. (F.told f.old).files ≡ None) }
     ensures later { F.faults f.old ≤ F.faults f.new }
     ensures device { IfDevice result (Rises (F.faults f.old) (F.faults f.new)) }
@@ -134,7 +134,7 @@ fn counting<F: Folder>(
     ensures stand { IfOk result (λ found. IfSome found (AreNodes files.now)) }
     ensures checked { OnOk result (ForSome (F.told f.old).files (HasOperands files.now)) }
     ensures stays { Stays (F.told f.old) (F.told f.new) }
-    ensures damaged { IfDamaged result (IsCompletingDamage files.now (F.told f.new)) }
+    ensures damaged { IfDamaged result (IsPendingDamage files.now (F.told f.new)) }
     ensures untold { ForSome (F.told f.old).files (IsOpen files.now) → IfDamaged result (λ _. (F.told f.old).files ≡ None) }
     ensures later { F.faults f.old ≤ F.faults f.new }
     ensures device { IfDevice result (Rises (F.faults f.old) (F.faults f.new)) }
@@ -175,7 +175,7 @@ fn usable_head<F: Folder>(f: &mut F, files: &BlockFiles) -> Result<Usable<Option
     ensures stand { IfOk result (FoundHeadStands files.now) }
     ensures checked { OnOk result (ForSome (F.told f.old).files (HasHead files.now)) }
     ensures stays { Stays (F.told f.old) (F.told f.new) }
-    ensures damaged { IfDamaged result (IsCompletingDamage files.now (F.told f.new)) }
+    ensures damaged { IfDamaged result (IsPendingDamage files.now (F.told f.new)) }
     ensures untold { ForSome (F.told f.old).files (IsOpen files.now) → IfDamaged result (λ _. (F.told f.old).files ≡ None) }
     ensures later { F.faults f.old ≤ F.faults f.new }
     ensures device { IfDevice result (Rises (F.faults f.old) (F.faults f.new)) }
@@ -202,7 +202,7 @@ fn usable_links<F: Folder>(
     ensures stand { IfOk result (FoundNeighboursStand files.now) }
     ensures checked { OnOk result (ForSome (F.told f.old).files (λ image. HasNeighbours files.now image (list_among files.now image).transaction)) }
     ensures stays { Stays (F.told f.old) (F.told f.new) }
-    ensures damaged { IfDamaged result (IsWrongNode files.now (F.told f.new)) }
+    ensures damaged { IfDamaged result (IsShortNode files.now (F.told f.new)) }
     ensures untold { ForSome (F.told f.old).files (Agrees files.now) → IfDamaged result (λ _. (F.told f.old).files ≡ None) }
     ensures later { F.faults f.old ≤ F.faults f.new }
     ensures device { IfDevice result (Rises (F.faults f.old) (F.faults f.new)) }

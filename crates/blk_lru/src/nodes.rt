@@ -8,7 +8,7 @@ ghost use Rattle.blk_format.specs.Address.{file_selector, place};
 ghost use Rattle.blk_format.specs.Records.{checks, node_seal_place, node_size};
 ghost use Rattle.blk_io.specs.Faults.{IfDamaged, IfDevice};
 ghost use Rattle.blk_disk.specs.Tables.{Agrees, is_node_among};
-ghost use Rattle.blk_lru.specs.Damages.{IsNodeLinkDamage, IsWrongNode};
+ghost use Rattle.blk_lru.specs.Damages.{IsNodeLinkDamage, IsShortNode};
 ghost use Rattle.blk_lru.specs.Nodes.{link_at, list_among, FindsNode, HasNode, IsLinkPlace};
 
 use blk_addr::Addr;
@@ -65,7 +65,7 @@ pub(crate) fn checked<F: Folder>(
     ensures stands { IfOk result (λ found. IfSome found (λ links. is_node_among files.now links.node ≡ true)) }
     ensures checked { OnOk result (ForSome (F.told f.old).files (λ image. HasNode files.now image word)) }
     ensures stays { Stays (F.told f.old) (F.told f.new) }
-    ensures damaged { IfDamaged result (IsWrongNode files.now (F.told f.new)) }
+    ensures damaged { IfDamaged result (IsShortNode files.now (F.told f.new)) }
     ensures untold { ForSome (F.told f.old).files (Agrees files.now) → IfDamaged result (λ _. (F.told f.old).files ≡ None) }
     ensures later { F.faults f.old ≤ F.faults f.new }
     ensures device { IfDevice result (Rises (F.faults f.old) (F.faults f.new)) }
