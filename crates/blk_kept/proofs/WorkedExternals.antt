@@ -18,17 +18,17 @@ use Rattle.blk_kept.proofs.WorkedKept.{worked-keeps, worked_folder}
 use Rattle.blk_kept.proofs.WorkedState.{worked, worked_layout}
 
 -- the word of file 1
-abbrev first_file : ℕ
+abbrev pub first_file : ℕ
 first_file = 0x80000001
 
-abbrev with_empty : Image
+abbrev pub with_empty : Image
 with_empty = applied (SetLength (External 1) 0) worked_folder
 
 -- it is there, and the index has its number
-abbrev made_folder : Image
+abbrev pub made_folder : Image
 made_folder = applied (Word Index 16 (word_bytes 1)) with_empty
 
-is-external : (kind_of first_file ≡ external) × (external_number first_file ≡ 1)
+pub is-external : (kind_of first_file ≡ external) × (external_number first_file ≡ 1)
 unfolding kind_of external_number
 is-external = (refl, refl)
 
@@ -53,7 +53,7 @@ made : AddsExternal worked_folder first_file made_folder
 made = made-added worked_folder made_folder first_file worked-keeps.entries.well_formed is-external.0 making its-file.0 its-file.1
 
 -- it is unlinked
-file_is_unlinked : KeepsUncounted worked worked_layout (first_file ∷ []) made_folder
+pub file_is_unlinked : KeepsUncounted worked worked_layout (first_file ∷ []) made_folder
 file_is_unlinked = made-unlinked first_file worked_folder made_folder made worked worked_layout [] worked-keeps.entries
 
 -- and deleted
