@@ -81,6 +81,8 @@ pub mod WorkedRecord
 pub mod WorkedCreate
 pub mod WorkedCut
 pub mod WorkedChanges
+pub mod BehindOut
+pub mod WorkedChains
 pub mod WorkedExternals
 pub mod WorkedParts
 pub mod WorkedStops
