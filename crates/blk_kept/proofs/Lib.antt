@@ -92,6 +92,7 @@ pub mod WorkedFreed
 pub mod WorkedPartlyFreed
 pub mod WorkedFreeing
 pub mod WorkedNewFile
+pub mod WorkedEnds
 pub mod RestGroups
 pub mod RestRoom
 pub mod RestGrowth

@@ -3,6 +3,7 @@ use Rattle.std.proofs.Common.{◌≡◌, ℕ, List, [], ◌∷◌, ◌++◌, ref
 use Rattle.std.specs.Prelude.{not, ◌==◌}
 use Rattle.blk_image.specs.Image.{Image}
 use Rattle.blk_model.specs.EvictionLaws.{EvictsFirst}
+use Rattle.blk_model.specs.Holding.{rest}
 use Rattle.blk_model.specs.Items.{main, part}
 use Rattle.blk_model.specs.Request.{to_trim}
 use Rattle.blk_model.specs.Room.{Group, whole, without}
@@ -11,14 +12,17 @@ use Rattle.blk_model.proofs.Computing.{computing}
 use Rattle.blk_volume.specs.Layout.{Layout}
 use Rattle.blk_volume.specs.ListView.{put}
 use Rattle.blk_volume.specs.Sound.{words_of}
+use Rattle.blk_kept.specs.Changes.{Finds}
 use Rattle.blk_kept.specs.Commands.{MayStop}
 use Rattle.blk_kept.specs.Keeping.{KeepsUncounted}
 use Rattle.blk_kept.specs.PartlyOut.{IsOneMoreOut, KeepsPartlyOut, chains_but}
 use Rattle.blk_kept.specs.RemovalLaws.{layout_removed}
 use Rattle.blk_kept.proofs.GoingOut.{IsAloneIn, goes-out, unchained, unlisted}
+use Rattle.blk_kept.proofs.Keeping.{kept-found}
 use Rattle.blk_kept.proofs.OneMoreOut.{one-more-goes}
 use Rattle.blk_kept.proofs.PartlyOut.{kept-begin}
 use Rattle.blk_kept.proofs.PartlyOutStops.{own-items-leave, partly-out-groups-stop}
+use Rattle.blk_kept.proofs.Stopping.{stop-evicted}
 use Rattle.blk_kept.proofs.WorkedKept.{worked-keeps}
 use Rattle.blk_kept.proofs.WorkedRemovals.{IsSameWithout, b-ready, b_is_evicted, but_main, each-chain, not-both, without_b}
 use Rattle.blk_kept.proofs.WorkedState.{chain_of, doomed_object, nodes, records, sparse_object, the_parent, the_plain, worked, worked_layout}
@@ -47,6 +51,11 @@ left_layout = layout_removed worked_layout (nodes 2) (records 2)
 
 left-keeps : KeepsUncounted left left_layout (words_of the_plain ++ []) without_b
 left-keeps = subst (λ (m : State). KeepsUncounted m left_layout (words_of the_plain ++ []) without_b) left-is b_is_evicted
+
+-- the Trim may be stopped there
+once_evicted : MayStop worked 100 (to_trim 0) without_b
+once_evicted = stop-evicted worked 100 (to_trim 0) first others without_b worked-keeps.entries.valid evicts_both
+    (subst (λ (m : State). Finds (rest m) without_b) (sym left-is) (left-keeps.well_formed, kept-found left left_layout (words_of the_plain ++ []) without_b left-keeps))
 
 -- ---- then the main item of `a`
 
