@@ -25,6 +25,7 @@ use Rattle.blk_format.proofs.Keeping.{none_both, none_parts, undamaged_still}
 use Rattle.blk_laws.proofs.claims.ByteChanges.{same-links}
 use Rattle.blk_laws.proofs.claims.ClaimLists.{no-claim}
 use Rattle.blk_laws.proofs.claims.Files.{headers-change}
+use Rattle.blk_volume.specs.Sound.{AreLongEnough}
 use Rattle.blk_kept.specs.AllocationLaws.{AreAllocated, AreFreed}
 use Rattle.blk_kept.specs.Changes.{AddsAllocation, RemovesAllocation}
 use Rattle.blk_kept.specs.Keeping.{IsMapped, all_loaded, words_in_use}
@@ -135,7 +136,7 @@ module _ (from : Image) where
   head-word : (m i : ℕ) → i + 4 ≤ 16 → word freed_folder (Block m) i ≡ word from (Block m) i
   head-word m i low = same_word_outside touched from freed_folder (Block m) i same (λ k from below. early m k (omega arith))
 
-  still-formed : IsWellFormed from → IsWellFormed freed_folder
+  pub still-formed : IsWellFormed from → IsWellFormed freed_folder
   unfolding head_checks list_checks
   still-formed well =
       let p = none_parts (head_checks (byte from Index) (length_of from Index)) (list_checks (byte from Index) ++ block_checks from) well in
@@ -261,6 +262,65 @@ module _ (from : Image) (header : (i : ℕ) → i < 8192 → byte from (Block 3)
     stays = stays-whole from;
   }
 
+-- ---- and seen the other way it is allocated, where the word is among those that are in use
+
+module _ (from : Image) (header : (i : ℕ) → i < 8192 → byte from (Block 3) i ≡ byte worked_folder (Block 3) i) (size : length_of from (Block 3) ≡ 4202496)
+    (words rest : List ℕ) (first_word : filter (is_in_file 3) words ≡ index_word ∷ rest) (mapped : IsMapped from words 3) (linked_3 : linked_as from 3 ≡ Some 4) (long_enough : AreLongEnough from) (well : IsWellFormed from) where
+  abbrev bare : Image
+  bare = freed_folder from
+
+  back : SameOutside touched bare from
+  back = let same_outside = same from in record { bytes = λ file i out. sym (same_outside.bytes file i out); lengths = λ file out. sym (same_outside.lengths file out); files = λ file out. sym (same_outside.files file out) }
+
+  no-more : (xs : List ℕ) → AreAllocations from 3 (index_word ∷ xs) → xs ≡ []
+  no-more [] are = refl
+  no-more (x ∷ xs) are = absurd (let c : ◌≡◌ {A = ℕ} 1 (suc (suc (length xs))) = sym (counted-one from header size) ∙ are.counted in omega (arith, c))
+
+  its-allocation : AreAllocations from 3 (index_word ∷ [])
+  its-allocation = let all : AreAllocations from 3 (index_word ∷ rest) = subst (AreAllocations from 3) first_word mapped.allocations in subst (λ (ws : List ℕ). AreAllocations from 3 (index_word ∷ ws)) (no-more rest all) all
+
+  none-before : (xs : List ℕ) → AreAllocations bare 3 xs → xs ≡ []
+  none-before [] are = refl
+  none-before (x ∷ xs) are = absurd (let c : ◌≡◌ {A = ℕ} 0 (suc (length xs)) = sym (none-allocated from header size) ∙ are.counted in omega (arith, c))
+
+  back-file : (n : ℕ) → n ≢ 3 → KeepsFile bare from n
+  unfolding EmptyAgrees
+  back-file n apart = record {
+    allocations = λ ws are. record {
+      stand = subst (λ (f : ℕ → Bool). All (λ w. f w ≡ true) ws) (stands-same from) are.stand;
+      here = are.here;
+      apart = are.apart;
+      marks = λ b small. ap (λ (f : ℕ → ℕ). is_block_marked_at f b) (sym (same-file from n apart)) ∙ are.marks b small;
+      counted = ap allocations_of (sym (same-file from n apart)) ∙ are.counted;
+    };
+    empty = λ agrees i small. ap (λ (f : ℕ → ℕ). empty_of f i) (sym (same-file from n apart)) ∙ agrees i small
+        ∙ ap (λ (f : ℕ → ℕ). groups_with (is_block_marked_at f) (groups_of (max_entries_in bare n)) (i + 1)) (same-file from n apart)
+        ∙ ap (λ (m : ℕ). groups_with (is_block_marked from n) (groups_of m) (i + 1)) (blocks-same from n);
+  }
+
+  pub are-allocated : AreAllocated bare index_word from
+  unfolding kind_of file_selector
+  are-allocated = record {
+    block_kind = λ e. (let z : ◌≡◌ {A = ℕ} 4 0 = e in cc);
+    footprint = touched;
+    same = back;
+    index = λ i. refl;
+    apart = λ n i other late. elsewhere n i other;
+    sizes = λ n other. refl;
+    linked = λ n other. sym (linked-same from n);
+    allocations = λ there ws are. subst (λ (xs : List ℕ). AreAllocations from 3 (index_word ∷ xs)) (sym (none-before ws are)) its-allocation;
+    fresh = λ none. its-allocation;
+    empty = mapped.empty;
+    updating = mapped.updating;
+    stands = its-allocation.stand 0 0 (omega arith);
+    long_enough = long_enough 3 4 linked_3;
+    elsewhere = λ n other linked. back-file n other;
+    stays = record {
+      grown = headers-change touched bare from (record { index = λ i shown. refl; extents = extents; suffix = λ n i late. clear n i (grind (arith, nat_tests)); externals = λ n i. refl; external_sizes = λ n. refl }) back (λ n. let l = (same from).lengths (Block n) refl in omega (arith, l));
+      formed = λ still. well;
+    };
+  }
+
 -- ---- freed
 
 abbrev bare_folder : Image
@@ -272,65 +332,17 @@ index_is_freed = are-freed worked_folder (λ i small. refl) worked-lengths.3
 pub index_is_removed : RemovesAllocation worked_folder index_word bare_folder
 index_is_removed = freed-removed worked_folder bare_folder index_word index_is_freed
 
--- ---- allocated, the other way round
-
-back : SameOutside touched bare_folder worked_folder
-back = let same_outside = same worked_folder in record { bytes = λ file i out. sym (same_outside.bytes file i out); lengths = λ file out. sym (same_outside.lengths file out); files = λ file out. sym (same_outside.files file out) }
+-- ---- allocated
 
 linked-3 : linked_as worked_folder 3 ≡ Some 4
 linked-3 = linked-are 3
-
-its-map : IsMapped worked_folder (words_in_use [] (all_loaded worked worked_layout (2 ∷ []))) 3
-its-map = worked-files.mapped 3 (ap is_some linked-3)
 
 one-word : filter (is_in_file 3) (words_in_use [] (all_loaded worked worked_layout (2 ∷ []))) ≡ index_word ∷ []
 unfolding is_in_file kind_of file_selector
 one-word = refl
 
-its-allocation : AreAllocations worked_folder 3 (index_word ∷ [])
-its-allocation = subst (AreAllocations worked_folder 3) one-word its-map.allocations
-
-none-before : (words : List ℕ) → AreAllocations bare_folder 3 words → words ≡ []
-none-before [] are = refl
-none-before (x ∷ xs) are = absurd (let c : ◌≡◌ {A = ℕ} 0 (suc (length xs)) = sym (none-allocated worked_folder (λ i small. refl) worked-lengths.3) ∙ are.counted in omega (arith, c))
-
-back-file : (n : ℕ) → n ≢ 3 → KeepsFile bare_folder worked_folder n
-unfolding EmptyAgrees
-back-file n apart = record {
-  allocations = λ words are. record {
-    stand = subst (λ (f : ℕ → Bool). All (λ w. f w ≡ true) words) (stands-same worked_folder) are.stand;
-    here = are.here;
-    apart = are.apart;
-    marks = λ b small. ap (λ (f : ℕ → ℕ). is_block_marked_at f b) (sym (same-file worked_folder n apart)) ∙ are.marks b small;
-    counted = ap allocations_of (sym (same-file worked_folder n apart)) ∙ are.counted;
-  };
-  empty = λ agrees i small. ap (λ (f : ℕ → ℕ). empty_of f i) (sym (same-file worked_folder n apart)) ∙ agrees i small
-      ∙ ap (λ (f : ℕ → ℕ). groups_with (is_block_marked_at f) (groups_of (max_entries_in bare_folder n)) (i + 1)) (same-file worked_folder n apart)
-      ∙ ap (λ (m : ℕ). groups_with (is_block_marked worked_folder n) (groups_of m) (i + 1)) (blocks-same worked_folder n);
-}
-
 index_is_allocated : AreAllocated bare_folder index_word worked_folder
-unfolding kind_of file_selector
-index_is_allocated = record {
-  block_kind = λ e. (let z : ◌≡◌ {A = ℕ} 4 0 = e in cc);
-  footprint = touched;
-  same = back;
-  index = λ i. refl;
-  apart = λ n i other late. elsewhere n i other;
-  sizes = λ n other. refl;
-  linked = λ n other. sym (linked-same worked_folder n);
-  allocations = λ there words are. subst (λ (ws : List ℕ). AreAllocations worked_folder 3 (index_word ∷ ws)) (sym (none-before words are)) its-allocation;
-  fresh = λ none. its-allocation;
-  empty = its-map.empty;
-  updating = its-map.updating;
-  stands = its-allocation.stand 0 0 (omega arith);
-  long_enough = worked-keeps.entries.files.long_enough 3 4 linked-3;
-  elsewhere = λ n other linked. back-file n other;
-  stays = record {
-    grown = headers-change touched bare_folder worked_folder (record { index = λ i shown. refl; extents = extents; suffix = λ n i late. clear n i (grind (arith, nat_tests)); externals = λ n i. refl; external_sizes = λ n. refl }) back (λ n. let l = (same worked_folder).lengths (Block n) refl in omega (arith, l));
-    formed = λ well. worked-keeps.entries.well_formed;
-  };
-}
+index_is_allocated = are-allocated worked_folder (λ i small. refl) worked-lengths.3 (words_in_use [] (all_loaded worked worked_layout (2 ∷ []))) [] one-word (worked-files.mapped 3 (ap is_some linked-3)) linked-3 worked-keeps.entries.files.long_enough worked-keeps.entries.well_formed
 
 index_is_added : AddsAllocation bare_folder index_word worked_folder
 index_is_added = allocated-added bare_folder worked_folder index_word (still-formed worked_folder worked-keeps.entries.well_formed) index_is_allocated
