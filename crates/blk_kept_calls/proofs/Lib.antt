@@ -1,2 +1,4 @@
 pub mod Freeing
 pub mod Allocating
+pub mod FreeNumbers
+pub mod ExternalFiles
