@@ -2,3 +2,4 @@ pub mod Freeing
 pub mod Allocating
 pub mod FreeNumbers
 pub mod ExternalFiles
+pub mod Lists

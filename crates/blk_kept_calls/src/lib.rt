@@ -2,6 +2,7 @@
 #![tactic(auto)]
 
 ghost use Rattle.blk_kept_calls.specs.ExternalFiles.{CreationsAdd, CreationsFindTheSame, DeletionsFindTheSame, DeletionsRemove, KeptStatesHaveFreeNumbers};
+ghost use Rattle.blk_kept_calls.specs.Lists.{InsertsAreDone, InsertsArePartly, ListedNodesAreInTheList, NewNodesCanBeInserted, RemovalsAreDone, RemovalsArePartly, TouchesAreDone, TouchesArePartly};
 ghost use Rattle.blk_kept_calls.specs.Blocks.{AllocationsAdd, AllocationsStayWhole, FreesRemove, FreesStayWhole, KeptFilesAreCounted, WholeFoldersFindTheSame};
 
 /// A folder that stays whole at each word of a call, as in an allocation and a free, has what was at rest found at each, whatever is unlinked.
@@ -33,4 +34,16 @@ pub fn external_files_are_added()
 pub fn external_files_are_gone()
     ensures find { DeletionsFindTheSame }
     ensures removed { DeletionsRemove }
+{}
+
+/// Where a state is kept the node of a new entry can be inserted, and that of a listed item is in the list. At each word of an insert, a removal and a touch a front of its writes is made, and in the end it is done.
+pub fn nodes_are_listed()
+    ensures new { NewNodesCanBeInserted }
+    ensures listed { ListedNodesAreInTheList }
+    ensures inserting { InsertsArePartly }
+    ensures inserted { InsertsAreDone }
+    ensures removing { RemovalsArePartly }
+    ensures removed { RemovalsAreDone }
+    ensures touching { TouchesArePartly }
+    ensures touched { TouchesAreDone }
 {}
