@@ -3,3 +3,4 @@ pub mod Allocating
 pub mod FreeNumbers
 pub mod ExternalFiles
 pub mod Lists
+pub mod Marks

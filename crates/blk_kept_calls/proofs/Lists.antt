@@ -33,7 +33,7 @@ listed-amid state layout unlinked image item k listed =
 -- ---- what is told
 
 -- the folder after steps that were made is the one that is told
-told-after : (old new : Told) (steps : List TrailStep) (from image : Image) → Applies old new steps → old.files ≡ Some from → new.files ≡ Some image → after steps from ≡ image
+pub told-after : (old new : Told) (steps : List TrailStep) (from image : Image) → Applies old new steps → old.files ≡ Some from → new.files ≡ Some image → after steps from ≡ image
 told-after old new steps from image applies there is = sym (some_inj (sym is ∙ applies.files ∙ ap (option_map (after steps)) there))
 
 -- an open folder of bytes can be written

@@ -1,3 +1,4 @@
 pub mod Blocks
 pub mod ExternalFiles
 pub mod Lists
+pub mod Marks

@@ -3,6 +3,7 @@
 
 ghost use Rattle.blk_kept_calls.specs.ExternalFiles.{CreationsAdd, CreationsFindTheSame, DeletionsFindTheSame, DeletionsRemove, KeptStatesHaveFreeNumbers};
 ghost use Rattle.blk_kept_calls.specs.Lists.{InsertsAreDone, InsertsArePartly, ListedNodesAreInTheList, NewNodesCanBeInserted, RemovalsAreDone, RemovalsArePartly, TouchesAreDone, TouchesArePartly};
+ghost use Rattle.blk_kept_calls.specs.Marks.{KeptNodesCheck, LinksAreInFront, LinksComeInFront, MarksAreBeingSet, MarksAreSet, NodesCheckAsRecords};
 ghost use Rattle.blk_kept_calls.specs.Blocks.{AllocationsAdd, AllocationsStayWhole, FreesRemove, FreesStayWhole, KeptFilesAreCounted, WholeFoldersFindTheSame};
 
 /// A folder that stays whole at each word of a call, as in an allocation and a free, has what was at rest found at each, whatever is unlinked.
@@ -46,4 +47,18 @@ pub fn nodes_are_listed()
     ensures removed { RemovalsAreDone }
     ensures touching { TouchesArePartly }
     ensures touched { TouchesAreDone }
+{}
+
+/// Where a state is kept each node of it checks, as `set_dirty` and `set_clean` ask. At each word of them the dirty word is being set, and in the end it is set.
+pub fn dirty_words_are_set()
+    ensures kept { KeptNodesCheck }
+    ensures checks { NodesCheckAsRecords }
+    ensures each { MarksAreBeingSet }
+    ensures set { MarksAreSet }
+{}
+
+/// At each word of a link in front nothing has changed, or the record is linked, and in the end it is.
+pub fn records_are_linked()
+    ensures each { LinksComeInFront }
+    ensures linked { LinksAreInFront }
 {}
