@@ -4,3 +4,4 @@ pub mod FreeNumbers
 pub mod ExternalFiles
 pub mod Lists
 pub mod Marks
+pub mod Entries

@@ -2,3 +2,4 @@ pub mod Blocks
 pub mod ExternalFiles
 pub mod Lists
 pub mod Marks
+pub mod Entries

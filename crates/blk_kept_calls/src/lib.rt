@@ -4,6 +4,7 @@
 ghost use Rattle.blk_kept_calls.specs.ExternalFiles.{CreationsAdd, CreationsFindTheSame, DeletionsFindTheSame, DeletionsRemove, KeptStatesHaveFreeNumbers};
 ghost use Rattle.blk_kept_calls.specs.Lists.{InsertsAreDone, InsertsArePartly, ListedNodesAreInTheList, NewNodesCanBeInserted, RemovalsAreDone, RemovalsArePartly, TouchesAreDone, TouchesArePartly};
 ghost use Rattle.blk_kept_calls.specs.Marks.{KeptNodesCheck, LinksAreInFront, LinksComeInFront, MarksAreBeingSet, MarksAreSet, NodesCheckAsRecords};
+ghost use Rattle.blk_kept_calls.specs.Entries.{NewEntriesChangeTheirOwn, WritingEntriesKeepsStates};
 ghost use Rattle.blk_kept_calls.specs.Blocks.{AllocationsAdd, AllocationsStayWhole, FreesRemove, FreesStayWhole, KeptFilesAreCounted, WholeFoldersFindTheSame};
 
 /// A folder that stays whole at each word of a call, as in an allocation and a free, has what was at rest found at each, whatever is unlinked.
@@ -61,4 +62,10 @@ pub fn dirty_words_are_set()
 pub fn records_are_linked()
     ensures each { LinksComeInFront }
     ensures linked { LinksAreInFront }
+{}
+
+/// At each word of the writing of a new entry nothing but what its words name changes, so each state that is kept with them unlinked is kept.
+pub fn new_entries_are_written()
+    ensures own { NewEntriesChangeTheirOwn }
+    ensures kept { WritingEntriesKeepsStates }
 {}
