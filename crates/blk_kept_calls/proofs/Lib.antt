@@ -5,3 +5,4 @@ pub mod ExternalFiles
 pub mod Lists
 pub mod Marks
 pub mod Entries
+pub mod Chains
