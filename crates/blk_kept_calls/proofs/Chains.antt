@@ -7,7 +7,9 @@ use Rattle.std.proofs.lemmas.Nat.{mod_below}
 use Rattle.blk_image.specs.Image.{AreBytes, Image}
 use Rattle.blk_image.proofs.Words.{word-fits}
 use Rattle.blk_model.specs.State.{State}
+use Rattle.blk_format.specs.Address.{blocks_256, kind_of}
 use Rattle.blk_format.specs.BlockFiles.{is_among}
+use Rattle.blk_format.specs.Sealed.{RecordChecks}
 use Rattle.blk_format.specs.Records.{entry_in}
 use Rattle.blk_format.proofs.SealedRecords.{whole_update}
 use Rattle.blk_volume.specs.Chains.{Chain, IsChain, Linked, bucket_at, bucket_of_hash, chain, chain_from, file_and_block, is_of_bucket, is_reached}
@@ -17,18 +19,19 @@ use Rattle.blk_volume.specs.ListView.{Distinct}
 use Rattle.blk_volume.specs.Loads.{Loaded}
 use Rattle.blk_volume.specs.View.{RecordFields, StoreView, entry_at, store_of}
 use Rattle.blk_laws.proofs.chains.Chains.{chain-is}
-use Rattle.blk_laws.proofs.chains.ChainWords.{shown-fields}
+use Rattle.blk_laws.proofs.chains.ChainWords.{record_checks, shown-fields}
+use Rattle.blk_laws.proofs.updates.StillShown.{core-standing, standing-parts}
 use Rattle.blk_laws.proofs.chains.ShortChains.{distinct-map}
 use Rattle.blk_laws.proofs.lists.Lists.{has_not}
 use Rattle.blk_laws.proofs.states.Bare.{no-record}
 use Rattle.blk_laws.proofs.updates.Records.{follows-written}
-use Rattle.blk_chain.specs.Unlinking.{IsSealedAgain, IsUnlinked, StandsBehind, next_record, without_record}
+use Rattle.blk_chain.specs.Unlinking.{BeforeChecks, CanBeUnlinked, IsSealedAgain, IsUnlinked, StandsBehind, next_record, without_record}
 use Rattle.blk_chain.proofs.Pairs.{chain-words}
 use Rattle.blk_kept.specs.Keeping.{KeepsUncounted}
 use Rattle.blk_kept.specs.RemovalLaws.{IsRemovalDone, chains_without}
 use Rattle.blk_kept.proofs.GoingOut.{chain-same}
 use Rattle.blk_kept.proofs.Links.{next-links, table-links}
-use Rattle.blk_kept_calls.specs.Chains.{UnlinkedRecordsAreOut}
+use Rattle.blk_kept_calls.specs.Chains.{KeptRecordsCanBeUnlinked, UnlinkedRecordsAreOut}
 
 -- ---- what a walk reaches where it ends at 0
 
@@ -187,3 +190,40 @@ records-out state layout unlinked from between image node was before prefix suff
       whole state layout unlinked from between image node was before prefix suffix k done bytes stands u again (bucket_at between was.contents) (small state layout unlinked from between image node was before prefix suffix k done bytes stands u again) in
       in-bucket between (bucket_at between was.contents) v (of-bucket (store_of between) (bucket_at between was.contents) ((store_of between).table (bucket_at between was.contents)) (layout.chains (bucket_at between was.contents)) v chain_is.linked
       (subst (λ (o : Option ℕ). is_among (layout.chains (bucket_at between was.contents)) (in_front o was.contents) ≡ true) is (front-among (layout.chains (bucket_at between was.contents)) was.contents before prefix suffix stands)))
+
+-- ---- what the call asks
+
+module _ (state : State) (layout : Layout) (unlinked : List ℕ) (from between : Image) (node : ℕ) (was : Loaded) (before : Option ℕ) (prefix suffix : List ℕ) (k : KeepsUncounted state layout unlinked from) (done : IsRemovalDone from node between) (bytes : AreBytes between)
+    (stands : StandsBehind (layout.chains (bucket_at between was.contents)) was.contents before prefix suffix) where
+  abbrev its_bucket : ℕ
+  its_bucket = bucket_at between was.contents
+
+  its-chain : IsChain (store_of between) its_bucket (layout.chains its_bucket)
+  its-chain = chain-same (store_of from) (store_of between) its_bucket (layout.chains its_bucket) done.partly.shown.store (k.represents.holds.shows.chains its_bucket (mod_below (entry_at between was.contents).hash 65536 (lit< tt)))
+
+  words-are : layout.chains its_bucket ≡ (chain (store_of between) its_bucket).reached
+  words-are = sym (chain-words between its_bucket (layout.chains its_bucket) its-chain)
+
+  can-be : CanBeUnlinked was.contents before between
+  can-be = record {
+    whole = subst (IsChain (store_of between) its_bucket) words-are its-chain;
+    prefix = prefix;
+    suffix = suffix;
+    stands = subst (λ (words : List ℕ). StandsBehind words was.contents before prefix suffix) words-are stands;
+  }
+
+  checks-of : (v : ℕ) → is_among (layout.chains its_bucket) v ≡ true → RecordChecks v between
+  checks-of v among =
+      let i = in-bucket between its_bucket v (of-bucket (store_of between) its_bucket ((store_of between).table its_bucket) (layout.chains its_bucket) v its-chain.linked among) in
+      let kind : kind_of v ≡ blocks_256 = (standing-parts between blocks_256 v (core-standing between v i.fields i.here)).1 in
+      record_checks between v bytes kind (ap (λ (f : RecordFields). f.checks) (shown-fields between v i.fields i.here) ∙ i.good)
+
+before-checks : (words : List ℕ) (w : ℕ) (before : Option ℕ) (prefix suffix : List ℕ) (image : Image) → StandsBehind words w before prefix suffix → ((v : ℕ) → is_among words v ≡ true → RecordChecks v image) → BeforeChecks before image
+before-checks words w None prefix suffix image stands each = tt
+before-checks words w (Some v) prefix suffix image stands each = each v (ap (λ (xs : List ℕ). is_among xs v) stands ∙ among-front prefix v (w ∷ suffix))
+
+pub can-be-unlinked : KeptRecordsCanBeUnlinked
+can-be-unlinked state layout unlinked from between node was before prefix suffix k done bytes stands = (
+  can-be state layout unlinked from between node was before prefix suffix k done bytes stands,
+  before-checks (layout.chains (bucket_at between was.contents)) was.contents before prefix suffix between stands (checks-of state layout unlinked from between node was before prefix suffix k done bytes stands),
+)
