@@ -7,7 +7,7 @@ use Rattle.blk_image.specs.Steps.{after}
 use Rattle.blk_image.proofs.Images.{length-after_write}
 use Rattle.blk_model.specs.Effects.{doomed, sparse_after, used, used_all, with_slot}
 use Rattle.blk_model.specs.Items.{main, part}
-use Rattle.blk_model.specs.Request.{to_close, to_doom, to_open, to_sparse_write, to_trim, to_write}
+use Rattle.blk_model.specs.Request.{to_close, to_doom, to_open, to_read, to_sparse_write, to_trim, to_write}
 use Rattle.blk_model.specs.Room.{total, whole, without}
 use Rattle.blk_model.specs.ListSteps.{uses_of}
 use Rattle.blk_model.specs.State.{State}
@@ -15,31 +15,37 @@ use Rattle.blk_model.specs.Step.{step}
 use Rattle.blk_model.proofs.Computing.{computing}
 use Rattle.blk_model.proofs.StopRows.{codes_are_bytes}
 use Rattle.blk_format.proofs.Finished.{whole_index}
-use Rattle.blk_volume.specs.Layout.{Layout}
+use Rattle.blk_volume.specs.Layout.{IsChange, Layout}
 use Rattle.blk_volume.specs.ListImages.{steps_of_touch}
 use Rattle.blk_volume.specs.Sound.{words_of}
+use Rattle.blk_kept.specs.BoundLaws.{HaveFewAllocations}
 use Rattle.blk_kept.specs.CommandEnds.{IsNamedBy, after_write}
 use Rattle.blk_kept.specs.CommandStates.{amidst, in_order, with_room}
 use Rattle.blk_kept.specs.CounterLaws.{counted_bytes}
 use Rattle.blk_kept.specs.DoomLaws.{layout_doomed}
 use Rattle.blk_kept.specs.Keeping.{Keeps, KeepsUncounted}
 use Rattle.blk_kept.specs.ListLaws.{IsTouchDone, with_used}
+use Rattle.blk_kept.specs.NewPartLaws.{with_bit_of}
+use Rattle.blk_kept.specs.OneCallLaws.{Names}
 use Rattle.blk_kept.specs.ObjectLaws.{layout_after}
 use Rattle.blk_kept.specs.RemovalLaws.{layout_removed}
+use Rattle.blk_kept.proofs.Bounds.{leave-room}
 use Rattle.blk_kept.proofs.Counters.{counters-count}
 use Rattle.blk_kept.proofs.DoneSteps.{touch-done}
+use Rattle.blk_kept.proofs.NewParts.{noted-changes}
 use Rattle.blk_kept.proofs.NextStates.{closes-of-many-next, doomed-writes-next, dooms-next, empty-sparse-writes-next, sparse-writes-next, trims-next, writes-next}
-use Rattle.blk_kept.proofs.OneCalls.{opens-end-by-touch}
+use Rattle.blk_kept.proofs.OneCalls.{doomed-reads-end, opens-end-by-touch}
 use Rattle.blk_kept.proofs.Touched.{touch-counts}
 use Rattle.blk_kept.proofs.WorkedChanges as changes
 use Rattle.blk_kept.proofs.WorkedCreate.{index-word-is, with_index_word}
 use Rattle.blk_kept.proofs.WorkedCut as dead
 use Rattle.blk_kept.proofs.WorkedDooms.{b_is_doomed, both, both-keeps, both-writable, both_folder, doomed_b}
+use Rattle.blk_kept.proofs.WorkedKept.{worked-keeps, worked_folder}
 use Rattle.blk_kept.proofs.WorkedMarks.{unsettled_layout}
 use Rattle.blk_kept.proofs.WorkedParts.{dirty-writable, dirty_folder, dirty_layout, unsettled, unsettled-keeps, unsettled_object}
 use Rattle.blk_kept.proofs.WorkedRecord.{emptied, emptied_folder}
 use Rattle.blk_kept.proofs.WorkedRemovals.{b_is_evicted, without_b}
-use Rattle.blk_kept.proofs.WorkedState.{doomed_object, nodes, plain_object, records, sparse_object, the_plain, worked, worked_layout}
+use Rattle.blk_kept.proofs.WorkedState.{doomed_object, nodes, parent_index, plain_object, records, sparse_object, the_parent, the_plain, worked, worked-lies, worked_layout}
 
 -- ---- what is kept is counted once the three counters are written
 
@@ -188,3 +194,22 @@ twice-keeps = opens-end-by-touch both worked_layout [] both_folder twice_folder 
 
 close_ends : Keeps (step twice 100 (to_close 7)).state worked_layout [] twice_folder
 close_ends = closes-of-many-next twice 100 7 1 twice-keeps.entries.valid (omega arith) (unfold computing in refl) (unfold computing in refl) worked_layout [] twice_folder twice-keeps
+
+-- ---- Read of the doomed object, which leaves the state as it is
+
+doomed_names : Names worked 5 2 doomed_object
+unfolding computing
+doomed_names = record { names = refl; here = refl }
+
+doomed_read_ends : (step worked 100 (to_read 5 0 0 2)).state ≡ worked
+doomed_read_ends = doomed-reads-end worked 100 5 0 0 2 2 doomed_object (unfold computing in refl) doomed_names refl
+
+-- ---- there is room for one item more
+
+room_is_left : HaveFewAllocations worked_folder 2 655362
+room_is_left = leave-room worked worked_layout [] worked_folder 2 1 worked-keeps.entries refl (lit≤ tt) (lit≤ tt)
+
+-- ---- the parent may have another bit
+
+bit_is_change : IsChange worked worked.objects worked_layout (main (codes "a")) the_parent (with_bit_of the_parent parent_index 1 the_parent.streams) worked_layout.owner
+bit_is_change = noted-changes worked worked_layout (codes "a") the_parent parent_index 1 the_parent.streams worked-lies refl refl refl refl
