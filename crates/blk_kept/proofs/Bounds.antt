@@ -278,6 +278,19 @@ module _ (state : State) (layout : Layout) (unlinked : List ℕ) (image : Image)
       let counted = sym (length-filter is_doomed_slot state.objects) ∙ as-sum is_doomed_slot state.objects in
       omega (arith, split, both, total, listed, some, named, doomed, counted)
 
+  -- the words of a kind that are in use, also of external files
+  pub words-few : (kind : ℕ) → sum_by (λ w. one_if (kind_of w == kind)) (words_in_use unlinked (all_loaded state layout k.numbers)) ≤ 5 * items state + length unlinked
+  unfolding of_kind
+  words-few kind =
+      let both = sum_by-append (of_kind kind) unlinked (flat_map words_of (all_loaded state layout k.numbers)) in
+      let one = unlinked-few kind unlinked in
+      let other = few-all state layout unlinked image k kind (all_nodes state layout k.numbers) in
+      let items_few = loaded-few in
+      bound both one other items_few
+    where
+      bound : {c d e f i : ℕ} → c ≡ d + e → d ≤ length unlinked → e ≤ 5 * f → f ≤ i → c ≤ 5 * i + length unlinked
+      bound both one other few = omega (arith, both, one, other, few)
+
   module _ (kind : ℕ) (once : IsOnce image kind) where
     allocations-same : (files : List ℕ) → ((n : ℕ) → is_among files n ≡ true → is_among (linked image kind) n ≡ true) → sum_by (λ n. allocations_of (byte image (Block n))) files ≡ sum_by (λ n. length (filter (is_in_file n) (words_in_use unlinked (all_loaded state layout k.numbers)))) files
     allocations-same [] sub = refl

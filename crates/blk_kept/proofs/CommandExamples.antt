@@ -18,7 +18,7 @@ use Rattle.blk_laws.specs.CommandLaws.{marked}
 use Rattle.blk_kept.specs.CommandStates.{IsLast, MayLeave, Unsettles, amidst, in_order, with_names, with_room}
 use Rattle.blk_kept.specs.CommandEnds.{IsNamedBy, without_part}
 use Rattle.blk_kept.specs.PartStates.{with_value}
-use Rattle.blk_kept.proofs.CommandEnding.{closes-doomed, closes-free, closes-left, creates-left, dooms-left, only-uses-left, opens-left, sparse-writes-unsettle, trims-left, writes-unsettle}
+use Rattle.blk_kept.proofs.CommandEnding.{closes-doomed, closes-free, closes-left, creates-left, dooms-left, empty-sparse-writes-end, only-uses-left, opens-left, sparse-writes-unsettle, trims-left, writes-unsettle}
 use Rattle.blk_kept.proofs.GroupsGone.{parts-go-alone, whole-groups-go}
 use Rattle.blk_kept.proofs.PartChanges.{new-parts-keep-valid}
 use Rattle.blk_kept.specs.RemovalLaws.{IsWithout}
@@ -67,6 +67,14 @@ written_unsettles = writes-unsettle reading 100 5 0 0 false c 0 opened_object wr
 
 sparse_written_unsettles : Unsettles reading 100 (to_sparse_write 5 0 c) 0 opened_object
 sparse_written_unsettles = sparse-writes-unsettle reading 100 5 0 99 [] 0 opened_object sparse_write_names
+
+-- one of no bytes uses it
+empty_write_names : IsNamedBy reading 100 (to_sparse_write 5 0 []) 5 0 opened_object
+unfolding computing
+empty_write_names = record { affected = record { passes = refl; here = refl; live = refl }; names = refl }
+
+empty_write_ends : (step reading 100 (to_sparse_write 5 0 [])).state ≡ in_order (used (main a) (with_room reading 100 (to_sparse_write 5 0 [])).uses) (with_room reading 100 (to_sparse_write 5 0 []))
+empty_write_ends = empty-sparse-writes-end reading 100 5 0 0 opened_object empty_write_names
 
 -- so whatever it becomes, the others may be left
 abbrev changed : Object

@@ -1,20 +1,36 @@
 -- Folders that keep a state: the whole folder of one entry, and the folder of one doomed object, in each of which a session is opened; so the laws speak of something.
-use Rattle.std.proofs.Common.{◌≡◌, ℕ, zero, suc, [], ◌∷◌, refl, ap, ◌∙◌, subst, true, false}
+use Rattle.std.proofs.Common.{◌≡◌, ◌⊎◌, inl, inr, ⊎_elim, ℕ, zero, suc, ◌+◌, ◌≤◌, [], ◌∷◌, refl, ap, sym, ◌∙◌, subst, arith, lit<, lit≤, Option, true, false}
+use Rattle.std.specs.Prelude.{is_some}
+use Rattle.std.proofs.lemmas.Bool.Decides.{nat_tests}
 use Rattle.blk_image.specs.Bytes.{word_bytes, spliced, zeros}
-use Rattle.blk_image.specs.Image.{Image, Index, byte}
+use Rattle.blk_image.specs.Footprint.{one_word}
+use Rattle.blk_image.specs.Image.{Image, Index, byte, length_of, word}
 use Rattle.blk_image.specs.Steps.{Word, applied, with_word}
-use Rattle.blk_image.proofs.Footprints.{outside_write}
+use Rattle.blk_image.proofs.Footprints.{outside_write, same_word_outside}
+use Rattle.blk_image.proofs.Images.{length-after_write, word-after_same}
+use Rattle.blk_model.specs.Holding.{open_state}
 use Rattle.blk_model.specs.State.{Object}
-use Rattle.blk_format.specs.Headers.{this_id_of}
-use Rattle.blk_volume.specs.Sound.{AreSealed}
+use Rattle.blk_format.specs.BlockFiles.{linked_as, max_entries_in, next_file_in}
+use Rattle.blk_format.specs.Headers.{crash_of, place_of_bucket, this_id_of}
+use Rattle.blk_format.proofs.Finished.{whole_index}
+use Rattle.blk_volume.specs.Sound.{AreSealed, IsSound}
+use Rattle.blk_volume.specs.Emptiness.{no_layout}
+use Rattle.blk_volume.specs.View.{list_of}
+use Rattle.blk_laws.specs.BareLaws.{HasNoEntries}
+use Rattle.blk_laws.proofs.claims.ByteChanges.{same-links}
+use Rattle.blk_laws.proofs.updates.IndexWords.{others-unchecked}
+use Rattle.blk_laws.proofs.states.NewFolders.{new_folder}
 use Rattle.blk_volume.specs.Tidy.{IsTidy}
 use Rattle.blk_laws.proofs.examples.OneEntry as one
-use Rattle.blk_laws.proofs.examples.Premises.{state_is_valid}
+use Rattle.blk_laws.proofs.examples.Premises.{new_is_bare, state_is_valid}
 use Rattle.blk_laws.proofs.examples.WholeFolder.{whole_folder, whole-is_well_formed, whole-is_represented}
 use Rattle.blk_laws.proofs.examples.ExampleFolders.{whole-is_allocated, whole-is_in_order}
 use Rattle.blk_laws.proofs.examples.ExampleDoomed.{doomed_layout, doomed_object, doomed_state, doomed-is_valid}
 use Rattle.blk_laws.proofs.examples.DoomedFolder.{doomed_folder, doomed-is_well_formed, folder-is_allocated, folder-is_represented, folder-is_in_order}
 use Rattle.blk_kept.specs.Keeping.{AreMarkedBy, IsInSession, Keeps}
+use Rattle.blk_kept.specs.KeepingLaws.{AllAreAtRest}
+use Rattle.blk_kept.proofs.Empty.{empty-kept}
+use Rattle.blk_kept.proofs.Keeping.{kept-sound}
 use Rattle.blk_kept.proofs.Opened.{opened-kept}
 
 -- a folder in which the session of a number is opened
@@ -71,3 +87,59 @@ doomed-session = record { crash = refl; id = λ e. (let z : ◌≡◌ {A = ℕ} 
 pub doomed-keeps : Keeps (doomed_state true) (doomed_layout 0) [] (opened doomed_folder 7)
 doomed-keeps = opened-kept doomed_folder (numbered doomed_folder 7) (opened doomed_folder 7) (doomed_state true) (doomed_layout 0) (0 ∷ []) (doomed-is_valid true) doomed-is_well_formed folder-is_represented folder-is_allocated doomed-tidy
     (outside_write Index 20 (word_bytes 7) doomed_folder) (outside_write Index 32 (word_bytes 1) (numbered doomed_folder 7)) doomed-session
+
+-- and it is sound, as its object is at rest
+whole-rests : AllAreAtRest (one.state true)
+whole-rests zero = refl
+whole-rests (suc n) = tt
+
+whole_is_sound : IsSound (opened whole_folder 7)
+whole_is_sound = kept-sound (one.state true) (one.layout 0) (opened whole_folder 7) whole-keeps whole-rests
+
+-- a new folder in which a session is opened has no entries
+abbrev new_opened : Image
+new_opened = opened (new_folder 50) 7
+
+one-beside : (from : Image) (at x p : ℕ) → (p + 4 ≤ at) ⊎ (at + 4 ≤ p) → word (applied (Word Index at (word_bytes x)) from) Index p ≡ word from Index p
+one-beside from at x p apart = same_word_outside (one_word Index at) from (applied (Word Index at (word_bytes x)) from) Index p (outside_write Index at (word_bytes x) from)
+    (λ k low high. ⊎_elim (λ (l : p + 4 ≤ at). grind (arith, nat_tests)) (λ (l : at + 4 ≤ p). grind (arith, nat_tests)) apart)
+
+beside : (p : ℕ) → (p + 4 ≤ 20) ⊎ (36 ≤ p) → word new_opened Index p ≡ word (new_folder 50) Index p
+beside p apart = one-beside (numbered (new_folder 50) 7) 32 1 p (⊎_elim (λ (l : p + 4 ≤ 20). inl (omega (arith, l))) (λ (l : 36 ≤ p). inr (omega (arith, l))) apart)
+    ∙ one-beside (new_folder 50) 20 7 p (⊎_elim (λ (l : p + 4 ≤ 20). inl (omega (arith, l))) (λ (l : 36 ≤ p). inr (omega (arith, l))) apart)
+
+new-links : (n : ℕ) → linked_as new_opened n ≡ linked_as (new_folder 50) n
+unfolding next_file_in
+new-links = same-links (new_folder 50) new_opened (λ n. refl)
+
+new_opened_is_bare : HasNoEntries new_opened
+unfolding list_of max_entries_in
+new_opened_is_bare = record {
+  well_formed = others-unchecked (numbered (new_folder 50) 7) new_opened 32 refl refl (outside_write Index 32 (word_bytes 1) (numbered (new_folder 50) 7))
+      (others-unchecked (new_folder 50) (numbered (new_folder 50) 7) 20 refl refl (outside_write Index 20 (word_bytes 7) (new_folder 50)) new_is_bare.well_formed);
+  index = let i = new_is_bare.index in record {
+    head = beside 288 (inr (lit≤ tt)) ∙ i.head;
+    tail = beside 308 (inr (lit≤ tt)) ∙ i.tail;
+    transaction = beside 328 (inr (lit≤ tt)) ∙ i.transaction;
+    table = λ b below. beside (place_of_bucket b) (inr (omega arith)) ∙ i.table b below;
+    sizes = beside 268 (inr (lit≤ tt)) ∙ i.sizes;
+    num_entries = beside 8 (inl (lit≤ tt)) ∙ i.num_entries;
+    num_bytes = beside 12 (inl (lit≤ tt)) ∙ i.num_bytes;
+  };
+  blocks = λ n linked. let f = new_is_bare.blocks n (ap (λ (o : Option ℕ). is_some o) (sym (new-links n)) ∙ linked) in record { long_enough = f.long_enough; allocations = f.allocations; max_entries = f.max_entries; empty = f.empty; updating = f.updating; map = f.map };
+  only_linked = λ n below. new_is_bare.only_linked n below ∙ ap (λ (o : Option ℕ). is_some o) (sym (new-links n));
+  no_externals = new_is_bare.no_externals;
+}
+
+new-long : length_of (new_folder 50) Index ≡ 262512
+new-long = whole_index (new_folder 50) new_is_bare.well_formed
+
+new-session : (crash_of (byte new_opened Index) ≡ 1) × (this_id_of (byte new_opened Index) ≡ 7)
+new-session = let long = new-long in (
+  word-after_same (numbered (new_folder 50) 7) Index 32 1 (lit< tt) (let l = length-after_write (new_folder 50) Index Index 20 (word_bytes 7) in omega (arith, l, long)),
+  one-beside (numbered (new_folder 50) 7) 32 1 20 (inl (lit≤ tt)) ∙ word-after_same (new_folder 50) Index 20 7 (lit< tt) (omega (arith, long)),
+)
+
+-- so it keeps the empty state
+new-keeps : Keeps (open_state [] (record { max_bytes = 100; max_items = 100 })) no_layout [] new_opened
+new-keeps = empty-kept new_opened (record { max_bytes = 100; max_items = 100 }) new_opened_is_bare new-session.0 (λ e. let z : ◌≡◌ {A = ℕ} 7 0 = sym new-session.1 ∙ e in omega (arith, z))

@@ -64,6 +64,7 @@ pub mod PartlyOut
 pub mod PartlyFreed
 pub mod FilteredWords
 pub mod OneMoreOut
+pub mod UnlinkedOrder
 pub mod LaidOut
 pub mod WorkedState
 pub mod WorkedFolder
@@ -80,12 +81,18 @@ pub mod WorkedRecord
 pub mod WorkedCreate
 pub mod WorkedCut
 pub mod WorkedChanges
+pub mod BehindOut
+pub mod WorkedChains
 pub mod WorkedExternals
 pub mod WorkedParts
 pub mod WorkedStops
+pub mod WorkedDeleting
+pub mod WorkedGroups
 pub mod WorkedFreed
+pub mod WorkedPartlyFreed
 pub mod WorkedFreeing
 pub mod WorkedNewFile
+pub mod WorkedEnds
 pub mod RestGroups
 pub mod RestRoom
 pub mod RestGrowth

@@ -194,6 +194,9 @@ module _ (from : Image) (w : ℕ) (fields : RecordFields) (ready : IsWritable fr
   pub next-outside : SameOutside (record_range w) from with_next
   next-outside = rewritten-outside from w fields ready here good ((4, next) ∷ []) next-changes next-before
 
+  pub next-leaves : LeavesFiles from with_next
+  next-leaves = rewritten-leaves from w fields ready here good ((4, next) ∷ []) next-changes next-before
+
   pub next-sealed : entry_is_sealed (entry_at with_next w) ≡ true
   next-sealed = rewritten-sealed from w fields ready here good ((4, next) ∷ []) next-changes next-before
 

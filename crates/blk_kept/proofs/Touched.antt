@@ -99,11 +99,11 @@ module _ (state : State) (layout : Layout) (unlinked : List ℕ) (from image : I
   counter : (i : ℕ) → i + 3 < 288 → word_at (byte image Index) i ≡ word_at (byte from Index) i
   counter = counter-same (touch_writes node (list_of from)) node from image done.touched.outside
 
-  leaves : LeavesFiles from image
+  pub leaves : LeavesFiles from image
   leaves = leaves-files (touch_range (touch_writes node (list_of from)) node) from image (touch_spares (touch_writes node (list_of from)) node) (touch_sizes (touch_writes node (list_of from)) node) done.touched.outside
       (record { crash = counter 32 (omega arith); id = counter 20 (omega arith) }) done.touched.well_formed
 
-  arranged : IsArranged later layout k.numbers unlinked image
+  pub arranged : IsArranged later layout k.numbers unlinked image
   arranged = record {
     valid = ends.1;
     represents = record {
@@ -121,7 +121,7 @@ module _ (state : State) (layout : Layout) (unlinked : List ℕ) (from image : I
     marked = subst (λ (id : ℕ). AreMarkedBy id later layout) (sym leaves.session.id) k.session.marked;
   }
 
-  same-words : IsPermutation (words_in_use unlinked (all_loaded state layout k.numbers)) (words_in_use unlinked (all_loaded later layout k.numbers))
+  pub same-words : IsPermutation (words_in_use unlinked (all_loaded state layout k.numbers)) (words_in_use unlinked (all_loaded later layout k.numbers))
   same-words = IsPermutation-append_right unlinked (words_at layout.at (all_nodes state layout k.numbers)) (words_at layout.at (all_nodes later layout k.numbers))
       (subst (λ (ns : List ℕ). IsPermutation (words_at layout.at ns) (words_at layout.at (all_nodes later layout k.numbers))) (sym old-all)
       (subst (λ (ns : List ℕ). IsPermutation (words_at layout.at (prefix ++ node ∷ (suffix ++ doomed_nodes layout k.numbers))) (words_at layout.at ns)) (sym new-all) (node-to-front layout.at prefix node (suffix ++ doomed_nodes layout k.numbers))))

@@ -7,12 +7,12 @@ use Rattle.std.proofs.lemmas.List.Sorted.{IsPermutation-middle}
 use Rattle.blk_image.specs.Bytes.{content, range_at, spliced, word_at, word_bytes, words_at, zeros}
 use Rattle.blk_image.specs.Footprint.{SameOutside, range}
 use Rattle.blk_image.specs.Image.{Block, Image}
-use Rattle.blk_image.specs.Steps.{Word, applied, with_word, with_words}
+use Rattle.blk_image.specs.Steps.{Word, after, applied, with_word, with_words}
 use Rattle.blk_image.proofs.Words.{length-with_word, word-beside, word-there}
 use Rattle.blk_model.specs.Effects.{with_slot}
 use Rattle.blk_model.specs.Holding.{rest, row_of}
 use Rattle.blk_model.specs.Items.{main, part}
-use Rattle.blk_model.specs.Request.{to_write}
+use Rattle.blk_model.specs.Request.{Request, to_write}
 use Rattle.blk_model.specs.State.{IsValidState, Object, State}
 use Rattle.blk_model.specs.Step.{step}
 use Rattle.blk_model.proofs.Computing.{computing}
@@ -27,8 +27,8 @@ use Rattle.blk_format.specs.Sealed.{record_at, record_range}
 use Rattle.blk_format.specs.Storage.{entry_blocks, is_storage}
 use Rattle.blk_volume.specs.Entries.{IsPlain, is_key_length, role_of, stored_key, stored_stream, stored_streams}
 use Rattle.blk_volume.specs.Footprint.{IsInsideNode, IsReplaced, OnlyLinksChange}
-use Rattle.blk_volume.specs.Layout.{rule_of}
-use Rattle.blk_volume.specs.ListImages.{IsWritable}
+use Rattle.blk_volume.specs.Layout.{is_listed, rule_of}
+use Rattle.blk_volume.specs.ListImages.{IsWritable, steps_of_touch}
 use Rattle.blk_volume.specs.ListView.{put}
 use Rattle.blk_volume.specs.Loads.{Loaded, all_claims, load, record_claims, unchained_rule}
 use Rattle.blk_volume.specs.ShownChanges.{OnlyChainNextChanges, OnlyRecordFieldsChange}
@@ -39,9 +39,13 @@ use Rattle.blk_laws.proofs.walks.Loading.{load-from}
 use Rattle.blk_laws.proofs.walks.Loads.{load-then}
 use Rattle.blk_kept.specs.Arranging.{LeavesFiles}
 use Rattle.blk_kept.specs.Changes.{ChangesOnly, Finds}
+use Rattle.blk_kept.specs.Commands.{MayStop}
+use Rattle.blk_kept.specs.CommandStates.{KeepsOtherKeys, amidst, with_room}
 use Rattle.blk_kept.specs.Keeping.{KeepsUncounted}
+use Rattle.blk_kept.specs.ListLaws.{IsTouchDone}
 use Rattle.blk_kept.specs.ObjectLaws.{IsItemNow, IsObjectNow, layout_after}
 use Rattle.blk_kept.proofs.ChangedStates.{main-changed}
+use Rattle.blk_kept.proofs.DoneSteps.{touch-done}
 use Rattle.blk_kept.proofs.Free.{standing-at}
 use Rattle.blk_kept.proofs.AtNodes.{free-but}
 use Rattle.blk_kept.proofs.Allocating.{used-stand}
@@ -55,17 +59,18 @@ use Rattle.blk_kept.proofs.MarkSteps.{marked_at, marks-writable}
 use Rattle.blk_kept.proofs.RecordSteps.{long-record, next-outside, next-sealed, next-shown, rewritten, rewritten-fields, rewritten-only, rewritten-outside, rewritten-sealed, was-fields, with_next}
 use Rattle.blk_kept.proofs.WorkedFolder.{short_folder}
 use Rattle.blk_kept.proofs.WorkedKept.{same-bytes, worked-represents, worked_folder}
-use Rattle.blk_kept.proofs.WorkedMarks.{b_checks, b_is_marked, opened-writable, opened_folder, unsettled, unsettled-keeps, unsettled_layout}
+use Rattle.blk_kept.proofs.WorkedMarks.{b_checks, b_is_marked, opened, opened-valid, opened-writable, opened_folder, unsettled, unsettled-keeps, unsettled_layout, write_unsettles}
 use Rattle.blk_kept.proofs.WorkedRecord.{are-changes, before-seal, behind-next, emptied_words}
 use Rattle.blk_kept.proofs.WorkedRemovals.{touched_b}
+use Rattle.blk_kept.proofs.WordStops.{unsettled-uses-stop}
 use Rattle.blk_kept.proofs.WorkedState.{doomed_object, nodes, plain_object, records, sparse_object, the_plain, worked, worked_layout}
 
 -- ---- `b` is unsettled
 
-abbrev open_object : Object
+abbrev pub open_object : Object
 open_object = record plain_object { settled = false }
 
-abbrev open_state : State
+abbrev pub open_state : State
 open_state = record worked {
   objects = Some open_object ∷ Some sparse_object ∷ Some doomed_object ∷ [];
   uses = main (codes "b") ∷ part (codes "a") 0 ∷ main (codes "a") ∷ [];
@@ -91,6 +96,30 @@ open-here = refl
 
 open-writable : IsWritable open_folder
 open-writable = marks-writable opened_folder (nodes 2) 7 opened-writable b_checks (lit< tt)
+
+-- ---- it is used
+
+abbrev zz_write : Request
+zz_write = to_write 6 0 0 false (codes "zz")
+
+abbrev used_folder : Image
+used_folder = after (steps_of_touch (nodes 2) 71 open_folder) open_folder
+
+open-used : IsTouchDone open_folder (nodes 2) used_folder
+open-used = touch-done open_folder (nodes 2) 71 [] (nodes 1 ∷ nodes 0 ∷ []) open-writable (record { whole = open-keeps.represents.list; idle = open-keeps.represents.idle })
+
+open-amidst : amidst (with_room opened 100 zz_write) 0 open_object open_state.uses ≡ open_state
+unfolding computing
+open-amidst = refl
+
+others-stay : KeepsOtherKeys (with_room opened 100 zz_write) (codes "b") open_state.uses
+unfolding computing
+others-stay = refl
+
+-- meanwhile a Write of it may be stopped
+used_stops : MayStop opened 100 zz_write used_folder
+used_stops = unsettled-uses-stop opened 100 zz_write 0 plain_object open_object open_state.uses (main (codes "b")) unsettled_layout [] open_folder used_folder opened-valid write_unsettles (record { key_is = refl; live = refl; unsettled = refl }) others-stay refl
+    (subst (λ (m : State). KeepsUncounted m unsettled_layout [] open_folder) (sym open-amidst) open-keeps) (subst (λ (m : State). is_listed m (main (codes "b")) ≡ true) (sym open-amidst) refl) open-used.touched
 
 -- ---- its record
 
@@ -158,7 +187,7 @@ with-words bytes long was =
       flags = flags_are i;
     }
 
-abbrev cut_folder : Image
+abbrev pub cut_folder : Image
 cut_folder = rewritten open_folder (records 2) (emptied_words 0)
 
 cut-written : OnlyRecordFieldsChange (records 2) open_folder cut_folder × ((store_of cut_folder).entry (records 2) ≡ Some cut_fields)
@@ -212,7 +241,7 @@ data_finds = unsettled-find (has_claim (claims_of 0xA0010004)) open_state unsett
 
 -- ---- what lies there then
 
-abbrev cut_b : Loaded
+abbrev pub cut_b : Loaded
 cut_b = record open_b { streams = [] ∷ [] ∷ [] ∷ []; others = 0 ∷ 0 ∷ 0 ∷ 0 ∷ 0 ∷ [] }
 
 right-length : is_key_length (records 2) b_fields ≡ true
@@ -291,10 +320,10 @@ cut-sealed = record {
 
 -- ---- the state is kept
 
-abbrev cut_object : Object
+abbrev pub cut_object : Object
 cut_object = record open_object { streams = ([], [], []) }
 
-abbrev cut : State
+abbrev pub cut : State
 cut = with_slot 0 (Some cut_object) open_state
 
 -- that is what a Write of nothing at its beginning leaves, with a cut
@@ -319,7 +348,7 @@ cut-replaced = record { apart = cut-inside.apart; loads = cut-loads; bucket = cu
 same-words : IsPermutation ([] ++ words_of open_b) ((0xA0010004 ∷ []) ++ words_of cut_b)
 same-words = IsPermutation-middle (nodes 2 ∷ records 2 ∷ []) 0xA0010004 []
 
-cut_is_kept : KeepsUncounted cut (layout_after unsettled_layout (nodes 2) cut_b) (0xA0010004 ∷ []) cut_folder
+pub cut_is_kept : KeepsUncounted cut (layout_after unsettled_layout (nodes 2) cut_b) (0xA0010004 ∷ []) cut_folder
 cut_is_kept = changed-items-kept (has_claim (claims_of (records 2))) open_state unsettled_layout [] (0xA0010004 ∷ []) open_folder cut_folder 0 open_object cut_object (main (codes "b")) open_b cut_b open-keeps cut-only
     cut-object refl open-here cut-item cut-replaced same-words cut-sealed
 

@@ -27,10 +27,10 @@ use Rattle.blk_kept.proofs.WorkedRecord.{emptied, emptied-are, emptied-loads, em
 use Rattle.blk_kept.proofs.WorkedState.{all_four, doomed_object, nodes, records, the_doomed, worked, worked-valid, worked_layout}
 use Rattle.blk_laws.proofs.states.Marking.{repeats-apart}
 
-abbrev cut_object : Object
+abbrev pub cut_object : Object
 cut_object = record doomed_object { streams = ([], [], []) }
 
-abbrev cut : State
+abbrev pub cut : State
 cut = with_slot 2 (Some cut_object) worked
 
 -- that is what a Write of nothing at its beginning leaves, with a cut
@@ -59,6 +59,6 @@ cut_finds = doomed-find (has_claim (claims_of (records 3))) worked worked_layout
 same-words : IsPermutation ([] ++ words_of the_doomed) ((0xA0010005 ∷ []) ++ words_of emptied)
 same-words = IsPermutation-middle (nodes 3 ∷ records 3 ∷ []) 0xA0010005 []
 
-cut_is_kept : KeepsUncounted cut (layout_after worked_layout (nodes 3) emptied) (0xA0010005 ∷ []) (emptied_folder 2)
+pub cut_is_kept : KeepsUncounted cut (layout_after worked_layout (nodes 3) emptied) (0xA0010005 ∷ []) (emptied_folder 2)
 cut_is_kept = changed-doomed-kept (has_claim (claims_of (records 3))) worked worked_layout [] (0xA0010005 ∷ []) worked_folder (emptied_folder 2) 2 doomed_object cut_object the_doomed emptied worked-keeps.entries (emptied-only 2 emptied-are.1)
     doomed-placed refl refl refl others (emptied-loads 2 emptied-are.1) same-words (emptied-sealed 2 emptied-are.1) cut-valid

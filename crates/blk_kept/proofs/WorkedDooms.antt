@@ -132,7 +132,7 @@ b-loads = records-unlinked (store_of (unlisted both_folder (nodes 2))) (store_of
 b-doomed : IsDoomedRecord without_b (nodes 2) the_plain
 b-doomed = doomed-record without_b (nodes 2) the_plain b-ready b-loads (once the_plain (nodes 2) refl)
 
-abbrev doomed_b : Image
+abbrev pub doomed_b : Image
 doomed_b = with_doomed without_b the_plain
 
 abbrev pub but_b : Item → Bool
@@ -173,7 +173,7 @@ b_can_be_doomed : CanBeDoomed both worked_layout 0 plain_object the_plain
 b_can_be_doomed = record { lies = record { here = refl; live = refl; at = refl }; named = refl; alone = λ n. refl; valid = state_doomed both both-keeps.entries.valid 0 plain_object refl refl }
 
 -- so a Doom of it ends, and no more words are unlinked
-b_is_doomed : KeepsUncounted (step both 100 (to_doom 6)).state (layout_doomed worked_layout 0 (nodes 2) the_plain) [] doomed_b
+pub b_is_doomed : KeepsUncounted (step both 100 (to_doom 6)).state (layout_doomed worked_layout 0 (nodes 2) the_plain) [] doomed_b
 b_is_doomed = held-dooms-end both 100 (to_doom 6) worked_layout [] both_folder (unlisted both_folder (nodes 2)) doomed_b 0 plain_object the_plain both-keeps.entries (unfold computing in refl) (unfold computing in refl) b_can_be_doomed b-unlisted b_is_unchained
 
 -- ---- `a`, whose part is out first

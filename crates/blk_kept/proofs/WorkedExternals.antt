@@ -7,8 +7,9 @@ use Rattle.blk_image.specs.Steps.{Delete, SetLength, Word, applied}
 use Rattle.blk_image.proofs.Footprints.{outside-trans, outside_step, outside_wider, within_left, within_right}
 use Rattle.blk_format.specs.Address.{external, external_number, is_address, is_initialized, kind_of, names_external}
 use Rattle.blk_format.specs.BlockFiles.{stands_in}
+use Rattle.blk_format.specs.Claims.{ExternalOf, same_claim}
 use Rattle.blk_format.specs.Standing.{stands}
-use Rattle.blk_kept.specs.Changes.{AddsExternal, StillFinds}
+use Rattle.blk_kept.specs.Changes.{AddsExternal, ChangesOnly, StillFinds}
 use Rattle.blk_kept.specs.ExternalLaws.{IsMakingExternal}
 use Rattle.blk_kept.specs.Keeping.{KeepsUncounted}
 use Rattle.blk_kept.proofs.Externals.{deleted-removed, deleting-finds, made-added, making-finds}
@@ -16,19 +17,20 @@ use Rattle.blk_kept.proofs.MakingFiles.{deleted-gone, made-unlinked}
 use Rattle.blk_kept.proofs.WorkedFolder.{short_folder}
 use Rattle.blk_kept.proofs.WorkedKept.{worked-keeps, worked_folder}
 use Rattle.blk_kept.proofs.WorkedState.{worked, worked_layout}
+use Rattle.blk_kept.proofs.Writes.{external-writes, index-words}
 
 -- the word of file 1
-abbrev first_file : ℕ
+abbrev pub first_file : ℕ
 first_file = 0x80000001
 
-abbrev with_empty : Image
+abbrev pub with_empty : Image
 with_empty = applied (SetLength (External 1) 0) worked_folder
 
 -- it is there, and the index has its number
-abbrev made_folder : Image
+abbrev pub made_folder : Image
 made_folder = applied (Word Index 16 (word_bytes 1)) with_empty
 
-is-external : (kind_of first_file ≡ external) × (external_number first_file ≡ 1)
+pub is-external : (kind_of first_file ≡ external) × (external_number first_file ≡ 1)
 unfolding kind_of external_number
 is-external = (refl, refl)
 
@@ -53,7 +55,7 @@ made : AddsExternal worked_folder first_file made_folder
 made = made-added worked_folder made_folder first_file worked-keeps.entries.well_formed is-external.0 making its-file.0 its-file.1
 
 -- it is unlinked
-file_is_unlinked : KeepsUncounted worked worked_layout (first_file ∷ []) made_folder
+pub file_is_unlinked : KeepsUncounted worked worked_layout (first_file ∷ []) made_folder
 file_is_unlinked = made-unlinked first_file worked_folder made_folder made worked worked_layout [] worked-keeps.entries
 
 -- and deleted
@@ -73,3 +75,13 @@ gone = refl
 
 file_is_gone : KeepsUncounted worked worked_layout [] deleted_folder
 file_is_gone = deleted-gone first_file made_folder deleted_folder (deleted-removed made_folder deleted_folder first_file file_is_unlinked.well_formed is-external.0 its-file.1 deleting gone) worked worked_layout [] file_is_unlinked
+
+-- its making writes a word of the index that is not kept, and its bytes may change
+index_changes : ChangesOnly (λ claim. false) with_empty made_folder
+index_changes = index-words with_empty made_folder 16 refl (lit< tt) refl refl refl (outside_step (Word Index 16 (word_bytes 1)) with_empty)
+
+abbrev longer_folder : Image
+longer_folder = applied (SetLength (External 1) 4) made_folder
+
+file_changes : ChangesOnly (λ claim. same_claim claim (ExternalOf 1)) made_folder longer_folder
+file_changes = external-writes made_folder longer_folder 1 (outside_step (SetLength (External 1) 4) made_folder) refl

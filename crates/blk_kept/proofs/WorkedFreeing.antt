@@ -15,11 +15,13 @@ use Rattle.blk_format.specs.Headers.{head_checks, list_checks}
 use Rattle.blk_format.proofs.Keeping.{none_both, none_parts, undamaged_still}
 use Rattle.blk_laws.proofs.claims.Files.{headers-change}
 use Rattle.blk_volume.specs.Sound.{words_of}
-use Rattle.blk_kept.specs.Changes.{Finds}
+use Rattle.blk_kept.specs.Changes.{Finds, StillFinds}
 use Rattle.blk_kept.specs.PartlyOut.{chains_but}
 use Rattle.blk_kept.proofs.PartlyOutStops.{freeing-finds, own-items-leave}
 use Rattle.blk_kept.proofs.WorkedDooms.{b_is_out, both, but_b, without_b}
+use Rattle.blk_kept.proofs.WorkedKept.{worked_folder}
 use Rattle.blk_kept.proofs.WorkedState.{chain_of, plain_object, records, the_plain, worked_layout}
+use Rattle.blk_kept.proofs.Writes.{growth-finds}
 
 -- the word that says that the map of data_1 changes
 module _ (from : Image) where
@@ -79,3 +81,7 @@ module _ (from : Image) where
 
 freeing_finds : Finds (rest (doomed 0 both (Some plain_object))) (begun without_b)
 freeing_finds = freeing-finds both worked_layout 0 plain_object but_b (chains_but chain_of (records 2)) (words_of the_plain ++ []) without_b (begun without_b) refl (own-items-leave (codes "b")).0 b_is_out (begun-grown without_b) (begun-formed without_b)
+
+-- and before it is out, what is at rest
+growth_finds : StillFinds [] worked_folder (begun worked_folder)
+growth_finds = growth-finds [] worked_folder (begun worked_folder) (begun-grown worked_folder) (begun-formed worked_folder)

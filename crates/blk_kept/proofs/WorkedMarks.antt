@@ -45,7 +45,7 @@ opened = (step worked 100 (to_open 6 (codes "b"))).state
 abbrev pub opened_folder : Image
 opened_folder = after (steps_of_touch (nodes 2) 70 worked_folder) worked_folder
 
-opened-valid : IsValidState opened
+pub opened-valid : IsValidState opened
 opened-valid = step_valid worked 100 (to_open 6 (codes "b")) worked-valid (omega arith, codes_are_bytes (codes "b") (omega arith, tt))
 
 pub opened-keeps : Keeps opened worked_layout [] opened_folder
@@ -60,7 +60,7 @@ write_names : IsNamedBy opened 100 (to_write 6 0 0 false (codes "zz")) 6 0 plain
 unfolding computing
 write_names = record { affected = record { passes = refl; here = refl; live = refl }; names = refl }
 
-write_unsettles : Unsettles opened 100 (to_write 6 0 0 false (codes "zz")) 0 plain_object
+pub write_unsettles : Unsettles opened 100 (to_write 6 0 0 false (codes "zz")) 0 plain_object
 write_unsettles = writes-unsettle opened 100 6 0 0 false (codes "zz") 0 plain_object write_names
 
 pub b_checks : (list_of opened_folder).checks (nodes 2) ≡ true

@@ -74,19 +74,19 @@ use Rattle.blk_kept.proofs.WorkedState.{chain_of, doomed_object, nodes, part_ind
 
 -- ---- `a` is unsettled
 
-abbrev unsettled_object : Object
+abbrev pub unsettled_object : Object
 unsettled_object = record sparse_object { settled = false }
 
-abbrev unsettled : State
+abbrev pub unsettled : State
 unsettled = marked both 1 sparse_object false
 
-abbrev dirty_layout : Layout
+abbrev pub dirty_layout : Layout
 dirty_layout = dirtied worked_layout (nodes 0) the_parent 7
 
 abbrev dirty_parent : Loaded
 dirty_parent = record the_parent { dirty = 7 }
 
-abbrev dirty_folder : Image
+abbrev pub dirty_folder : Image
 dirty_folder = marked_at both_folder (nodes 0) 7
 
 a-checks : (list_of both_folder).checks (nodes 0) ≡ true
@@ -95,10 +95,10 @@ a-checks = both-keeps.entries.represents.list.linked.0.good
 a_is_marked : IsMarked both_folder (nodes 0) 7 dirty_folder
 a_is_marked = marks-done both_folder (nodes 0) 7 both-writable a-checks (lit< tt)
 
-dirty-writable : IsWritable dirty_folder
+pub dirty-writable : IsWritable dirty_folder
 dirty-writable = marks-writable both_folder (nodes 0) 7 both-writable a-checks (lit< tt)
 
-unsettled-keeps : Keeps unsettled dirty_layout [] dirty_folder
+pub unsettled-keeps : Keeps unsettled dirty_layout [] dirty_folder
 unsettled-keeps = marking-counts both worked_layout [] both_folder dirty_folder 1 sparse_object the_parent 7 both-keeps (record { here = refl; live = refl; at = refl })
     (marked-valid both 1 sparse_object false both-keeps.entries.valid refl refl (λ e. refl)) (λ some. sym both-id) a_is_marked
 

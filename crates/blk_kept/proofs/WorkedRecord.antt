@@ -1,5 +1,5 @@
 -- The record of the worked folder's doomed object, once its stream is empty, and its state is written anew: what it loads as, and that nothing else has changed.
-use Rattle.std.proofs.Common.{◌≡◌, ◌≢◌, inr, ℕ, ◌+◌, ◌<◌, ◌≤◌, List, [], ◌∷◌, All, refl, ap, sym, ◌∙◌, arith, true, false, Ok, Some, codes}
+use Rattle.std.proofs.Common.{◌≡◌, ◌≢◌, inr, ℕ, ◌+◌, ◌<◌, ◌≤◌, List, [], ◌∷◌, All, refl, ap, sym, ◌∙◌, arith, true, false, Ok, Some}
 use Rattle.std.specs.Prelude.{◌%◌}
 use Rattle.std.proofs.lemmas.Bool.{eq-eqb}
 use Rattle.std.proofs.lemmas.List.Elements.{All-cons, All-nil}
@@ -9,7 +9,7 @@ use Rattle.blk_image.specs.Image.{Block, Image}
 use Rattle.blk_image.specs.Steps.{with_word, with_words}
 use Rattle.blk_format.specs.Address.{block_count, block_place, block_size, blocks_256, file_selector, first_block, kind_of, place}
 use Rattle.blk_format.specs.Claims.{claims_of, has_claim}
-use Rattle.blk_format.specs.Hash.{hash, mixed, of_bytes, of_four, of_one}
+use Rattle.blk_format.specs.Hash.{hash, mixed, of_bytes, of_four, of_three}
 use Rattle.blk_format.specs.Records.{entry_body, entry_checks, entry_in, entry_is_sealed, node_in, node_is_sealed}
 use Rattle.blk_format.specs.Sealed.{AreChanges, record_at, record_range, seal_place, size_by_kind}
 use Rattle.blk_format.specs.Storage.{entry_blocks, is_storage}
@@ -29,10 +29,10 @@ use Rattle.blk_kept.proofs.RecordSteps.{rewritten, rewritten-fields, rewritten-l
 use Rattle.blk_kept.proofs.WorkedFolder.{short_folder}
 use Rattle.blk_kept.proofs.WorkedKept.{same-bytes, worked-keeps, worked-represents, worked_folder}
 use Rattle.blk_kept.proofs.WorkedRemovals.{worked-writable}
-use Rattle.blk_kept.proofs.WorkedState.{nodes, records, the_doomed, worked, worked_layout}
+use Rattle.blk_kept.proofs.WorkedState.{nodes, records, the_doomed, twin, worked, worked_layout}
 
 abbrev doomed_fields : RecordFields
-doomed_fields = record { checks = true; hash = 0xF4C73EBF; rankings_node = nodes 3; state = 2; key_len = 1; long_key = 0; data_size = 3 ∷ 0 ∷ 0 ∷ 0 ∷ []; data_addr = 0xA0010005 ∷ 0 ∷ 0 ∷ 0 ∷ []; flags = 0 }
+doomed_fields = record { checks = true; hash = 0xF381A0E1; rankings_node = nodes 3; state = 2; key_len = 3; long_key = 0; data_size = 3 ∷ 0 ∷ 0 ∷ 0 ∷ []; data_addr = 0xA0010005 ∷ 0 ∷ 0 ∷ 0 ∷ []; flags = 0 }
 
 short-fields : fields_of (entry_at short_folder (records 3)) ≡ doomed_fields
 unfolding short_folder zeros with_word spliced file_selector kind_of first_block place block_place block_size entry_checks entry_is_sealed entry_in entry_body words_at hash mixed of_bytes of_four
@@ -87,7 +87,7 @@ pub emptied-are : (sealed_fields (with_words (emptied_words 0) (record_at short_
 unfolding record_at range_at size_by_kind short_folder zeros with_word spliced file_selector kind_of first_block place block_place block_size entry_in words_at
 emptied-are = (refl, refl)
 
-short-key : range_at (block_bytes short_folder (records 3)) (place (records 3) + 96) 1 ≡ codes "c"
+short-key : range_at (block_bytes short_folder (records 3)) (place (records 3) + 96) 3 ≡ twin
 unfolding range_at short_folder zeros with_word spliced file_selector kind_of first_block place block_place block_size
 short-key = refl
 
@@ -99,8 +99,8 @@ short-node : (let n : NodeFields = record { contents = (node_at short_folder (no
 unfolding short_folder zeros with_word spliced file_selector kind_of first_block place block_place block_size node_in
 short-node = refl
 
-pub its-hash : hash (codes "c") ≡ 0xF4C73EBF
-unfolding hash mixed of_bytes of_one
+pub its-hash : hash twin ≡ 0xF381A0E1
+unfolding hash mixed of_bytes of_three
 its-hash = refl
 
 abbrev pub emptied_folder : ℕ → Image
@@ -113,10 +113,10 @@ module _ (state : ℕ) (become : sealed_fields (with_words (emptied_words state)
   pub emptied-entry : (store_of (emptied_folder state)).entry (records 3) ≡ Some (emptied_fields state)
   emptied-entry = emptied-written.1 ∙ ap (λ (bytes : List ℕ). Some (sealed_fields (with_words (emptied_words state) bytes))) same-record ∙ ap (λ (f : RecordFields). Some f) become
 
-  key-is : (store_of (emptied_folder state)).key_place (records 3) 1 ≡ codes "c"
+  key-is : (store_of (emptied_folder state)).key_place (records 3) 3 ≡ twin
   unfolding store_of key_place_at
   key-is = sym (emptied-written.0.rest.key_place (records 3) doomed_fields (inr refl) doomed-entry right-length refl)
-      ∙ ap (λ (f : ℕ → ℕ). range_at f (place (records 3) + 96) 1) (same-bytes (Block (file_selector (records 3)))) ∙ short-key
+      ∙ ap (λ (f : ℕ → ℕ). range_at f (place (records 3) + 96) 3) (same-bytes (Block (file_selector (records 3)))) ∙ short-key
 
   node-is : (store_of (emptied_folder state)).node_fields (nodes 3) ≡ Some (record { contents = records 3; dirty = 7 })
   unfolding store_of node_fields_at
@@ -131,7 +131,7 @@ module _ (state : ℕ) (become : sealed_fields (with_words (emptied_words state)
   unfolding stored_streams stored_stream
   emptied-streams = rw no-stream refl
 
-  emptied-key : stored_key (store_of (emptied_folder state)) (records 3) (emptied_fields state) ≡ Some (codes "c")
+  emptied-key : stored_key (store_of (emptied_folder state)) (records 3) (emptied_fields state) ≡ Some twin
   unfolding stored_key
   emptied-key = ap (λ (k : List ℕ). Some k) key-is
 
@@ -139,7 +139,7 @@ module _ (state : ℕ) (become : sealed_fields (with_words (emptied_words state)
   unfolding is_key_length block_count entry_blocks
   its-length = refl
 
-  emptied-role : role_of (emptied_fields state) (codes "c") ([] ∷ [] ∷ [] ∷ []) ≡ Some IsPlain
+  emptied-role : role_of (emptied_fields state) twin ([] ∷ [] ∷ [] ∷ []) ≡ Some IsPlain
   unfolding role_of
   emptied-role = refl
 

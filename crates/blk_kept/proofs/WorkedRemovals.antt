@@ -24,6 +24,7 @@ use Rattle.blk_volume.specs.Removal.{is_of_another, without_items}
 use Rattle.blk_volume.specs.Sound.{words_of}
 use Rattle.blk_laws.proofs.examples.ExampleWrites.{small-zeros}
 use Rattle.blk_laws.proofs.updates.Fronts.{AreSmall, small-words}
+use Rattle.blk_kept.specs.Arranging.{IsArranged, LeavesFiles}
 use Rattle.blk_kept.specs.Changes.{Finds}
 use Rattle.blk_kept.specs.Commands.{MayStop}
 use Rattle.blk_kept.specs.GroupLaws.{IsLess, gone_nodes, layout_less}
@@ -35,6 +36,7 @@ use Rattle.blk_kept.specs.PlainRemovals.{IsRemoved}
 use Rattle.blk_kept.specs.RemovalLaws.{IsRemovalDone, IsWithout, layout_removed}
 use Rattle.blk_kept.specs.WholeRemovals.{IsWholeOut, layout_without_key, words_of_key}
 use Rattle.blk_kept.specs.WordStops.{IsPartOut}
+use Rattle.blk_kept.proofs.Arranging.{rearranged}
 use Rattle.blk_kept.proofs.ChangedStates.{unheld-go, unheld-less}
 use Rattle.blk_kept.proofs.DoneSteps.{touch-done}
 use Rattle.blk_kept.proofs.GoingOut.{IsAloneIn, goes-out, holds-between, out-of-list, out-removed, ready-out, unchained, unlisted}
@@ -48,6 +50,7 @@ use Rattle.blk_kept.proofs.PartsOut.{part-out}
 use Rattle.blk_kept.proofs.PlainRemovals.{doomed-removed, part-removed, plain-groups-go, removing-doomed, removing-part, unheld-dooms-end}
 use Rattle.blk_kept.proofs.Removals.{removed-unlinked}
 use Rattle.blk_kept.proofs.Touched.{touch-counts}
+use Rattle.blk_kept.proofs.Touched as touched
 use Rattle.blk_kept.proofs.WholeRemovals.{whole-removed}
 use Rattle.blk_kept.proofs.WorkedFolder.{data_words, index_words, nodes_words, records_words, short_folder}
 use Rattle.blk_kept.proofs.WorkedKept.{same-bytes, worked-keeps, worked_folder}
@@ -81,10 +84,19 @@ touched_b = touch-done worked_folder (nodes 2) 70 (nodes 1 ∷ nodes 0 ∷ []) [
 pub b_is_in_front : Keeps (with_used worked (main (codes "b"))) worked_layout [] (after (steps_of_touch (nodes 2) 70 worked_folder) worked_folder)
 b_is_in_front = touch-counts worked worked_layout [] worked_folder (after (steps_of_touch (nodes 2) 70 worked_folder) worked_folder) (main (codes "b")) worked-keeps refl touched_b
 
+-- it is another state that lies there, whose words in use are the same in another order
+b_is_arranged : IsArranged (with_used worked (main (codes "b"))) worked_layout worked-keeps.entries.numbers [] (after (steps_of_touch (nodes 2) 70 worked_folder) worked_folder)
+b_is_arranged = touched.arranged worked worked_layout [] worked_folder (after (steps_of_touch (nodes 2) 70 worked_folder) worked_folder) (main (codes "b")) worked-keeps.entries refl touched_b
+
+b_is_rearranged : KeepsUncounted (with_used worked (main (codes "b"))) worked_layout [] (after (steps_of_touch (nodes 2) 70 worked_folder) worked_folder)
+b_is_rearranged = rearranged worked (with_used worked (main (codes "b"))) worked_layout worked_layout [] [] worked-keeps.entries.numbers worked_folder (after (steps_of_touch (nodes 2) 70 worked_folder) worked_folder) worked-keeps.entries
+    (touched.leaves worked worked_layout [] worked_folder (after (steps_of_touch (nodes 2) 70 worked_folder) worked_folder) (main (codes "b")) worked-keeps.entries refl touched_b) b_is_arranged
+    (touched.same-words worked worked_layout [] worked_folder (after (steps_of_touch (nodes 2) 70 worked_folder) worked_folder) (main (codes "b")) worked-keeps.entries refl touched_b)
+
 -- ---- the records are alone in their chains
 
 -- what holds of the three chains and of none holds of each
-each-chain : (P : List ℕ → Type 0) (other : ℕ) → ((other == 0xA782) ≡ true → P (records 0 ∷ [])) → ((other == 0xB6C) ≡ true → P (records 1 ∷ [])) → ((other == 0xA0E1) ≡ true → P (records 2 ∷ [])) → P [] → P (chain_of other)
+pub each-chain : (P : List ℕ → Type 0) (other : ℕ) → ((other == 0xA782) ≡ true → P (records 0 ∷ [])) → ((other == 0xB6C) ≡ true → P (records 1 ∷ [])) → ((other == 0xA0E1) ≡ true → P (records 2 ∷ [])) → P [] → P (chain_of other)
 each-chain P other one two three none = go (other == 0xA782) (other == 0xB6C) (other == 0xA0E1) refl refl refl where
   go : (s t u : Bool) → (other == 0xA782) ≡ s → (other == 0xB6C) ≡ t → (other == 0xA0E1) ≡ u → P (if s then records 0 ∷ [] else if t then records 1 ∷ [] else if u then records 2 ∷ [] else [])
   go true t u e f g = one e
@@ -93,10 +105,10 @@ each-chain P other one two three none = go (other == 0xA782) (other == 0xB6C) (o
   go false false false e f g = none
 
 -- without these, and without one more, it is the same
-abbrev IsSameWithout : (ℕ → Bool) → ℕ → List ℕ → Type 0
+abbrev pub IsSameWithout : (ℕ → Bool) → ℕ → List ℕ → Type 0
 IsSameWithout before contents chain = filter (λ w. not (w == contents)) (filter before chain) ≡ filter before chain
 
-not-both : {A : Type 0} {b : Bool} → b ≡ true → b ≡ false → A
+pub not-both : {A : Type 0} {b : Bool} → b ≡ true → b ≡ false → A
 not-both is not = absurd (let c : true ≡ false = sym is ∙ not in cc)
 
 pub alone_b : IsAloneIn chain_of 0xA0E1 (records 2)
@@ -144,7 +156,7 @@ alone_last = record {
 abbrev all_kept : KeepsPartlyOut worked worked_layout (λ item. true) chain_of [] worked_folder
 all_kept = kept-begin worked worked_layout [] worked_folder worked-keeps.entries
 
-abbrev without_b : Image
+abbrev pub without_b : Image
 without_b = unchained (unlisted worked_folder (nodes 2)) 0xA0E1
 
 pub removed_b : IsRemoved worked_layout (main (codes "b")) the_plain worked_folder without_b
@@ -152,6 +164,9 @@ removed_b = out-removed worked_layout (main (codes "b")) the_plain worked_folder
 
 pub b-unlisted : IsRemovalDone worked_folder (nodes 2) (unlisted worked_folder (nodes 2))
 b-unlisted = out-of-list worked worked_layout (λ item. true) chain_of [] worked_folder all_kept worked-writable (main (codes "b")) the_plain refl (nodes 1 ∷ nodes 0 ∷ []) [] refl 0xA0E1 alone_b
+
+pub b-ready : IsWritable without_b
+b-ready = ready-out worked worked_layout (λ item. true) chain_of [] worked_folder all_kept worked-writable (main (codes "b")) the_plain refl (nodes 1 ∷ nodes 0 ∷ []) [] refl 0xA0E1 alone_b
 
 -- what is at rest without it is found
 b_is_not_found : Finds (rest (doomed 0 worked (Some plain_object))) without_b
@@ -170,7 +185,7 @@ none-gone : worked ≡ without [] worked
 unfolding computing
 none-gone = refl
 
-b_is_evicted : KeepsUncounted (without ([] ++ whole (codes "b") [] ∷ []) worked) (layout_removed worked_layout (nodes 2) (records 2)) (words_of the_plain ++ []) without_b
+pub b_is_evicted : KeepsUncounted (without ([] ++ whole (codes "b") [] ∷ []) worked) (layout_removed worked_layout (nodes 2) (records 2)) (words_of the_plain ++ []) without_b
 b_is_evicted = plain-groups-go worked [] worked_layout [] worked_folder without_b 0 plain_object [] the_plain (subst (λ (m : State). KeepsUncounted m worked_layout [] worked_folder) none-gone worked-keeps.entries) (unfold computing in refl) refl refl (unfold computing in refl) removed_b
 
 -- the same is said of the state without its main item
@@ -215,11 +230,14 @@ out_is_gone = part-out worked worked_layout (codes "a") 0 (unlisted worked_folde
 
 -- ---- `a` goes, its main item first
 
-abbrev without_main : Image
+abbrev pub without_main : Image
 without_main = unchained (unlisted worked_folder (nodes 0)) 0xA782
 
 main-goes : IsOneMoreOut worked_layout chain_of (main (codes "a")) the_parent worked_folder without_main
 main-goes = goes-out worked worked_layout (λ item. true) chain_of [] worked_folder all_kept worked-writable (main (codes "a")) the_parent refl (nodes 1 ∷ []) (nodes 2 ∷ []) refl 0xA782 alone_main
+
+pub main_leaves : LeavesFiles worked_folder without_main
+main_leaves = leaves worked worked_layout (λ item. true) chain_of [] (main (codes "a")) the_parent worked_folder without_main all_kept refl refl main-goes
 
 main-writable : IsWritable without_main
 main-writable = ready-out worked worked_layout (λ item. true) chain_of [] worked_folder all_kept worked-writable (main (codes "a")) the_parent refl (nodes 1 ∷ []) (nodes 2 ∷ []) refl 0xA782 alone_main
@@ -272,10 +290,9 @@ a_is_doomed : KeepsUncounted (step worked 100 (to_doom_key (codes "a"))).state (
 a_is_doomed = unheld-out-dooms-end worked 100 (to_doom_key (codes "a")) worked_layout (words_of the_part ++ words_of the_parent ++ []) chains_left without_a 1 sparse_object (unfold computing in refl) (unfold computing in refl) refl refl refl a_is_out
 
 -- as it does where both are out before anything is freed
-a_is_whole_out : IsWholeOut worked worked_layout (codes "a") chains_left worked_folder without_a
+pub a_is_whole_out : IsWholeOut worked worked_layout (codes "a") chains_left worked_folder without_a
 a_is_whole_out = record {
-  leaves = leaves-then worked_folder without_main without_a
-      (leaves worked worked_layout (λ item. true) chain_of [] (main (codes "a")) the_parent worked_folder without_main all_kept refl refl main-goes)
+  leaves = leaves-then worked_folder without_main without_a main_leaves
       (leaves worked worked_layout but_main (chains_but chain_of (records 0)) (words_of the_parent ++ []) (part (codes "a") 0) the_part without_main without_a main_is_out refl refl part-follows);
   list = a_is_out.list;
   holds = a_is_out.holds;
@@ -291,5 +308,5 @@ a_is_removed = whole-removed worked worked_layout [] chains_left worked_folder w
 a_goes_whole : IsLess worked (doomed 1 worked (Some sparse_object)).objects (is_of_another (codes "a"))
 a_goes_whole = unheld-less worked 1 sparse_object worked-keeps.entries.valid refl refl refl (state_doomed worked worked-keeps.entries.valid 1 sparse_object refl refl)
 
-a_ends_kept : KeepsUncounted (without_items worked (doomed 1 worked (Some sparse_object)).objects (is_of_another (codes "a"))) (layout_less worked_layout (gone_nodes worked worked_layout (is_of_another (codes "a"))) chains_left) (words_of the_part ++ words_of the_parent ++ []) without_a
+pub a_ends_kept : KeepsUncounted (without_items worked (doomed 1 worked (Some sparse_object)).objects (is_of_another (codes "a"))) (layout_less worked_layout (gone_nodes worked worked_layout (is_of_another (codes "a"))) chains_left) (words_of the_part ++ words_of the_parent ++ []) without_a
 a_ends_kept = partly-out-ends worked worked_layout (words_of the_part ++ words_of the_parent ++ []) (doomed 1 worked (Some sparse_object)).objects (is_of_another (codes "a")) chains_left without_a a_is_out a_goes_whole

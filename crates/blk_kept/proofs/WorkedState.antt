@@ -1,4 +1,4 @@
--- A state with a plain, a sparse and a doomed object: `b` has the stream `zz`; `a` is sparse, and its part 0 has the bytes `xx`; `c`, doomed and not settled, has the stream `yyy` and the handle 5.
+-- A state with a plain, a sparse and a doomed object: `b` has the stream `zz`; `a` is sparse, and its part 0 has the bytes `xx`; a third object, doomed and not settled, has the stream `yyy` and the handle 5, and its key is one of the bucket of `b`.
 use Rattle.std.proofs.Common.{◌≡◌, ℕ, zero, suc, ◌+◌, ◌<◌, List, [], ◌∷◌, ◌++◌, refl, ap, sym, ◌∙◌, subst, arith, Bool, true, false, Some, None}
 use Rattle.std.specs.Prelude.{if◌then◌else◌, ◌==◌, ◌&&◌, nat_lt, codes, replicate}
 use Rattle.std.specs.Str.{bytes_eq}
@@ -38,8 +38,12 @@ part_value = record { bytes = codes "xx"; presence = record { blocks = replicate
 abbrev pub sparse_object : Object
 sparse_object = record { key = codes "a"; shape = sparse 100; streams = ([], [], []); parts = (0, part_value) ∷ []; live = true; settled = true }
 
+-- a key in the bucket of `b`
+abbrev pub twin : List ℕ
+twin = codes "SYo"
+
 abbrev pub doomed_object : Object
-doomed_object = record { key = codes "c"; shape = plain; streams = (codes "yyy", [], []); parts = []; live = false; settled = false }
+doomed_object = record { key = twin; shape = plain; streams = (codes "yyy", [], []); parts = []; live = false; settled = false }
 
 abbrev pub worked : State
 worked = record {
@@ -56,10 +60,10 @@ made_b = to_create 5 (codes "b") ∷ to_write 5 0 0 false (codes "zz") ∷ to_cl
 abbrev made_a : List Request
 made_a = to_create 5 (codes "a") ∷ to_sparse_write 5 0 (codes "xx") ∷ to_close 5 ∷ []
 
-abbrev doomed_c : List Request
-doomed_c = to_create 5 (codes "c") ∷ to_write 5 0 0 false (codes "yyy") ∷ to_doom 5 ∷ []
+abbrev doomed_twin : List Request
+doomed_twin = to_create 5 twin ∷ to_write 5 0 0 false (codes "yyy") ∷ to_doom 5 ∷ []
 
-reached : after_all (after_all (after_all new made_b) made_a) doomed_c ≡ worked
+reached : after_all (after_all (after_all new made_b) made_a) doomed_twin ≡ worked
 unfolding computing
 reached = refl
 
@@ -68,6 +72,9 @@ one_byte letter small = codes_are_bytes (letter ∷ []) (small, tt)
 
 two_bytes : (letter : ℕ) → letter < 256 → IsBytes (letter ∷ letter ∷ [])
 two_bytes letter small = codes_are_bytes (letter ∷ letter ∷ []) (small, (small, tt))
+
+pub twin_bytes : IsBytes twin
+twin_bytes = codes_are_bytes twin (omega arith, (omega arith, (omega arith, tt)))
 
 three_bytes : (letter : ℕ) → letter < 256 → IsBytes (letter ∷ letter ∷ letter ∷ [])
 three_bytes letter small = codes_are_bytes (letter ∷ letter ∷ letter ∷ []) (small, (small, (small, tt)))
@@ -86,23 +93,23 @@ with-a state valid =
     (step_valid (step state 100 (to_create 5 (codes "a"))).state 100 (to_sparse_write 5 0 (codes "xx")) (step_valid state 100 (to_create 5 (codes "a")) valid (omega arith, one_byte 97 (omega arith))) (omega arith, omega arith, two_bytes 120 (omega arith)))
     (omega arith)
 
-with-c : (state : State) → IsValidState state → IsValidState (after_all state doomed_c)
-with-c state valid = step_valid _ 100 (to_doom 5) (after-valid state (codes "c") (codes "yyy") valid (one_byte 99 (omega arith)) (three_bytes 121 (omega arith))) (omega arith)
+with-c : (state : State) → IsValidState state → IsValidState (after_all state doomed_twin)
+with-c state valid = step_valid _ 100 (to_doom 5) (after-valid state twin (codes "yyy") valid twin_bytes (three_bytes 121 (omega arith))) (omega arith)
 
 pub worked-valid : IsValidState worked
 worked-valid = subst IsValidState reached (with-c _ (with-a _ with-b))
 
 -- and so it is where the doomed object was closed before it was opened and doomed, and so is settled
-abbrev settled_c : List Request
-settled_c = to_create 5 (codes "c") ∷ to_write 5 0 0 false (codes "yyy") ∷ to_close 5 ∷ to_open 5 (codes "c") ∷ to_doom 5 ∷ []
+abbrev settled_twin : List Request
+settled_twin = to_create 5 twin ∷ to_write 5 0 0 false (codes "yyy") ∷ to_close 5 ∷ to_open 5 twin ∷ to_doom 5 ∷ []
 
-reached-settled : after_all (after_all (after_all new made_b) made_a) settled_c ≡ marked worked 2 doomed_object true
+reached-settled : after_all (after_all (after_all new made_b) made_a) settled_twin ≡ marked worked 2 doomed_object true
 unfolding computing
 reached-settled = refl
 
-with-settled : (state : State) → IsValidState state → IsValidState (after_all state settled_c)
+with-settled : (state : State) → IsValidState state → IsValidState (after_all state settled_twin)
 with-settled state valid = step_valid _ 100 (to_doom 5)
-    (step_valid _ 100 (to_open 5 (codes "c")) (step_valid _ 100 (to_close 5) (after-valid state (codes "c") (codes "yyy") valid (one_byte 99 (omega arith)) (three_bytes 121 (omega arith))) (omega arith)) (omega arith, one_byte 99 (omega arith))) (omega arith)
+    (step_valid _ 100 (to_open 5 twin) (step_valid _ 100 (to_close 5) (after-valid state twin (codes "yyy") valid twin_bytes (three_bytes 121 (omega arith))) (omega arith)) (omega arith, twin_bytes)) (omega arith)
 
 pub settled-valid : IsValidState (marked worked 2 doomed_object true)
 settled-valid = subst IsValidState reached-settled (with-settled _ (with-a _ with-b))
@@ -148,7 +155,7 @@ abbrev pub the_plain : Loaded
 the_plain = record { node = nodes 2; contents = records 2; dirty = 0; key = codes "b"; role = IsPlain; streams = codes "zz" ∷ [] ∷ [] ∷ []; others = 0 ∷ 0xA0010004 ∷ 0 ∷ 0 ∷ 0 ∷ [] }
 
 abbrev pub the_doomed : Loaded
-the_doomed = record { node = nodes 3; contents = records 3; dirty = 7; key = codes "c"; role = IsPlain; streams = codes "yyy" ∷ [] ∷ [] ∷ []; others = 0 ∷ 0xA0010005 ∷ 0 ∷ 0 ∷ 0 ∷ [] }
+the_doomed = record { node = nodes 3; contents = records 3; dirty = 7; key = twin; role = IsPlain; streams = codes "yyy" ∷ [] ∷ [] ∷ []; others = 0 ∷ 0xA0010005 ∷ 0 ∷ 0 ∷ 0 ∷ [] }
 
 abbrev pub all_four : List Loaded
 all_four = the_parent ∷ the_part ∷ the_plain ∷ the_doomed ∷ []

@@ -1,5 +1,5 @@
 -- In the worked folder requests may be stopped: an Open, a Read, and a Doom, and while an item goes out.
-use Rattle.std.proofs.Common.{◌≡◌, [], ◌∷◌, refl, sym, subst, lit<, false, None, Some, codes}
+use Rattle.std.proofs.Common.{◌≡◌, [], ◌∷◌, refl, sym, subst, lit<, false, None, Some, codes, true}
 use Rattle.std.specs.Prelude.{if◌then◌else◌, nat_lt, slice_set}
 use Rattle.blk_image.specs.Image.{Image}
 use Rattle.blk_image.specs.Steps.{after}
@@ -31,6 +31,8 @@ use Rattle.blk_kept.proofs.DoneSteps.{touch-done}
 use Rattle.blk_kept.proofs.GoingOut.{chain-same, unlisted}
 use Rattle.blk_kept.proofs.Keeping.{kept-found}
 use Rattle.blk_kept.proofs.OneCalls.{reads-end-by-touch, reads-stop}
+use Rattle.blk_kept.proofs.PartlyOut.{kept-begin}
+use Rattle.blk_kept.proofs.PartlyOutStops.{own-items-leave, unlinking-items-find}
 use Rattle.blk_kept.proofs.PartsOut.{parts-find}
 use Rattle.blk_kept.proofs.PlainRemovals.{removing-doomed}
 use Rattle.blk_kept.proofs.Touching.{opens-stop}
@@ -110,6 +112,12 @@ still_chained = record {
 
 chained_finds : Finds (rest (doomed 0 worked (Some plain_object))) (unlisted worked_folder (nodes 2))
 chained_finds = (removing-doomed worked worked_layout [] worked_folder (unlisted worked_folder (nodes 2)) 0 plain_object the_plain worked-keeps.entries refl refl refl refl).0 still_chained
+
+-- it is while items go out one after another
+unlinking_finds : Finds (rest (doomed 0 worked (Some plain_object))) (unlisted worked_folder (nodes 2))
+unfolding still_chained
+unlinking_finds = unlinking-items-find worked worked_layout 0 plain_object (λ item. true) chain_of [] (main (codes "b")) worked_folder (unlisted worked_folder (nodes 2)) (unlisted worked_folder (nodes 2)) refl (own-items-leave (codes "b")).0
+    (kept-begin worked worked_layout [] worked_folder worked-keeps.entries) refl refl b-unlisted still_chained.unlinking
 
 -- ---- another value of a main item
 

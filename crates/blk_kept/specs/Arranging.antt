@@ -29,3 +29,7 @@ pub record IsArranged (state : State) (layout : Layout) (numbers unlinked : List
 abbrev pub StatesAreRearranged : Type 0
 StatesAreRearranged = (state other : State) (layout now : Layout) (unlinked left numbers : List ℕ) (from image : Image) → (k : KeepsUncounted state layout unlinked from) → LeavesFiles from image → IsArranged other now numbers left image
     → IsPermutation (words_in_use unlinked (all_loaded state layout k.numbers)) (words_in_use left (all_loaded other now numbers)) → KeepsUncounted other now left image
+
+-- so it is kept in whatever order its unlinked words stand
+abbrev pub KeptInAnyOrder : Type 0
+KeptInAnyOrder = (state : State) (layout : Layout) (unlinked left : List ℕ) (image : Image) → KeepsUncounted state layout unlinked image → IsPermutation unlinked left → KeepsUncounted state layout left image

@@ -1,6 +1,7 @@
 -- Items go out one after another, each freed after it, while others of their object are still listed: what the folder keeps between, where no state is kept.
 use Rattle.std.specs.Prelude.{◌≡◌, ℕ, ◌<◌, List, [], ◌∷◌, ◌++◌, Bool, true, false, ◌==◌, ◌&&◌, filter, not}
 use Rattle.std.specs.List.{AllByRecursion}
+use Rattle.std.specs.List.Sorted.{IsPermutation}
 use Rattle.std.specs.declared.option.Option.{Option}
 use Rattle.std.specs.declared.option.Option.TheVariants.{None, Some}
 use Rattle.blk_model.specs.Items.{Item, same_item}
@@ -95,6 +96,13 @@ FilesAreDeletedPartlyOut =
     (state : State) (layout : Layout) (keep : Item → Bool) (chains : ℕ → List ℕ) (w : ℕ) (unlinked : List ℕ) (from image : Image)
     → KeepsPartlyOut state layout keep chains (w ∷ unlinked) from → RemovesExternal from w image
     → KeepsPartlyOut state layout keep chains unlinked image
+
+-- in whatever order the unlinked words stand
+abbrev pub PartlyOutInAnyOrder : Type 0
+PartlyOutInAnyOrder =
+    (state : State) (layout : Layout) (keep : Item → Bool) (chains : ℕ → List ℕ) (unlinked left : List ℕ) (image : Image)
+    → KeepsPartlyOut state layout keep chains unlinked image → IsPermutation unlinked left
+    → KeepsPartlyOut state layout keep chains left image
 
 -- and what is out may change, in its blocks and external files or in unlinked ones, as its record that has state 2 then
 abbrev pub WhatIsOutMayChange : Type 0

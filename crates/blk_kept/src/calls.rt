@@ -1,7 +1,7 @@
 // What each kind of call does to a folder that keeps a state.
 
 ghost use Rattle.blk_kept.specs.AllocationLaws.{AllocatedBlocksAreAdded, FreedBlocksAreRemoved};
-ghost use Rattle.blk_kept.specs.Arranging.{StatesAreRearranged};
+ghost use Rattle.blk_kept.specs.Arranging.{KeptInAnyOrder, StatesAreRearranged};
 ghost use Rattle.blk_kept.specs.BoundLaws.{KeptAllocationsAreFew, KeptAllocationsLeaveRoom};
 ghost use Rattle.blk_kept.specs.ChangedStates.{UnheldObjectsGoWhole, UnheldObjectsGoWithTheirParts, ObjectsChangeTheirMainItem};
 ghost use Rattle.blk_kept.specs.CounterLaws.{CountersMayBeWritten, WrittenCountersCount};
@@ -11,7 +11,7 @@ ghost use Rattle.blk_kept.specs.ExternalLaws.{MakingFilesFindsTheSame, MadeFiles
 ghost use Rattle.blk_kept.specs.GoneLaws.{GoneObjectsAreUnlinked, GoneObjectsAreNotCounted};
 ghost use Rattle.blk_kept.specs.LinkLaws.{TableWordsChangeLinks, TableWordsLeaveFiles, TableWordsLeaveSeals, ChainNextsChangeLinks, ChainNextsLeaveSeals, DataChangesAreInside, RecordUpdatesAreInside, RemovedItemsAreOneLess};
 ghost use Rattle.blk_kept.specs.GroupLaws.{GoneItemsAreUnlinked};
-ghost use Rattle.blk_kept.specs.PartlyOut.{KeptStatesArePartlyOut, OneMoreGoesOut, BlocksAreFreedPartlyOut, FilesAreDeletedPartlyOut, WhatIsOutMayChange, OnlyListedAreOut, PartlyOutEndsKept};
+ghost use Rattle.blk_kept.specs.PartlyOut.{KeptStatesArePartlyOut, OneMoreGoesOut, BlocksAreFreedPartlyOut, FilesAreDeletedPartlyOut, PartlyOutInAnyOrder, WhatIsOutMayChange, OnlyListedAreOut, PartlyOutEndsKept};
 ghost use Rattle.blk_kept.specs.ListLaws.{TouchesKeepTheState, TouchesKeepTheCounters};
 ghost use Rattle.blk_kept.specs.NewEntryLaws.{InsertsFindTheSame, LinksFindTheSame, NewEntriesAreKept, NewEntriesAreOneMore};
 ghost use Rattle.blk_kept.specs.NewPartLaws.{NewPartsHoldTheOthers, NewPartsAreAtRest, NewPartsAtEachWrite, NewPartsAreLinked, ParentsDataMayChange, NotedParentsAreChanges, NewPartsEnd};
@@ -20,9 +20,10 @@ ghost use Rattle.blk_kept.specs.ObjectLaws.{HandlesMayChange, HandlesAreNotCount
 ghost use Rattle.blk_kept.specs.RecordLaws.{DoomedMarkingFindsTheSame, DoomedMarkingKeepsTheState, DoomedMarkingKeepsTheCounters, RecordUpdatesChangeOnly, RecordUpdatesLeaveCounters, MarkingFindsEither, MarkingKeepsTheState, MarkingKeepsTheCounters};
 ghost use Rattle.blk_kept.specs.RemovalLaws.{RemovalsFindEither, UnlinkingFindsTheOthers, RemovedItemsAreUnlinked};
 
-/// Where a call leaves the files, another state that lies there with the same words in use is kept.
+/// Where a call leaves the files, another state that lies there with the same words in use is kept; so is the same state with its unlinked words in another order.
 pub fn other_states_are_kept()
-    ensures { StatesAreRearranged }
+    ensures rearranged { StatesAreRearranged }
+    ensures any_order { KeptInAnyOrder }
 {}
 
 /// Once a listed item is touched, the state with it in front is kept, and counted.
@@ -172,12 +173,13 @@ pub fn gone_items_are_unlinked()
     ensures { GoneItemsAreUnlinked }
 {}
 
-/// Of a kept state all items stay at first; then one item more goes out of the list and of its chain, and unlinked blocks may be freed and files deleted before the next one does; once what is left is a state, that is kept.
+/// Of a kept state all items stay at first; then one item more goes out of the list and of its chain, and unlinked blocks may be freed and files deleted before the next one does, in whatever order; once what is left is a state, that is kept.
 pub fn states_may_be_partly_out()
     ensures begins { KeptStatesArePartlyOut }
     ensures one_more { OneMoreGoesOut }
     ensures freed { BlocksAreFreedPartlyOut }
     ensures deleted { FilesAreDeletedPartlyOut }
+    ensures any_order { PartlyOutInAnyOrder }
     ensures changed { WhatIsOutMayChange }
     ensures listed { OnlyListedAreOut }
     ensures ends { PartlyOutEndsKept }

@@ -1,0 +1,65 @@
+-- Blocks that are allocated and freed, as `allocate` and `free` promise it, and what the laws on a kept state ask of that.
+use Rattle.std.specs.Prelude.{◌≡◌, ℕ, List, true}
+use Rattle.std.specs.Option.{ForSome}
+use Rattle.blk_image.specs.Image.{Image}
+use Rattle.blk_image.specs.Told.{Passes, PassesTo, Told}
+use Rattle.blk_format.specs.Address.{file_selector, is_address, is_block_kind, kind_of}
+use Rattle.blk_format.specs.BlockFiles.{IsWellFormed}
+use Rattle.blk_format.specs.Growth.{StaysWhole}
+use Rattle.blk_disk.specs.declared.tables.BlockFiles.{BlockFiles}
+use Rattle.blk_disk.specs.Tables.{Agrees, stands_among}
+use Rattle.blk_alloc.specs.Allocating.{Allocates, AllocatesIn, AllocatesInProgress, AllocatesOrStops, AreCounted, most_allocations}
+use Rattle.blk_alloc.specs.Extending.{HasItsBlocks, KeepsLinks}
+use Rattle.blk_alloc.specs.Owning.{FreesInProgress, FreesOrStops, IsFreed}
+use Rattle.blk_kept.specs.BoundLaws.{HaveFewAllocations}
+use Rattle.blk_kept.specs.Changes.{AddsAllocation, RemovesAllocation, StillFinds}
+
+-- Any call.
+
+-- where the folder stays whole at each word, what was at rest is found at each, with whatever words unlinked
+abbrev pub WholeFoldersFindTheSame : Type 0
+WholeFoldersFindTheSame = (words : List ℕ) (old new : Told) → ForSome old.files (λ from. Passes old new (StaysWhole from)) → ForSome old.files (λ from. Passes old new (StillFinds words from))
+
+-- Free.
+
+-- at each word of a free the folder stays whole
+abbrev pub FreesStayWhole : Type 0
+FreesStayWhole = (w : ℕ) (old new : Told) → ForSome old.files (λ from. PassesTo old new (FreesInProgress w from) (FreesOrStops w from)) → ForSome old.files (λ from. Passes old new (StaysWhole from))
+
+-- once it is done, its allocation is removed
+abbrev pub FreesRemove : Type 0
+FreesRemove =
+    (files : BlockFiles) (w : ℕ) (old new : Told) → stands_among files w ≡ true
+    → ForSome old.files (λ from. PassesTo old new (FreesInProgress w from) (FreesOrStops w from)) → ForSome old.files (λ from. ForSome new.files (IsFreed from w))
+    → ForSome old.files (λ from. ForSome new.files (RemovesAllocation from w))
+
+-- Allocate.
+
+-- files of a kind with as few allocations as a kept state has are counted
+abbrev pub KeptFilesAreCounted : Type 0
+KeptFilesAreCounted = (files : BlockFiles) (kind : ℕ) (image : Image) → Agrees files image → is_block_kind kind ≡ true → HaveFewAllocations image kind most_allocations → AreCounted files kind image
+
+-- at each word of an allocation in counted files the folder stays whole
+abbrev pub AllocationsStayWhole : Type 0
+AllocationsStayWhole =
+    (files : BlockFiles) (kind count : ℕ) (old new : Told) → ForSome old.files (AreCounted files kind)
+    → ForSome old.files (λ from. AreCounted files kind from → PassesTo old new (AllocatesInProgress files kind count from) (AllocatesOrStops files kind count from))
+    → ForSome old.files (λ from. Passes old new (StaysWhole from))
+
+-- what is told of an allocation that is done
+pub record IsAllocation (old new : BlockFiles) (kind w : ℕ) (from image : Image) : Type 0 where
+  pub block_kind : is_block_kind kind ≡ true
+  pub of_kind : kind_of w ≡ kind
+  pub address : is_address w ≡ true
+  pub agreed : Agrees old from
+  pub agrees : Agrees new image
+  pub stands : stands_among new w ≡ true
+  pub long : HasItsBlocks new (file_selector w)
+  pub links : KeepsLinks old new (file_selector w)
+  pub allocates : Allocates old from w image
+  pub within : AllocatesIn old kind from (file_selector w) image
+  pub stays : StaysWhole from image
+
+-- then it is added, where the folder was well formed
+abbrev pub AllocationsAdd : Type 0
+AllocationsAdd = (old new : BlockFiles) (kind w : ℕ) (from image : Image) → IsWellFormed from → IsAllocation old new kind w from image → AddsAllocation from w image

@@ -1,0 +1,27 @@
+-- A record that goes out of its chain, as `unlink` promises it, and what the laws on a kept state ask of that.
+use Rattle.std.specs.Prelude.{◌≡◌, ℕ, List, Option, Some}
+use Rattle.blk_image.specs.Image.{AreBytes, Image}
+use Rattle.blk_model.specs.State.{State}
+use Rattle.blk_volume.specs.Chains.{bucket_at}
+use Rattle.blk_volume.specs.Layout.{Layout}
+use Rattle.blk_volume.specs.Loads.{Loaded}
+use Rattle.blk_chain.specs.Unlinking.{BeforeChecks, CanBeUnlinked, IsSealedAgain, IsUnlinked, StandsBehind}
+use Rattle.blk_kept.specs.Keeping.{KeepsUncounted}
+use Rattle.blk_kept.specs.RemovalLaws.{IsRemovalDone, IsUnlinking, chains_without}
+
+-- where its node is out of the list, the record of an item of a kept state can be unlinked, and the record before it checks, as `unlink` asks
+abbrev pub KeptRecordsCanBeUnlinked : Type 0
+KeptRecordsCanBeUnlinked =
+    (state : State) (layout : Layout) (unlinked : List ℕ) (from between : Image) (node : ℕ) (was : Loaded) (before : Option ℕ) (prefix suffix : List ℕ)
+    → KeepsUncounted state layout unlinked from → IsRemovalDone from node between → AreBytes between
+    → StandsBehind (layout.chains (bucket_at between was.contents)) was.contents before prefix suffix
+    → CanBeUnlinked was.contents before between × BeforeChecks before between
+
+-- once the record of an item whose node is out of the list is unlinked, from behind another record or as the first one of its bucket, it is out of its chain, and all else is in its own
+abbrev pub UnlinkedRecordsAreOut : Type 0
+UnlinkedRecordsAreOut =
+    (state : State) (layout : Layout) (unlinked : List ℕ) (from between image : Image) (node : ℕ) (was : Loaded) (before : Option ℕ) (prefix suffix : List ℕ)
+    → KeepsUncounted state layout unlinked from → layout.at node ≡ Some was → IsRemovalDone from node between → AreBytes between
+    → StandsBehind (layout.chains (bucket_at between was.contents)) was.contents before prefix suffix
+    → IsUnlinked between was.contents before image → IsSealedAgain between was.contents before image
+    → IsUnlinking layout (chains_without layout was.contents) between image

@@ -1,0 +1,48 @@
+-- External files that are made and deleted, as `create` and `delete` promise it, and what the laws on a kept state ask of that.
+use Rattle.std.specs.Prelude.{◌≡◌, ℕ, ◌+◌, ◌*◌, ◌<◌, List, [], ◌∷◌, length, None, true}
+use Rattle.std.specs.Option.{ForSome}
+use Rattle.blk_image.specs.Footprint.{whole}
+use Rattle.blk_image.specs.Image.{Image}
+use Rattle.blk_image.specs.Told.{Applies, Passes, Told}
+use Rattle.blk_model.specs.Room.{items}
+use Rattle.blk_model.specs.State.{State}
+use Rattle.blk_format.specs.Address.{external, external_number, is_address, kind_of}
+use Rattle.blk_format.specs.BlockFiles.{IsWellFormed, stands_in}
+use Rattle.blk_volume.specs.Layout.{Layout}
+use Rattle.blk_external.specs.Changes.{ChangesExternal}
+use Rattle.blk_external.specs.Making.{Creates, CreatesInProgress, last_number, making}
+use Rattle.blk_external.specs.Numbers.{HasFreeNumber, IsFirstFree, most_number, named_file}
+use Rattle.blk_kept.specs.BoundLaws.{most_words}
+use Rattle.blk_kept.specs.Changes.{AddsExternal, RemovesExternal, StillFinds}
+use Rattle.blk_kept.specs.Keeping.{KeepsUncounted}
+
+-- Create.
+
+-- where a state is kept an external number is free, as `create` asks, unless it has many more words unlinked than any command
+abbrev pub KeptStatesHaveFreeNumbers : Type 0
+KeptStatesHaveFreeNumbers = (state : State) (layout : Layout) (unlinked : List ℕ) (image : Image) → KeepsUncounted state layout unlinked image → most_words * items state + length unlinked < most_number → HasFreeNumber image
+
+-- at each word of it what was at rest is found, whatever is unlinked
+abbrev pub CreationsFindTheSame : Type 0
+CreationsFindTheSame = (old new : Told) → ForSome old.files HasFreeNumber → ForSome old.files (λ from. HasFreeNumber from → Passes old new (CreatesInProgress from)) → ForSome old.files (λ from. Passes old new (StillFinds [] from))
+
+-- once it is done, the file is made
+abbrev pub CreationsAdd : Type 0
+CreationsAdd =
+    (w : ℕ) (old new : Told) → is_address w ≡ true → kind_of w ≡ external → ForSome old.files IsWellFormed → ForSome old.files (λ image. IsFirstFree image (last_number image) (external_number w))
+    → ForSome new.files (λ image. Creates image (external_number w)) → Applies old new (making (external_number w)) → ForSome old.files (λ from. ForSome new.files (AddsExternal from w))
+
+-- Delete.
+
+-- at each word of the deletion of an unlinked file, and of a change of it, what was at rest is found
+abbrev pub DeletionsFindTheSame : Type 0
+DeletionsFindTheSame =
+    (w : ℕ) (old new : Told) → kind_of w ≡ external → ForSome old.files (λ from. Passes old new (ChangesExternal (whole (named_file w)) (external_number w) from))
+    → ForSome old.files (λ from. Passes old new (StillFinds (w ∷ []) from))
+
+-- once it is deleted, it is removed
+abbrev pub DeletionsRemove : Type 0
+DeletionsRemove =
+    (w : ℕ) (old new : Told) → kind_of w ≡ external → ForSome old.files IsWellFormed → ForSome old.files (λ from. stands_in from w ≡ true)
+    → ForSome old.files (λ from. Passes old new (ChangesExternal (whole (named_file w)) (external_number w) from)) → ForSome new.files (λ image. image (named_file w) ≡ None)
+    → ForSome old.files (λ from. ForSome new.files (RemovesExternal from w))

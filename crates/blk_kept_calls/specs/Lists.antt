@@ -1,0 +1,83 @@
+-- Nodes that come into the use list, go out of it and are touched, as `insert_front`, `remove` and `touch` promise it, and what the laws on a kept state ask of that.
+use Rattle.std.specs.Prelude.{◌≡◌, ℕ, List, ◌∷◌, ◌++◌, true}
+use Rattle.std.specs.Option.{ForSome}
+use Rattle.blk_image.specs.Image.{Image}
+use Rattle.blk_image.specs.Told.{Applies, Passes, TellsBytes, Told}
+use Rattle.blk_model.specs.Items.{Item}
+use Rattle.blk_model.specs.State.{State}
+use Rattle.blk_disk.specs.declared.tables.BlockFiles.{BlockFiles}
+use Rattle.blk_disk.specs.Open.{IsOpen}
+use Rattle.blk_volume.specs.Completion.{insert, remove}
+use Rattle.blk_volume.specs.Layout.{Layout, is_listed}
+use Rattle.blk_volume.specs.ListImages.{HasListAtRest, operation_steps, steps_of_touch, walked}
+use Rattle.blk_volume.specs.ListPlans.{touch_writes, writes_of}
+use Rattle.blk_volume.specs.ListSteps.{IsPartly, IsTouched}
+use Rattle.blk_volume.specs.ListView.{CanBeInserted}
+use Rattle.blk_volume.specs.Loads.{Loaded}
+use Rattle.blk_volume.specs.View.{list_of}
+use Rattle.blk_lru.specs.Moments.{IsMidOperation, IsMidTouch}
+use Rattle.blk_kept.specs.Keeping.{KeepsUncounted}
+use Rattle.blk_kept.specs.ListLaws.{IsTouchDone}
+use Rattle.blk_kept.specs.NewEntryLaws.{IsInsertDone, IsNewEntryOf}
+use Rattle.blk_kept.specs.RemovalLaws.{IsRemovalDone}
+
+-- What the calls ask of the list.
+
+-- where a state is kept the node of a new entry can be inserted
+abbrev pub NewNodesCanBeInserted : Type 0
+NewNodesCanBeInserted = (state : State) (layout : Layout) (unlinked key : List ℕ) (loaded : Loaded) (from : Image) → KeepsUncounted state layout unlinked from → IsNewEntryOf state layout key loaded from → CanBeInserted (list_of from) (walked from) loaded.node
+
+-- the nodes before and behind one in a list at rest
+pub record IsAmidList (node : ℕ) (image : Image) : Type 0 where
+  pub prefix : List ℕ
+  pub suffix : List ℕ
+  pub rest : HasListAtRest (prefix ++ node ∷ suffix) image
+
+-- and the node of a listed item is in the list, which is at rest
+abbrev pub ListedNodesAreInTheList : Type 0
+ListedNodesAreInTheList = (state : State) (layout : Layout) (unlinked : List ℕ) (image : Image) (item : Item) → KeepsUncounted state layout unlinked image → is_listed state item ≡ true → IsAmidList (layout.place item) image
+
+-- Inserts.
+
+-- at each word of an insert a front of its writes is made
+abbrev pub InsertsArePartly : Type 0
+InsertsArePartly =
+    (files : BlockFiles) (node : ℕ) (old new : Told) → ForSome old.files (λ from. CanBeInserted (list_of from) (walked from) node)
+    → ForSome old.files (λ from. CanBeInserted (list_of from) (walked from) node → Passes old new (IsMidOperation files (writes_of insert node (list_of from)) (walked from) (node ∷ walked from) from))
+    → ForSome old.files (λ from. Passes old new (IsPartly from (writes_of insert node (list_of from))))
+
+-- and in the end it is done
+abbrev pub InsertsAreDone : Type 0
+InsertsAreDone =
+    (files : BlockFiles) (node : ℕ) (old new : Told) → TellsBytes old → ForSome old.files (IsOpen files) → ForSome old.files (λ from. CanBeInserted (list_of from) (walked from) node)
+    → ForSome old.files (λ from. Applies old new (operation_steps insert node from)) → ForSome old.files (λ from. ForSome new.files (IsInsertDone from node))
+
+-- Removals.
+
+-- at each word of a removal of a node that is in the list a front of its writes is made
+abbrev pub RemovalsArePartly : Type 0
+RemovalsArePartly =
+    (files : BlockFiles) (node : ℕ) (old new : Told) → ForSome old.files (IsAmidList node)
+    → ForSome old.files (λ from. (prefix suffix : List ℕ) → HasListAtRest (prefix ++ node ∷ suffix) from → Passes old new (IsMidOperation files (writes_of remove node (list_of from)) (prefix ++ node ∷ suffix) (prefix ++ suffix) from))
+    → ForSome old.files (λ from. Passes old new (IsPartly from (writes_of remove node (list_of from))))
+
+-- and in the end it is done
+abbrev pub RemovalsAreDone : Type 0
+RemovalsAreDone =
+    (files : BlockFiles) (node : ℕ) (old new : Told) → TellsBytes old → ForSome old.files (IsOpen files) → ForSome old.files (IsAmidList node)
+    → ForSome old.files (λ from. Applies old new (operation_steps remove node from)) → ForSome old.files (λ from. ForSome new.files (IsRemovalDone from node))
+
+-- Touches.
+
+-- at each word of a touch a front of its writes is made, or its times
+abbrev pub TouchesArePartly : Type 0
+TouchesArePartly =
+    (files : BlockFiles) (node : ℕ) (old new : Told) → ForSome old.files (IsAmidList node)
+    → ForSome old.files (λ from. (prefix suffix : List ℕ) → HasListAtRest (prefix ++ node ∷ suffix) from → Passes old new (IsMidTouch files node (touch_writes node (list_of from)) (prefix ++ node ∷ suffix) (node ∷ prefix ++ suffix) from))
+    → ForSome old.files (λ from. Passes old new (IsTouched from node (touch_writes node (list_of from))))
+
+-- and in the end it is done
+abbrev pub TouchesAreDone : Type 0
+TouchesAreDone =
+    (files : BlockFiles) (node moment : ℕ) (old new : Told) → TellsBytes old → ForSome old.files (IsOpen files) → ForSome old.files (IsAmidList node)
+    → ForSome old.files (λ from. Applies old new (steps_of_touch node moment from)) → ForSome old.files (λ from. ForSome new.files (IsTouchDone from node))

@@ -1,0 +1,51 @@
+-- Dirty words and links, as `set_dirty`, `set_clean` and `link_front` promise them, and what the laws on a kept state ask of that.
+use Rattle.std.specs.Prelude.{◌≡◌, ◌⊎◌, ℕ, ◌<◌, ◌^◌, List, Some, true}
+use Rattle.std.specs.Option.{ForSome}
+use Rattle.blk_image.specs.Image.{AreBytes, Image}
+use Rattle.blk_image.specs.Told.{Applies, Commits, Passes, TellsBytes, Told}
+use Rattle.blk_model.specs.State.{State}
+use Rattle.blk_format.specs.Address.{kind_of, rankings}
+use Rattle.blk_format.specs.BlockFiles.{IsWellFormed}
+use Rattle.blk_format.specs.Sealed.{RecordChecks}
+use Rattle.blk_volume.specs.Layout.{Layout}
+use Rattle.blk_volume.specs.Loads.{Loaded}
+use Rattle.blk_volume.specs.View.{list_of}
+use Rattle.blk_entry.specs.Marks.{SetsDirtyInProgress, mark_steps}
+use Rattle.blk_chain.specs.Linking.{IsLinkedInFront}
+use Rattle.blk_kept.specs.Keeping.{KeepsUncounted}
+use Rattle.blk_kept.specs.NewEntryLaws.{HasRecordInFront}
+use Rattle.blk_kept.specs.RecordLaws.{IsMarked, IsMarking}
+
+-- Dirty words.
+
+-- where a state is kept each node of it checks
+abbrev pub KeptNodesCheck : Type 0
+KeptNodesCheck = (state : State) (layout : Layout) (unlinked : List ℕ) (image : Image) (node : ℕ) (loaded : Loaded) → KeepsUncounted state layout unlinked image → layout.at node ≡ Some loaded → (list_of image).checks node ≡ true
+
+-- which is what the calls ask, of a folder of bytes
+abbrev pub NodesCheckAsRecords : Type 0
+NodesCheckAsRecords = (image : Image) (node : ℕ) → AreBytes image → kind_of node ≡ rankings → (list_of image).checks node ≡ true → RecordChecks node image
+
+-- at each word of it the dirty word is being set
+abbrev pub MarksAreBeingSet : Type 0
+MarksAreBeingSet =
+    (node mark : ℕ) (old new : Told) → ForSome old.files (RecordChecks node) → ForSome old.files (λ from. RecordChecks node from → Passes old new (SetsDirtyInProgress from node mark))
+    → ForSome old.files (λ from. Passes old new (IsMarking from node mark))
+
+-- and in the end it is set
+abbrev pub MarksAreSet : Type 0
+MarksAreSet =
+    (node mark : ℕ) (old new : Told) → TellsBytes old → ForSome old.files IsWellFormed → ForSome old.files (λ from. (list_of from).checks node ≡ true) → mark < 2 ^ 32
+    → ForSome old.files (λ from. Applies old new (mark_steps from node mark)) → ForSome old.files (λ from. ForSome new.files (IsMarked from node mark))
+
+-- Links.
+
+-- at each word of a link nothing has changed, or the record is linked in front
+abbrev pub LinksComeInFront : Type 0
+LinksComeInFront =
+    (entry : ℕ) (old new : Told) → ForSome old.files (λ from. Commits 1 old new (λ image. image ≡ from) (IsLinkedInFront from entry))
+    → ForSome old.files (λ from. Passes old new (λ image. (image ≡ from) ⊎ HasRecordInFront from entry image))
+
+-- and in the end it is
+abbrev pub LinksAreInFront : Type 0
+LinksAreInFront = (entry : ℕ) (from image : Image) → IsLinkedInFront from entry image → HasRecordInFront from entry image
