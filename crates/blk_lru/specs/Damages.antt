@@ -1,5 +1,5 @@
 -- What is told of a damage that a call on the use list meets: it has the place that was read, and what was found there.
-use Rattle.std.specs.Prelude.{ℕ, ◌≡◌, ◌⊎◌, ◌+◌, true}
+use Rattle.std.specs.Prelude.{ℕ, ◌≡◌, ◌⊎◌, ◌+◌, true, Option, None, Some}
 use Rattle.blk_image.specs.Told.{Told, Stays}
 use Rattle.blk_format.specs.Address.{file_selector, place}
 use Rattle.blk_format.specs.Records.{node_size}
@@ -63,3 +63,16 @@ IsPendingDamage files told damage = IsFlightDamage told damage ⊎ IsShortNode f
 -- completing was damaged at a word of the operation in flight, or at a node; a word that names no node is no damage
 abbrev pub IsCompletingDamage : BlockFiles → Told → Damage → Type 0
 IsCompletingDamage files told damage = IsFlightDamage told damage ⊎ IsWrongNode files told damage
+
+-- too few bytes were read of the next of a node, or of the head where there is none
+abbrev pub IsFrontDamage : Option ℕ → Told → Damage → Type 0
+IsFrontDamage None told damage = IsShort told names.Index IndexHead.HEADS 4 damage
+IsFrontDamage (Some node) told damage = IsShort told (names.Block (file_selector node)) (place node + NodeView.NEXT) 4 damage
+
+-- the same, or of the tail
+abbrev pub IsEndReadDamage : Option ℕ → Told → Damage → Type 0
+IsEndReadDamage last told damage = IsFrontDamage last told damage ⊎ IsShort told names.Index IndexHead.TAILS 4 damage
+
+-- the end of a list was damaged where it was read, before it was written, or at the node
+abbrev pub IsEndDamage : Option ℕ → BlockFiles → (old new : Told) → Damage → Type 0
+IsEndDamage last files old new damage = (IsEndReadDamage last old damage × Stays old new) ⊎ IsWrongNode files new damage

@@ -5,6 +5,7 @@
 
 mod changing;
 mod completing;
+mod ending;
 mod nodes;
 mod plans;
 mod reading;
@@ -12,6 +13,7 @@ mod writes;
 
 pub use changing::{insert_front, remove, touch};
 pub use completing::{complete, pending};
+pub use ending::end_at;
 pub use plans::Plan;
 pub use reading::{after, before, first, last};
 pub use writes::Write;

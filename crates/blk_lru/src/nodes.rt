@@ -6,7 +6,8 @@ ghost use Rattle.blk_image.specs.Image.{Block as block, HasRange};
 ghost use Rattle.blk_image.specs.Told.{Rises, Stays};
 ghost use Rattle.blk_format.specs.Address.{file_selector, place};
 ghost use Rattle.blk_format.specs.Records.{checks, node_seal_place, node_size};
-ghost use Rattle.blk_io.specs.Faults.{IfDamaged, IfDevice};
+ghost use Rattle.blk_io.specs.declared.folder.FileId.TheVariants as names;
+ghost use Rattle.blk_io.specs.Faults.{IfDamaged, IfDevice, IsShort};
 ghost use Rattle.blk_disk.specs.Tables.{Agrees, is_node_among};
 ghost use Rattle.blk_lru.specs.Damages.{IsNodeLinkDamage, IsShortNode};
 ghost use Rattle.blk_lru.specs.Nodes.{link_at, list_among, FindsNode, HasNode, IsLinkPlace};
@@ -53,6 +54,27 @@ pub(crate) fn link<F: Folder>(
         return Err(Fault::Damaged(Damage { file, at, found }));
     };
     Ok(other)
+}
+
+// The word of a link of a node, which need not name a node, by one folder call.
+pub(crate) fn link_word<F: Folder>(
+    f: &mut F,
+    files: &BlockFiles,
+    node: Addr,
+    at: u32,
+) -> Result<u32, Fault>
+    requires stands { is_node_among files.now node ≡ true }
+    requires place { IsLinkPlace at }
+    ensures word { IfOk result (λ found. ForSome (F.told f.old).files (λ image. found ≡ link_at image node at)) }
+    ensures stays { Stays (F.told f.old) (F.told f.new) }
+    ensures damaged { IfDamaged result (IsShort (F.told f.old) (names.Block (file_selector node)) (place node + at) 4) }
+    ensures untold { ForSome (F.told f.old).files (Agrees files.now) → IfDamaged result (λ _. (F.told f.old).files ≡ None) }
+    ensures later { F.faults f.old ≤ F.faults f.new }
+    ensures device { IfDevice result (Rises (F.faults f.old) (F.faults f.new)) }
+{
+    let mut bytes = [0u8; 4];
+    files.read_block(f, node, at, &mut bytes)?;
+    Ok(u32::from_le_bytes(bytes))
 }
 
 // The node that a word names and its links, where it stands and checks, by at most one folder call.

@@ -1,6 +1,7 @@
 // What an operation on the use list writes.
 ghost use Rattle.std.specs.Prelude.{◌≡◌, ◌+◌, ◌++◌, ◌∷◌, ◌≤◌, [], length, map};
 ghost use Rattle.blk_volume.specs.Completion.{putting_in_front};
+ghost use Rattle.blk_volume.specs.ListPlans.{ending_by};
 ghost use Rattle.blk_volume.specs.ListView as list;
 ghost use Rattle.blk_lru.specs.Plans.{operation_code, leaving, pending, whole_plan, word_or_zero};
 ghost use Rattle.blk_lru.specs.Plans as plans;
@@ -91,6 +92,25 @@ pub(crate) fn ending() -> Plan
 {
     let mut plan = ArrayVec::new();
     add(&mut plan, &[Write::Transaction(0)]);
+    plan
+}
+
+// What makes a node the last of a list whose tail is this word, where the node's next is `front`; or, where there is
+// no node, the list empty whose head is `front`.
+pub(crate) fn end_plan(last: &Option<Addr>, front: u32, tail: u32) -> Plan
+    ensures { map meant result.items ≡ ending_by last.now front tail }
+{
+    let (end, first) = match *last {
+        Some(node) => (node.word(), Write::Next(node, node.word())),
+        None => (0, Write::Head(0)),
+    };
+    let mut plan = ArrayVec::new();
+    if front != end {
+        add(&mut plan, &[first]);
+    }
+    if tail != end {
+        add(&mut plan, &[Write::Tail(end)]);
+    }
     plan
 }
 

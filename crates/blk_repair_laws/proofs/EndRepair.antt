@@ -12,7 +12,8 @@ use Rattle.blk_laws.proofs.states.Central.{walk-idle}
 use Rattle.blk_laws.proofs.lists.ListCompletions.{at_moment}
 use Rattle.blk_laws.proofs.lists.Lists.{reend, eqb-sym}
 use Rattle.blk_laws.proofs.lists.Walks.{Fresh, walk_list}
-use Rattle.blk_repair_laws.specs.EndRepair.{unless, end_writes_of, end_writes, EndsAreMended}
+use Rattle.blk_volume.specs.ListPlans.{unless}
+use Rattle.blk_repair_laws.specs.EndRepair.{end_writes_of, end_writes, EndsAreMended}
 
 -- what was not met, with one more node met
 pub Fresh-less : (met : List ℕ) (w : ℕ) (xs : List ℕ) → Fresh (w ∷ met) xs → (is_among xs w ≡ false) × Fresh met xs

@@ -38,7 +38,8 @@ use Rattle.blk_laws.proofs.lists.WordTurns.{removals-can, removals-rest}
 use Rattle.blk_laws.proofs.lists.ListWrites.{completion_keeps}
 use Rattle.blk_laws.proofs.lists.ListCompletions.{at_moment, walk_outcome, last_good}
 use Rattle.blk_laws.proofs.lists.WriteSteps.{checked-small, writes_show, writes-go_on, WritesShow}
-use Rattle.blk_repair_laws.specs.EndRepair.{unless, end_writes_of, end_writes}
+use Rattle.blk_volume.specs.ListPlans.{unless}
+use Rattle.blk_repair_laws.specs.EndRepair.{end_writes_of, end_writes}
 use Rattle.blk_volume.specs.Audit.{is_kept, kept_nodes}
 use Rattle.blk_repair_laws.specs.ListRepair.{end_steps, removal_steps, dropped_nodes, completed_image, ended_image, list_repair_steps, HoldsTheSame, IsListMended, ListsAreRepaired, CompletedListsAreEnded, ListsAtRestNeedNoEnd, all_but, is_first, DroppedNodesAreTheOthers, HasLeft, HasRemoved, RemovalsBegin, KeptNodesArePassed, OtherNodesAreRemoved, ListRepairsEnd}
 use Rattle.blk_repair_laws.proofs.EndRepair.{IsWalked, walked-is, ends-mended}

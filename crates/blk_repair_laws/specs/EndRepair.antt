@@ -1,18 +1,15 @@
 -- How the end of the use list is mended.
-use Rattle.std.specs.Prelude.{◌≡◌, ℕ, Bool, false, ◌==◌, if◌then◌else◌, take, List, [], ◌∷◌, ◌++◌}
-use Rattle.blk_volume.specs.ListView.{ListView, ListWrite, Next, Head, Tail, last_or, after_writes}
+use Rattle.std.specs.Prelude.{◌≡◌, ℕ, false, take, List, [], ◌∷◌, None, Some}
+use Rattle.blk_volume.specs.ListView.{ListView, ListWrite, last_or, after_writes}
+use Rattle.blk_volume.specs.ListPlans.{ending_writes}
 use Rattle.blk_volume.specs.Completion.{completed_list}
 use Rattle.blk_volume.specs.Walk.{walk}
 use Rattle.blk_volume.specs.ListView.{IsAtRest}
 
--- a word that is right already isn't written
-abbrev pub unless : Bool → ListWrite → List ListWrite
-unless right write = if right then [] else write ∷ []
-
--- the last of the walked nodes gets itself as its next, or the head becomes 0 where no node is walked; then the tail becomes the last node, or 0
+-- the last of the walked nodes becomes the last of the list, or the list empty where no node is walked
 abbrev pub end_writes_of : ListView → List ℕ → List ListWrite
-end_writes_of list [] = unless (list.head == 0) (Head 0) ++ unless (list.tail == 0) (Tail 0)
-end_writes_of list (node ∷ nodes) = unless (list.next (last_or node nodes) == last_or node nodes) (Next (last_or node nodes) (last_or node nodes)) ++ unless (list.tail == last_or node nodes) (Tail (last_or node nodes))
+end_writes_of list [] = ending_writes list None
+end_writes_of list (node ∷ nodes) = ending_writes list (Some (last_or node nodes))
 
 -- the same of a list
 unfoldable pub end_writes : ListView → List ListWrite

@@ -1,6 +1,6 @@
 -- What an operation on the use list writes, in its order.
-use Rattle.std.specs.Prelude.{◌≡◌, ℕ, ◌==◌, if◌then◌else◌, nat_lt, take, List, [], ◌∷◌, ◌++◌}
-use Rattle.blk_volume.specs.ListView.{ListView, ListWrite, Transaction, Operation, with_write, after_writes}
+use Rattle.std.specs.Prelude.{◌≡◌, ℕ, ◌==◌, if◌then◌else◌, nat_lt, take, List, [], ◌∷◌, ◌++◌, Bool, Option, None, Some}
+use Rattle.blk_volume.specs.ListView.{ListView, ListWrite, Next, Head, Tail, Transaction, Operation, with_write, after_writes}
 use Rattle.blk_volume.specs.Completion.{insert, remove, move, counts, taking_out, putting_in_front, take_out, completed_list}
 use Rattle.blk_volume.specs.Walk.{walk}
 
@@ -27,6 +27,24 @@ writes_of code node list = Operation code ∷ Transaction node ∷ pending_write
 -- the writes of a touch, which moves a node to the front: touching the head starts no transaction
 abbrev pub touch_writes : (node : ℕ) → ListView → List ListWrite
 touch_writes node list = if list.head == node then [] else writes_of move node list
+
+-- a word that is right already isn't written
+abbrev pub unless : Bool → ListWrite → List ListWrite
+unless right write = if right then [] else write ∷ []
+
+-- what makes a node the last of a list, by its next and the tail, which become the node; and what makes a list empty, by its head and the tail, which become 0
+abbrev pub ending_by : Option ℕ → (front tail : ℕ) → List ListWrite
+ending_by None front tail = unless (front == 0) (Head 0) ++ unless (tail == 0) (Tail 0)
+ending_by (Some node) front tail = unless (front == node) (Next node node) ++ unless (tail == node) (Tail node)
+
+-- the next of a node, or the head of a list where there is none
+abbrev pub front_of : ListView → Option ℕ → ℕ
+front_of list None = list.head
+front_of list (Some node) = list.next node
+
+-- what makes a node the last of a list, or the list empty
+abbrev pub ending_writes : ListView → Option ℕ → List ListWrite
+ending_writes list last = ending_by last (front_of list last) list.tail
 
 -- what completing gives, but for the operation word, which nobody reads while no transaction is in flight
 unfoldable pub completed_but_operation : ListView → ListView

@@ -1,0 +1,90 @@
+// The end of the use list.
+ghost use Rattle.std.specs.Prelude.{◌≡◌, ◌≤◌, IfOk, IfSome, None, OnOk, map, true};
+ghost use Rattle.std.specs.Option.{ForSome};
+ghost use Rattle.blk_image.specs.Told.{Applies, MakesPartOf, Rises, Stays};
+ghost use Rattle.blk_volume.specs.ListPlans.{ending_writes, front_of};
+ghost use Rattle.blk_volume.specs.ListSteps.{AllWriteWords, AreOf, Seals, steps_of_writes};
+ghost use Rattle.blk_volume.specs.ListImages.{CanBeMade};
+ghost use Rattle.blk_volume.specs.View.{list_of};
+ghost use Rattle.blk_io.specs.Faults.{IfDamaged, IfDevice};
+ghost use Rattle.blk_disk.specs.Open.{IsOpen};
+ghost use Rattle.blk_disk.specs.Tables.{Agrees, is_node_among};
+ghost use Rattle.blk_lru.specs.Damages.{IsEndDamage, IsEndReadDamage, IsFrontDamage};
+ghost use Rattle.blk_lru.specs.Writes.{meant};
+
+use crate::nodes::link_word;
+use crate::plans::{Plan, end_plan};
+use crate::reading::{HEAD, TAIL};
+use crate::writes::perform;
+use blk_addr::Addr;
+use blk_disk::BlockFiles;
+use blk_index::word;
+use blk_io::{Fault, Folder};
+use blk_record::NodeView;
+
+/// Makes a node the last of the list: it gets itself as its next, and the tail names it. Or, for `None`, makes the
+/// list empty: head and tail become 0.
+///
+/// A word is written only where it differs. No operation is in flight meanwhile, and the list need not be whole. A
+/// node that is to be written and doesn't check is a damage, and so are too few bytes. This takes at most 7 folder
+/// calls, and 2 where nothing differs.
+pub fn end_at<F: Folder>(f: &mut F, files: &BlockFiles, last: Option<Addr>) -> Result<(), Fault>
+    requires stands { IfSome last (λ node. is_node_among files.now node ≡ true) }
+    requires is_open { ForSome (F.told f.old).files (IsOpen files.now) }
+    ensures checked { OnOk result (ForSome (F.told f.old).files (λ from. CanBeMade from (ending_writes (list_of from) last))) }
+    ensures sealed { OnOk result (ForSome (F.told f.old).files (λ from. ForSome (F.told f.new).files (Seals from (ending_writes (list_of from) last)))) }
+    ensures steps { OnOk result (ForSome (F.told f.old).files (λ from. Applies (F.told f.old) (F.told f.new) (steps_of_writes (ending_writes (list_of from) last) from))) }
+    ensures prefix { MakesPartOf (F.told f.old) (F.told f.new) (λ from. steps_of_writes (ending_writes (list_of from) last) from) }
+    ensures is_open { ForSome (F.told f.new).files (IsOpen files.now) }
+
+    // A folder that tells its files gives a damage only where the node is to be written and doesn't check.
+    ensures damaged { IfDamaged result (IsEndDamage last files.now (F.told f.old) (F.told f.new)) }
+    ensures untold { ForSome (F.told f.old).files (λ from. CanBeMade from (ending_writes (list_of from) last)) → IfDamaged result (λ _. (F.told f.old).files ≡ None) }
+
+    ensures later { F.faults f.old ≤ F.faults f.new }
+    ensures device { IfDevice result (Rises (F.faults f.old) (F.faults f.new)) }
+{
+    let plan = ending_of(f, files, last)?;
+    perform(f, files, &plan)
+}
+
+// What makes a node the last of the list, or the list empty, by two folder calls.
+fn ending_of<F: Folder>(
+    f: &mut F,
+    files: &BlockFiles,
+    last: Option<Addr>,
+) -> Result<Plan, Fault>
+    requires stands { IfSome last (λ node. is_node_among files.now node ≡ true) }
+    ensures plan { IfOk result (λ plan. ForSome (F.told f.old).files (λ image. Agrees files.now image → map meant plan.items ≡ ending_writes (list_of image) last)) }
+    ensures stand { IfOk result (λ plan. AreOf (λ n. is_node_among files.now n ≡ true) (map meant plan.items)) }
+    ensures words { IfOk result (λ plan. AllWriteWords (map meant plan.items)) }
+    ensures stays { Stays (F.told f.old) (F.told f.new) }
+    ensures damaged { IfDamaged result (IsEndReadDamage last (F.told f.old)) }
+    ensures untold { ForSome (F.told f.old).files (IsOpen files.now) → IfDamaged result (λ _. (F.told f.old).files ≡ None) }
+    ensures later { F.faults f.old ≤ F.faults f.new }
+    ensures device { IfDevice result (Rises (F.faults f.old) (F.faults f.new)) }
+{
+    let front = front_word(f, files, last)?;
+    let tail = word(f, TAIL)?;
+    Ok(end_plan(&last, front, tail))
+}
+
+// The next of a node, or the head of the list where there is none.
+fn front_word<F: Folder>(
+    f: &mut F,
+    files: &BlockFiles,
+    last: Option<Addr>,
+) -> Result<u32, Fault>
+    requires stands { IfSome last (λ node. is_node_among files.now node ≡ true) }
+    ensures word { IfOk result (λ front. ForSome (F.told f.old).files (λ image. Agrees files.now image → front ≡ front_of (list_of image) last)) }
+    ensures stays { Stays (F.told f.old) (F.told f.new) }
+    ensures damaged { IfDamaged result (IsFrontDamage last (F.told f.old)) }
+    ensures untold { ForSome (F.told f.old).files (IsOpen files.now) → IfDamaged result (λ _. (F.told f.old).files ≡ None) }
+    ensures later { F.faults f.old ≤ F.faults f.new }
+    ensures device { IfDevice result (Rises (F.faults f.old) (F.faults f.new)) }
+{
+    match last {
+        Some(node) => link_word(f, files, node, NodeView::NEXT),
+        None => word(f, HEAD),
+    }
+}
