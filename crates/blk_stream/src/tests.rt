@@ -344,10 +344,14 @@ fn moment_of(f: &mut Mem, bytes: Vec<u8>) -> Result<Moment, Failed> {
     })
 }
 
-// Whether these marks have all of those at a moment, and no others than those at two.
+// Whether these marks have all of those at a moment, and no others than those at two, which share the record's block alone.
 fn are_marked(marks: [u32; 3], now: &Moment, before: &Moment, after: &Moment) -> bool {
     for n in 0..3usize {
         let most = before.marks[n] | after.marks[n];
+        let shared = if n == 0 { 1 } else { 0 };
+        if before.marks[n] & after.marks[n] != shared {
+            return false;
+        }
         if now.marks[n] & !marks[n] != 0 || marks[n] & !most != 0 {
             return false;
         }
