@@ -17,7 +17,7 @@ use Rattle.blk_volume.specs.Entries.{is_key_length, role_of, stored_streams, str
 use Rattle.blk_volume.specs.Loads as shown
 use Rattle.blk_volume.specs.Loads.{held_rule}
 use Rattle.blk_volume.specs.Reasons as reasons
-use Rattle.blk_volume.specs.Reasons.{◌>>=◌, demand}
+use Rattle.blk_volume.specs.Reasons.{◌>>=◌}
 use Rattle.blk_volume.specs.View.{RecordFields, StoreView, data_size_of, store_of}
 use Rattle.blk_audit.specs.Chaining.{reached_by}
 use Rattle.blk_audit.proofs.AllChains.{reached-chained}

@@ -108,6 +108,12 @@ new_apart files u w from made agrees some stands may there placed = record {
 
 -- Two addresses of which each claim has one owner.
 
+pub own : (n : ℕ) → (n == n) ≡ true
+own n = grind (arith, nat_tests)
+
+pub blocks_back : (u v : ℕ) → ShareNoBlock u v → ShareNoBlock v u
+blocks_back u v apart same = ⊎_elim (λ one. inr one) (λ one. inl one) (apart (sym same))
+
 module _ (u : ℕ) (words : List ℕ) (w : ℕ) (once : repeats (claims_of_all (u ∷ words)) ≡ false) (among : is_among words w ≡ true) where
   apart_claims : (claim : Claim) → has_claim (claims_of u) claim ≡ true → has_claim (claims_of w) claim ≡ true → ⊥
   apart_claims claim of_u of_w = (once_parts (claims_of u) (claims_of_all words) once).1 claim of_u (claim_among words w claim among of_w)
@@ -119,6 +125,3 @@ module _ (u : ℕ) (words : List ℕ) (w : ℕ) (once : repeats (claims_of_all (
     blocks = λ blocky_u blocky_w. none_shared u w
         (λ b of_u of_w. apart_claims (BlockOf (file_selector u) b) (claims_blocks u (file_selector u) b (record { some = some_u; block_kind = blocky_u }) ∙ of_u) (claims_blocks w (file_selector u) b (record { some = some_w; block_kind = blocky_w }) ∙ of_w));
   }
-    where
-      own : (n : ℕ) → (n == n) ≡ true
-      own n = grind (arith, nat_tests)

@@ -23,6 +23,7 @@ use Rattle.blk_entry.specs.Steps.{data_steps}
 use Rattle.blk_entry.proofs.NewImages.{same_kind}
 use Rattle.blk_stream.specs.declared.places.Stored.{Stored}
 use Rattle.blk_stream.specs.Copying.{AreOldBytes, IsCopied, IsCutOld, IsCutRead, ShareNoData, data_byte, old_spans, span_of}
+use Rattle.blk_stream.proofs.PlacesFreed.{blocky_of}
 use Rattle.blk_stream.proofs.Naming.{apart_place}
 use Rattle.blk_stream.proofs.InsideSteps.{apart_file}
 use Rattle.blk_stream.proofs.InsideData.{data_beside, data_there}
@@ -64,9 +65,6 @@ blocks_before u w same first = rw same (by_size (kind_of w == 1) (kind_of w == 2
     by_size false true c = omega (arith, first)
     by_size false false true = omega (arith, first)
     by_size false false false = omega (arith, first)
-
-pub blocky_of : (w : ℕ) → (kind_of w == external) ≡ false → kind_of w ≢ external
-blocky_of w t e = let z : (kind_of w == external) ≡ true = grind (arith, nat_tests) in let y : true ≡ false = sym z ∙ t in cc
 
 module _ (files : BlockFiles) (one other start end n : ℕ) (one_inside : IsInside files one 0 n) (other_inside : IsInside files other 0 end) (apart : ShareNoData one other) (order : start ≤ end) where
   off_span : (k : ℕ) → k < n → (span_of other start end).bytes (data_file one) (data_start one + k) ≡ false

@@ -16,7 +16,7 @@ use Rattle.blk_stream.specs.Changing.{stream_words}
 use Rattle.blk_stream.specs.Freeing.{freeing_of, is_block_of, leaving_of, left_by}
 use Rattle.blk_stream.specs.Moving.{LeavesPlace, LeavesPlaceInProgress}
 use Rattle.blk_stream.specs.Dropping.{DropsStream, DropsStreamInProgress}
-use Rattle.blk_stream.proofs.PlacesFreed.{freeing_blocks, freeing_external, leaving_some}
+use Rattle.blk_stream.proofs.PlacesFreed.{blocky_of, freeing_blocks, freeing_external, leaving_some}
 
 -- no file comes to be
 absent_changed : (entry i old size word : ℕ) (from image : Image) → LeavesPlace entry i old size word from image → (number : ℕ) → has_file from (External number) ≡ false → has_file image (External number) ≡ false
@@ -30,12 +30,9 @@ absent_changed entry i old size word from image changed number none =
     (λ (differs : external_number old ≢ number). only.files (External number) (let e : nat_eq (external_number old) number ≡ false = grind (arith, nat_tests) in e) ∙ none)
     (cases_eq (external_number old) number))
     (λ (t : (kind_of old == external) ≡ false).
-    let maps : SameOutside (either (stream_words entry i) (map_of (file_selector old))) from image = subst (λ (F : Footprint). SameOutside (either (stream_words entry i) F) from image) (freeing_blocks old (blocky_of t)) changed.same in
+    let maps : SameOutside (either (stream_words entry i) (map_of (file_selector old))) from image = subst (λ (F : Footprint). SameOutside (either (stream_words entry i) F) from image) (freeing_blocks old (blocky_of old t)) changed.same in
     maps.files (External number) refl ∙ none)
     (cases_Bool (kind_of old == external))
-  where
-    blocky_of : (kind_of old == external) ≡ false → kind_of old ≢ external
-    blocky_of t e = let z : (kind_of old == external) ≡ true = grind (arith, nat_tests) in let y : true ≡ false = sym z ∙ t in cc
 
 -- A stream that is dropped.
 

@@ -15,7 +15,7 @@ use Rattle.blk_volume.specs.Entries.{stored_stream, stored_streams}
 use Rattle.blk_entry.proofs.NewShown.{stands_as_kind, stands_here}
 use Rattle.blk_entry.proofs.Windows.{not_external}
 use Rattle.blk_stream.specs.Streams.{address_place, address_word, size_place, size_word, streams_at}
-use Rattle.blk_stream.specs.Changing.{record_word}
+use Rattle.blk_stream.specs.Changing.{record_word, stream_words}
 use Rattle.blk_stream.specs.Dropping.{dropping_of}
 use Rattle.blk_stream.specs.Shown.{DroppedStreamsAreEmpty}
 use Rattle.blk_stream.proofs.PlacesLeft.{leaving_off}
@@ -44,20 +44,25 @@ fourth_of image entry streams e = by_stands (stands_as image blocks_256 entry) e
     by_stands true h = fourth_none image (fields_of (entry_at image entry)) streams h
     by_stands false h = absurd (none_some h)
 
--- its words lie apart from those of the others
-fourth_off : (entry at count : ℕ) (from : Image) → count ≤ 3 → (at ≡ 52) ⊎ (at ≡ 68) → (k : ℕ) → place entry + at ≤ k → k < place entry + at + 4 → (dropping_of count entry from).bytes (Block (file_selector entry)) k ≡ false
-unfolding dropping_of
-fourth_off entry at zero from few is k first last = refl
-fourth_off entry at (suc i) from few is k first last =
+-- its words lie apart from those of another
+pub fourth_off : (entry i at k : ℕ) → i < 3 → (at ≡ 52) ⊎ (at ≡ 68) → place entry + at ≤ k → k < place entry + at + 4 → (stream_words entry i).bytes (Block (file_selector entry)) k ≡ false
+fourth_off entry i at k few is first last =
     let a = word_off (size_place i) (⊎_elim (λ (e : at ≡ 52). inr (omega (arith, e, few, first))) (λ (e : at ≡ 68). inr (omega (arith, e, few, first))) is) in
     let b = word_off (address_place i) (⊎_elim (λ (e : at ≡ 52). inl (omega (arith, e, last))) (λ (e : at ≡ 68). inr (omega (arith, e, few, first))) is) in
     let c = word_off 92 (⊎_elim (λ (e : at ≡ 52). inl (omega (arith, e, last))) (λ (e : at ≡ 68). inl (omega (arith, e, last))) is) in
-    let d = leaving_off (address_word from entry i) (file_selector entry) k (let p = past_header entry in omega (arith, first, p)) in
-    let rest = fourth_off entry at i from (omega (arith, few)) is k first last in
-    rw (rest, a, b, c, d) refl
+    rw (a, b, c) refl
   where
     word_off : (q : ℕ) → (k < place entry + q) ⊎ (place entry + q + 4 ≤ k) → (record_word entry q).bytes (Block (file_selector entry)) k ≡ false
     word_off q off = apart_place (Block (file_selector entry)) (Block (file_selector entry)) (place entry + q) 4 k off
+
+fourth_dropped : (entry at count : ℕ) (from : Image) → count ≤ 3 → (at ≡ 52) ⊎ (at ≡ 68) → (k : ℕ) → place entry + at ≤ k → k < place entry + at + 4 → (dropping_of count entry from).bytes (Block (file_selector entry)) k ≡ false
+unfolding dropping_of
+fourth_dropped entry at zero from few is k first last = refl
+fourth_dropped entry at (suc i) from few is k first last =
+    let words = fourth_off entry i at k (omega (arith, few)) is first last in
+    let place_off = leaving_off (address_word from entry i) (file_selector entry) k (let p = past_header entry in omega (arith, first, p)) in
+    let rest = fourth_dropped entry at i from (omega (arith, few)) is k first last in
+    rw (rest, words, place_off) refl
 
 -- the words of the fourth stream
 pub fourth_size : (image : Image) (entry : ℕ) → size_word image entry 3 ≡ word image (Block (file_selector entry)) (place entry + 52)
@@ -73,10 +78,10 @@ empty_stream : (image : Image) (fields : RecordFields) (i : ℕ) → data_size_o
 unfolding stored_stream store_of stored_at is_storage
 empty_stream image fields i size none = rw (size, none) refl
 
-streams_known : (image : Image) (fields : RecordFields) → data_size_of fields 3 ≡ 0 → address_of fields 3 ≡ 0 → stored_stream (store_of image) fields 0 ≡ Some [] → stored_stream (store_of image) fields 1 ≡ Some [] → stored_stream (store_of image) fields 2 ≡ Some []
-    → stored_streams (store_of image) fields ≡ Some ([] ∷ [] ∷ [] ∷ [])
+pub streams_known : (image : Image) (fields : RecordFields) (a b c : List ℕ) → data_size_of fields 3 ≡ 0 → address_of fields 3 ≡ 0 → stored_stream (store_of image) fields 0 ≡ Some a → stored_stream (store_of image) fields 1 ≡ Some b → stored_stream (store_of image) fields 2 ≡ Some c
+    → stored_streams (store_of image) fields ≡ Some (a ∷ b ∷ c ∷ [])
 unfolding stored_streams
-streams_known image fields size none a b c = rw (size, none, a, b, c) refl
+streams_known image fields a b c size none is_a is_b is_c = rw (size, none, is_a, is_b, is_c) refl
 
 pub dropped-empty : DroppedStreamsAreEmpty
 unfolding streams_at fields_at
@@ -84,10 +89,10 @@ dropped-empty files from image entry kind address stands agrees has dropped =
     let here = stands_as_kind image entry blocks_256 (stands_here files image entry agrees address (not_external entry kind) stands) kind in
     let fourth = fourth_of from entry has.streams has.is in
     let fields : RecordFields = fields_of (entry_at image entry) in
-    let size : size_word image entry 3 ≡ 0 = fourth_size image entry ∙ same_word_outside (dropping_of 3 entry from) from image (Block (file_selector entry)) (place entry + 52) dropped.same (fourth_off entry 52 3 from (omega arith) (inl refl)) ∙ sym (fourth_size from entry) ∙ fourth.0 in
-    let none : address_word image entry 3 ≡ 0 = fourth_word image entry ∙ same_word_outside (dropping_of 3 entry from) from image (Block (file_selector entry)) (place entry + 68) dropped.same (fourth_off entry 68 3 from (omega arith) (inr refl)) ∙ sym (fourth_word from entry) ∙ fourth.1 in
+    let size : size_word image entry 3 ≡ 0 = fourth_size image entry ∙ same_word_outside (dropping_of 3 entry from) from image (Block (file_selector entry)) (place entry + 52) dropped.same (fourth_dropped entry 52 3 from (omega arith) (inl refl)) ∙ sym (fourth_size from entry) ∙ fourth.0 in
+    let none : address_word image entry 3 ≡ 0 = fourth_word image entry ∙ same_word_outside (dropping_of 3 entry from) from image (Block (file_selector entry)) (place entry + 68) dropped.same (fourth_dropped entry 68 3 from (omega arith) (inr refl)) ∙ sym (fourth_word from entry) ∙ fourth.1 in
     let a = dropped.none 0 (omega arith) in
     let b = dropped.none 1 (omega arith) in
     let c = dropped.none 2 (omega arith) in
     ap (λ (t : Bool). option_and_then (stored_streams (store_of image)) (if t then Some fields else None)) here
-    ∙ streams_known image fields size none (empty_stream image fields 0 a.size_is a.word_is) (empty_stream image fields 1 b.size_is b.word_is) (empty_stream image fields 2 c.size_is c.word_is)
+    ∙ streams_known image fields [] [] [] size none (empty_stream image fields 0 a.size_is a.word_is) (empty_stream image fields 1 b.size_is b.word_is) (empty_stream image fields 2 c.size_is c.word_is)

@@ -21,7 +21,8 @@ use Rattle.blk_stream.specs.declared.places.Stored.{Stored}
 use Rattle.blk_stream.specs.Copying.{AreOldBytes, HasOldPlace, ShareNoData, ShareNoFile, old_spans, span_of}
 use Rattle.blk_stream.specs.Filling.{FillsPlace}
 use Rattle.blk_stream.specs.Inside.{HasStreamLength, data_of, room_steps}
-use Rattle.blk_stream.proofs.Copies.{blocks_before, blocky_of, has_data}
+use Rattle.blk_stream.proofs.PlacesFreed.{blocky_of}
+use Rattle.blk_stream.proofs.Copies.{blocks_before, has_data}
 use Rattle.blk_stream.proofs.InsideData.{HasMade, data_beside, data_long, data_outside, data_there, made_blocks, made_external, made_long, moved_data}
 use Rattle.blk_stream.proofs.InsideSteps.{apart_file, data_within, quiet_data, quiet_room, room_within}
 use Rattle.blk_stream.proofs.Joined.{then_passes, told_then}

@@ -34,7 +34,8 @@ use Rattle.blk_entry.proofs.DataSteps.{steps_of_blocks, steps_of_external}
 use Rattle.blk_stream.specs.Streams.{size_place}
 use Rattle.blk_stream.specs.Changing.{record_word}
 use Rattle.blk_stream.specs.Inside.{WritesInProgress, data_of, gap_steps, here_steps, inside_steps, length_steps, room_steps, size_steps, size_words}
-use Rattle.blk_stream.proofs.Naming.{apart_place, nothing_in, within_trans}
+use Rattle.blk_alloc.proofs.Changing.{nothing_within, within-trans}
+use Rattle.blk_stream.proofs.Naming.{apart_place}
 
 -- no bytes, no steps
 pub data_none : (w at : ℕ) (bytes : List ℕ) → length bytes ≡ 0 → data_steps w at bytes ≡ []
@@ -106,7 +107,7 @@ data_within w at bytes fits =
     (λ (t : (kind_of w == external) ≡ true). let kind : kind_of w ≡ external = eqb-true (kind_of w) external t in
     subst (λ (s : List TrailStep). IsWithin (touched_by_all s) (data_of w)) (sym (steps_of_external w at bytes kind))
     (subst (λ (F : Footprint). IsWithin (touched_by_all (words (External (external_number w)) at bytes)) F) (sym (data_external w kind))
-    (within_trans _ (range (External (external_number w)) at (length bytes)) _ (words_within (External (external_number w)) at at (length bytes) bytes (omega arith) (omega arith)) (range_whole (External (external_number w)) at (length bytes)))))
+    (within-trans _ (range (External (external_number w)) at (length bytes)) _ (words_within (External (external_number w)) at at (length bytes) bytes (omega arith) (omega arith)) (range_whole (External (external_number w)) at (length bytes)))))
     (λ (t : (kind_of w == external) ≡ false). let blocky : kind_of w ≢ external = (λ e. let z : (kind_of w == external) ≡ true = grind (arith, nat_tests) in let y : true ≡ false = sym z ∙ t in cc) in
     let h = fits blocky in
     subst (λ (s : List TrailStep). IsWithin (touched_by_all s) (data_of w)) (sym (steps_of_blocks w at bytes blocky))
@@ -118,8 +119,8 @@ length_within : (w old size : ℕ) → kind_of w ≡ external → IsWithin (touc
 length_within w old size kind = by_test (size == old)
   where
     by_test : (t : Bool) → IsWithin (touched_by_all (if t then [] else SetLength (External (external_number w)) size ∷ [])) (data_of w)
-    by_test true = nothing_in (data_of w)
-    by_test false = subst (λ (F : Footprint). IsWithin (either (whole (External (external_number w))) nothing) F) (sym (data_external w kind)) (within_both (whole (External (external_number w))) nothing (whole (External (external_number w))) (record { bytes = λ g i e. e; sizes = λ g e. e }) (nothing_in _))
+    by_test true = nothing_within (data_of w)
+    by_test false = subst (λ (F : Footprint). IsWithin (either (whole (External (external_number w))) nothing) F) (sym (data_external w kind)) (within_both (whole (External (external_number w))) nothing (whole (External (external_number w))) (record { bytes = λ g i e. e; sizes = λ g e. e }) (nothing_within _))
 
 -- making room touches the data
 pub room_within : (w old size offset : ℕ) → (kind_of w ≢ external → size ≤ byte_size w) → offset ≤ size → IsWithin (touched_by_all (room_steps w old size offset)) (data_of w)
@@ -128,7 +129,7 @@ room_within w old size offset fits low =
     (λ (t : (kind_of w == external) ≡ true). subst (λ (s : List TrailStep). IsWithin (touched_by_all s) (data_of w)) (sym (room_external w old size offset t)) (length_within w old size (eqb-true (kind_of w) external t)))
     (λ (t : (kind_of w == external) ≡ false). subst (λ (s : List TrailStep). IsWithin (touched_by_all s) (data_of w)) (sym (room_blocks w old size offset t))
     (⊎_elim
-    (λ (e : nat_le offset old ≡ true). let h : offset ≤ old = grind (arith, nat_tests) in subst (λ (s : List TrailStep). IsWithin (touched_by_all s) (data_of w)) (sym (gap_none w old offset h)) (nothing_in (data_of w)))
+    (λ (e : nat_le offset old ≡ true). let h : offset ≤ old = grind (arith, nat_tests) in subst (λ (s : List TrailStep). IsWithin (touched_by_all s) (data_of w)) (sym (gap_none w old offset h)) (nothing_within (data_of w)))
     (λ (e : nat_le offset old ≡ false). let h : old < offset = grind (arith, nat_tests) in
     data_within w old (zeros (offset - old)) (λ blocky. let f = fits blocky in let n = length-zeros (offset - old) in omega (arith, f, low, h, n)))
     (cases_Bool (nat_le offset old))))
@@ -214,7 +215,7 @@ sealed_within record_bytes entry i size kind =
     let seal = seal_within entry i kind in
     within_both N (either A (either N nothing)) S seal
     (within_both A (either N nothing) S (within_left A (record_word entry 92))
-    (within_both N nothing S seal (nothing_in S)))
+    (within_both N nothing S seal (nothing_within S)))
 
 -- Both.
 

@@ -1,5 +1,5 @@
 -- A stream that gets a new place, which is filled: what its record, its data and the other streams are then.
-use Rattle.std.proofs.Common.{◌≡◌, ◌≢◌, inl, inr, ⊎_elim, ℕ, zero, suc, ◌<◌, Bool, true, false, ◌||◌, [], ◌∷◌, refl, sym, ◌∙◌, ap, subst, arith}
+use Rattle.std.proofs.Common.{◌≡◌, ◌≢◌, ⊎_elim, ℕ, zero, suc, ◌<◌, Bool, true, false, ◌||◌, [], ◌∷◌, refl, sym, ◌∙◌, ap, subst, arith}
 use Rattle.std.specs.Prelude.{◌==◌}
 use Rattle.std.proofs.lemmas.Bool.{and_parts, cases_Bool, cases_eq, eqb-true}
 use Rattle.std.proofs.lemmas.Bool.Decides.{nat_tests}
@@ -19,15 +19,12 @@ use Rattle.blk_stream.specs.Streams.{address_word, may_keep}
 use Rattle.blk_stream.specs.Copying.{ShareNoData}
 use Rattle.blk_stream.specs.Writing.{have_one_storage}
 use Rattle.blk_stream.specs.Written.{places_of}
-use Rattle.blk_stream.proofs.Apart.{owners_apart}
-use Rattle.blk_stream.proofs.Copies.{blocky_of}
+use Rattle.blk_stream.proofs.Apart.{blocks_back, own, owners_apart}
+use Rattle.blk_stream.proofs.PlacesFreed.{blocky_of}
 use Rattle.blk_stream.proofs.Placements.{kind_of_none}
 use Rattle.blk_stream.proofs.StreamPlaces.{may_parts, none_word, stored_some}
 
 -- The record and its streams, each with a place of its own.
-
-own : (n : ℕ) → (n == n) ≡ true
-own n = grind (arith, nat_tests)
 
 pub entry_among : (entry : ℕ) (image : Image) → is_among (places_of entry image) entry ≡ true
 entry_among entry image = or_left (entry == entry) _ (own entry)
@@ -45,7 +42,7 @@ entry_some entry kind none = let z : 0 ≡ blocks_256 = sym (ap (λ (n : ℕ). k
 share_back : (u w : ℕ) → ShareNoData u w → ShareNoData w u
 share_back u w apart = record {
   files = λ kind_w kind_u same. apart.files kind_u kind_w (sym same);
-  blocks = λ blocky_w blocky_u same. ⊎_elim (λ low. inr low) (λ up. inl up) (apart.blocks blocky_u blocky_w (sym same));
+  blocks = λ blocky_w blocky_u. blocks_back u w (apart.blocks blocky_u blocky_w);
 }
 
 module _ (entry : ℕ) (image : Image) (once : repeats (claims_of_all (places_of entry image)) ≡ false) where

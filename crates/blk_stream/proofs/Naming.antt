@@ -21,6 +21,7 @@ use Rattle.blk_disk.specs.declared.tables.BlockFiles.{BlockFiles}
 use Rattle.blk_disk.specs.Tables.{Agrees, stands_among}
 use Rattle.blk_disk.proofs.Ranges.{stands_range}
 use Rattle.blk_alloc.specs.Laws.{SparesHeadersAndSizes}
+use Rattle.blk_alloc.proofs.Changing.{nothing_within, within-trans}
 use Rattle.blk_stream.specs.Streams.{address_place, address_word, size_place, size_word}
 use Rattle.blk_stream.specs.Changing.{NamesInProgress, place_changes, record_word, stream_words}
 use Rattle.blk_stream.proofs.StreamPlaces.{address_at, size_at}
@@ -37,16 +38,10 @@ place_are entry i p q size word kind small is_p is_q =
       different = (All-cons (λ other. other.0 ≢ p) (q, word) [] (λ e. let h : q ≡ p = e in omega (arith, h, is_p, is_q, small)) (All-nil (λ other. other.0 ≢ p)), (All-nil (λ other. other.0 ≢ q), tt));
     }
 
-pub nothing_in : (F : Footprint) → IsWithin nothing F
-nothing_in F = record { bytes = λ g i e. absurd (let z : false ≡ true = e in cc); sizes = λ g e. absurd (let z : false ≡ true = e in cc) }
-
-pub within_trans : (F G H : Footprint) → IsWithin F G → IsWithin G H → IsWithin F H
-within_trans F G H one other = record { bytes = λ g i e. other.bytes g i (one.bytes g i e); sizes = λ g e. other.sizes g (one.sizes g e) }
-
 seal_within : (entry i : ℕ) → kind_of entry ≡ blocks_256 → IsWithin (one_word (Block (file_selector entry)) (place entry + seal_place entry)) (stream_words entry i)
 seal_within entry i kind =
     subst (λ (s : ℕ). IsWithin (one_word (Block (file_selector entry)) (place entry + s)) (stream_words entry i)) (sym (entry_seal entry kind))
-    (within_trans _ (either (record_word entry (address_place i)) (record_word entry 92)) _ (within_right (record_word entry (address_place i)) (record_word entry 92)) (within_right (record_word entry (size_place i)) (either (record_word entry (address_place i)) (record_word entry 92))))
+    (within-trans _ (either (record_word entry (address_place i)) (record_word entry 92)) _ (within_right (record_word entry (address_place i)) (record_word entry 92)) (within_right (record_word entry (size_place i)) (either (record_word entry (address_place i)) (record_word entry 92))))
 
 naming_within : (image : Image) (entry i size word : ℕ) → kind_of entry ≡ blocks_256 → IsWithin (touched_by_all (sealed_steps image entry (place_changes i size word))) (stream_words entry i)
 unfolding update_steps word_step
@@ -61,7 +56,7 @@ naming_within image entry i size word kind =
     within_both N (either A (either B (either N nothing))) S seal
     (within_both A (either B (either N nothing)) S (within_left A (either B C))
     (within_both B (either N nothing) S in_b
-    (within_both N nothing S seal (nothing_in S))))
+    (within_both N nothing S seal (nothing_within S))))
 
 -- at each moment of them
 pub naming_moments : (files : BlockFiles) (entry i size word : ℕ) (from : Image) → kind_of entry ≡ blocks_256 → stands_among files entry ≡ true → i < 3 → Agrees files from → RecordChecks entry from

@@ -27,11 +27,10 @@ use Rattle.blk_stream.specs.Moving.{HasPlaceLength, data_at_place}
 use Rattle.blk_stream.specs.Placing.{IsPlaced}
 use Rattle.blk_stream.specs.Streams.{address_place, address_word, may_keep, size_place, size_word}
 use Rattle.blk_stream.specs.Written.{HoldsStream}
-use Rattle.blk_stream.proofs.Copies.{blocky_of}
 use Rattle.blk_stream.proofs.Dropped.{stream_kept}
 use Rattle.blk_stream.proofs.Fillings.{data_off}
 use Rattle.blk_stream.proofs.InsideSteps.{record_same}
-use Rattle.blk_stream.proofs.PlacesFreed.{leaving_none, leaving_some}
+use Rattle.blk_stream.proofs.PlacesFreed.{blocky_of, leaving_none, leaving_some}
 use Rattle.blk_stream.proofs.PlacesLeft.{read_size, read_word}
 use Rattle.blk_stream.proofs.StreamPlaces.{bytes_at, keeps_inside, may_parts, stored_some}
 use Rattle.blk_stream.proofs.WriteStages.{data_left, freed_off, record_grown, words_off}

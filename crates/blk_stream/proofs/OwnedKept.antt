@@ -1,5 +1,5 @@
 -- What has an owner stays where a stream is written.
-use Rattle.std.proofs.Common.{◌≡◌, ◌≢◌, inl, inr, ⊎_elim, ℕ, ◌+◌, ◌-◌, ◌<◌, ◌≤◌, Bool, true, false, if◌then◌else◌, refl, sym, ◌∙◌, ap, subst, arith}
+use Rattle.std.proofs.Common.{◌≡◌, ◌≢◌, ℕ, ◌+◌, ◌-◌, ◌<◌, ◌≤◌, Bool, true, false, if◌then◌else◌, refl, sym, ◌∙◌, ap, subst, arith}
 use Rattle.std.specs.Prelude.{◌==◌, nat_eq}
 use Rattle.std.proofs.lemmas.Bool.{eqb-true}
 use Rattle.std.proofs.lemmas.Bool.Decides.{nat_tests}
@@ -26,7 +26,7 @@ use Rattle.blk_stream.specs.Moving.{data_at_place}
 use Rattle.blk_stream.specs.Owned.{AreOthers, KeepsOwned}
 use Rattle.blk_stream.specs.Placing.{IsPlaced}
 use Rattle.blk_stream.specs.Streams.{address_place, size_place}
-use Rattle.blk_stream.proofs.Apart.{new_number, none_shared}
+use Rattle.blk_stream.proofs.Apart.{blocks_back, new_number, none_shared}
 use Rattle.blk_stream.proofs.Fillings.{data_off}
 use Rattle.blk_stream.proofs.PlacesLeft.{leaving_off}
 use Rattle.blk_stream.proofs.WriteStages.{off_within}
@@ -54,9 +54,6 @@ block_off files v w size k blocky stands inside apart low high =
     subst (λ (p : ℕ). (data_of w).bytes (Block (file_selector v)) p ≡ false) at
     (subst (λ (p : ℕ). (data_of w).bytes (Block (file_selector v)) (p + (k - place v)) ≡ false) where_it_is.1
     (subst (λ (f : File). (data_of w).bytes f (data_start v + (k - place v)) ≡ false) where_it_is.0 off))
-
-share_back : (u v : ℕ) → ShareNoBlock u v → ShareNoBlock v u
-share_back u v apart same = ⊎_elim (λ one. inr one) (λ one. inl one) (apart (sym same))
 
 -- an external file of another number is off data, and off what is freed
 pub data_off_file : (w number : ℕ) → (kind_of w ≡ external → external_number w ≢ number) → ((k : ℕ) → (data_of w).bytes (External number) k ≡ false) × ((data_of w).sizes (External number) ≡ false)
@@ -123,7 +120,7 @@ module _ (files kept : BlockFiles) (entry i old w size : ℕ) (from made filled 
 pub inside_owned : (files : BlockFiles) (entry i w size : ℕ) (from image : Image) → IsInside files w 0 size → SameOutside (either (data_of w) (size_words entry i)) from image → KeepsOwned files entry i w from image
 inside_owned files entry i w size from image inside same = record {
   blocks = λ v k others low high off.
-      let a = block_off files v w size k others.block_kind others.stand inside (λ blocky. share_back w v (others.apart blocky)) low high in
+      let a = block_off files v w size k others.block_kind others.stand inside (λ blocky. blocks_back w v (others.apart blocky)) low high in
       let b = off_within (size_words entry i) (stream_words entry i) (Block (file_selector v)) k words_within off in
       same.bytes (Block (file_selector v)) k (rw (a, b) refl);
   externals = λ number there other.

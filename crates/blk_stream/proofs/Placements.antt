@@ -32,7 +32,7 @@ use Rattle.blk_stream.specs.Inside.{HasStreamLength, data_of}
 use Rattle.blk_stream.specs.Moving.{CanBeFilled, FillsInProgress, IsFilled, data_at_place}
 use Rattle.blk_stream.specs.Placing.{CanBePlaced, InAddition, InFile, InGrowth, IsPlaced, IsSite, IsSiteOf, LosesNothing, NewFile, Nowhere, PlacesInProgress, Site, gained_by, placing_of}
 use Rattle.blk_stream.proofs.Apart.{new_apart}
-use Rattle.blk_stream.proofs.Copies.{blocky_of}
+use Rattle.blk_stream.proofs.PlacesFreed.{blocky_of}
 use Rattle.blk_stream.proofs.Drops.{no_block}
 use Rattle.blk_stream.proofs.Fillings.{old_inside}
 use Rattle.blk_stream.proofs.InsideData.{moved_data}

@@ -23,6 +23,10 @@ use Rattle.blk_alloc.proofs.Widening.{mark_kept}
 use Rattle.blk_stream.proofs.KeptFiles.{external_spares, file_kept, headers_spared}
 use Rattle.blk_stream.specs.Freeing.{IsPlaceFreed, freeing_of, is_block_of, leaving_of, left_by}
 
+-- a place that is no external file is one of blocks
+pub blocky_of : (w : ℕ) → (kind_of w == external) ≡ false → kind_of w ≢ external
+blocky_of w t e = let z : (kind_of w == external) ≡ true = grind (arith, nat_tests) in let y : true ≡ false = sym z ∙ t in cc
+
 pub freeing_external : (w : ℕ) → kind_of w ≡ external → freeing_of w ≡ whole (External (external_number w))
 unfolding freeing_of
 freeing_external w kind = let t : (kind_of w == external) ≡ true = grind (arith, nat_tests) in rw t refl

@@ -3,7 +3,6 @@ use Rattle.std.proofs.Common.{◌≡◌, ◌≢◌, inl, inr, ⊎_elim, ℕ, ◌
 use Rattle.std.specs.Prelude.{◌==◌}
 use Rattle.std.specs.Option.{option_map, ForSome}
 use Rattle.std.proofs.lemmas.Bool.{cases_Bool, cases_eq, eqb-true}
-use Rattle.std.proofs.lemmas.Bool.Decides.{nat_tests}
 use Rattle.blk_image.specs.Bytes.{content, word_at}
 use Rattle.blk_image.specs.Image.{Index, Block, External, Image, byte, word}
 use Rattle.blk_image.specs.Steps.{after}
@@ -33,7 +32,7 @@ use Rattle.blk_stream.specs.Changing.{HasWords, NamesInProgress, stream_words}
 use Rattle.blk_stream.specs.Freeing.{IsPlaceFreed, MayBeFreed, freeing_of, is_block_of, leaving_of}
 use Rattle.blk_stream.specs.Moving.{LeavesPlace, LeavesPlaceInProgress}
 use Rattle.blk_stream.proofs.Naming.{words_spare}
-use Rattle.blk_stream.proofs.PlacesFreed.{freeing_blocks, freeing_external, leaving_none, leaving_some}
+use Rattle.blk_stream.proofs.PlacesFreed.{blocky_of, freeing_blocks, freeing_external, leaving_none, leaving_some}
 use Rattle.blk_stream.proofs.StreamPlaces.{address_at, size_at}
 
 -- The words of a record that was read.
@@ -56,9 +55,6 @@ freeing_off w m i low =
     (λ (t : (kind_of w == external) ≡ true). subst (λ (F : Footprint). F.bytes (Block m) i ≡ false) (sym (freeing_external w (eqb-true (kind_of w) external t))) refl)
     (λ (t : (kind_of w == external) ≡ false). subst (λ (F : Footprint). F.bytes (Block m) i ≡ false) (sym (freeing_blocks w (blocky_of w t))) ((map_spares (file_selector w)).blocks m i low))
     (cases_Bool (kind_of w == external))
-  where
-    blocky_of : (w : ℕ) → (kind_of w == external) ≡ false → kind_of w ≢ external
-    blocky_of w t e = let z : (kind_of w == external) ≡ true = grind (arith, nat_tests) in let y : true ≡ false = sym z ∙ t in cc
 
 pub leaving_off : (w m i : ℕ) → 8192 ≤ i → (leaving_of w).bytes (Block m) i ≡ false
 leaving_off w m i low =
@@ -88,12 +84,9 @@ module _ (w : ℕ) (mid image : Image) (same : SameOutside (freeing_of w) mid im
       ⊎_elim
       (λ (t : (kind_of w == external) ≡ true). blocks_same (whole (External (external_number w))) mid image (record { bytes = λ m i small. refl }) (subst (λ (F : Footprint). SameOutside F mid image) (freeing_external w (eqb-true (kind_of w) external t)) same) n)
       (λ (t : (kind_of w == external) ≡ false).
-      let maps : SameOutside (map_of (file_selector w)) mid image = subst (λ (F : Footprint). SameOutside F mid image) (freeing_blocks w (blocky_of t)) same in
+      let maps : SameOutside (map_of (file_selector w)) mid image = subst (λ (F : Footprint). SameOutside F mid image) (freeing_blocks w (blocky_of w t)) same in
       blocks_spared (map_of (file_selector w)) mid image (map_spares (file_selector w)) maps (λ m. let e = maps.lengths (Block m) refl in omega (arith, e)) n)
       (cases_Bool (kind_of w == external))
-    where
-      blocky_of : (kind_of w == external) ≡ false → kind_of w ≢ external
-      blocky_of t e = let z : (kind_of w == external) ≡ true = grind (arith, nat_tests) in let y : true ≡ false = sym z ∙ t in cc
 
 -- a well-formed folder stays so
 
@@ -111,12 +104,9 @@ formed_freed w mid image same formed =
     (λ (t : (kind_of w == external) ≡ true).
     formed_behind (whole (External (external_number w))) mid image (record { bytes = λ m i small. refl }) (λ k. refl) refl (λ n. refl) (subst (λ (F : Footprint). SameOutside F mid image) (freeing_external w (eqb-true (kind_of w) external t)) same) formed)
     (λ (t : (kind_of w == external) ≡ false).
-    let maps : SameOutside (map_of (file_selector w)) mid image = subst (λ (F : Footprint). SameOutside F mid image) (freeing_blocks w (blocky_of t)) same in
+    let maps : SameOutside (map_of (file_selector w)) mid image = subst (λ (F : Footprint). SameOutside F mid image) (freeing_blocks w (blocky_of w t)) same in
     formed_spared (map_of (file_selector w)) mid image (map_spares (file_selector w)) maps (λ m. let e = maps.lengths (Block m) refl in omega (arith, e)) formed)
     (cases_Bool (kind_of w == external))
-  where
-    blocky_of : (kind_of w == external) ≡ false → kind_of w ≢ external
-    blocky_of t e = let z : (kind_of w == external) ≡ true = grind (arith, nat_tests) in let y : true ≡ false = sym z ∙ t in cc
 
 -- Another place for a stream.
 

@@ -39,14 +39,14 @@ use Rattle.blk_stream.specs.Placing.{Nowhere, placing_of}
 use Rattle.blk_stream.specs.Writing.{have_one_storage, size_after}
 use Rattle.blk_stream.specs.Written.{CanBeWritten, HoldsStream, MovesPlace, StreamIsWritten, WritesStream, giving_up_of, moved_by, places_of, writing_of}
 use Rattle.blk_stream.proofs.Apart.{of_blocks, owned_marked}
-use Rattle.blk_stream.proofs.Copies.{blocky_of}
 use Rattle.blk_stream.proofs.Fillings.{data_off, sizes_off}
 use Rattle.blk_stream.proofs.InsideSteps.{data_blocks, data_external, record_off}
 use Rattle.blk_stream.proofs.KeptMaps.{KeepsMaps, data_keeps_maps, spared_maps}
 use Rattle.blk_stream.proofs.Moved.{parts_of, record_apart, stream_among, streams_apart}
-use Rattle.blk_stream.proofs.Naming.{apart_place, within_trans, words_off_other, words_spare}
+use Rattle.blk_alloc.proofs.Changing.{within-trans}
+use Rattle.blk_stream.proofs.Naming.{apart_place, words_off_other, words_spare}
 use Rattle.blk_stream.proofs.OwnedKept.{inside_owned}
-use Rattle.blk_stream.proofs.PlacesFreed.{in_file_blocks, in_file_external}
+use Rattle.blk_stream.proofs.PlacesFreed.{blocky_of, in_file_blocks, in_file_external}
 use Rattle.blk_stream.proofs.PlacesLeft.{formed_behind, read_size, read_word}
 use Rattle.blk_stream.proofs.Placements.{no_range, none_in, place_some}
 use Rattle.blk_stream.proofs.PlacesMoved.{block_parts}
@@ -63,7 +63,7 @@ use Rattle.blk_stream.proofs.WriteStages.{off_within, words_off}
 size_within : (entry i : ℕ) → IsWithin (size_words entry i) (stream_words entry i)
 size_within entry i =
     within_both (record_word entry (size_place i)) (record_word entry 92) (stream_words entry i) (within_left (record_word entry (size_place i)) (either (record_word entry (address_place i)) (record_word entry 92)))
-    (within_trans (record_word entry 92) (either (record_word entry (address_place i)) (record_word entry 92)) (stream_words entry i) (within_right (record_word entry (address_place i)) (record_word entry 92)) (within_right (record_word entry (size_place i)) (either (record_word entry (address_place i)) (record_word entry 92))))
+    (within-trans (record_word entry 92) (either (record_word entry (address_place i)) (record_word entry 92)) (stream_words entry i) (within_right (record_word entry (address_place i)) (record_word entry 92)) (within_right (record_word entry (size_place i)) (either (record_word entry (address_place i)) (record_word entry 92))))
 
 size_spares : (entry i : ℕ) → SparesHeadersAndSizes (size_words entry i)
 size_spares entry i = record { headers = λ n k low. off_within (size_words entry i) (stream_words entry i) (Block n) k (size_within entry i) ((words_spare entry i).headers n k low); sizes = λ file. refl }
@@ -119,9 +119,9 @@ module _ (files : BlockFiles) (entry i size w : ℕ) (kind : kind_of entry ≡ b
       let given : Footprint = either (giving_up_of w w) rest in
       within_both (data_of w) (size_words entry i) W
       (subst (λ (F : Footprint). IsWithin F W) (place_some w some)
-      (within_trans (data_at_place w) rest W (within_left (data_at_place w) (placing_of files (kind_for size) Nowhere))
-      (within_trans rest given W (within_right (giving_up_of w w) rest) (within_right (stream_words entry i) given))))
-      (within_trans (size_words entry i) (stream_words entry i) W (size_within entry i) (within_left (stream_words entry i) given))
+      (within-trans (data_at_place w) rest W (within_left (data_at_place w) (placing_of files (kind_for size) Nowhere))
+      (within-trans rest given W (within_right (giving_up_of w w) rest) (within_right (stream_words entry i) given))))
+      (within-trans (size_words entry i) (stream_words entry i) W (size_within entry i) (within_left (stream_words entry i) given))
 
   same_here : (image : Image) → SameOutside E from image → SameOutside W from image
   same_here image same = outside_wider E W from image all_within same

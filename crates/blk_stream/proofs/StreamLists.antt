@@ -1,5 +1,5 @@
 -- An entry loads with a stream that was written.
-use Rattle.std.proofs.Common.{◌≡◌, ◌≢◌, ◌⊎◌, inl, inr, ⊎_elim, ℕ, zero, suc, ◌+◌, ◌<◌, ◌≤◌, Bool, true, false, ◌&&◌, ◌||◌, if◌then◌else◌, List, [], ◌∷◌, Option, None, Some, refl, sym, ◌∙◌, ap, subst, arith, add-zero}
+use Rattle.std.proofs.Common.{◌≡◌, ◌≢◌, ◌⊎◌, inl, inr, ⊎_elim, ℕ, zero, suc, ◌+◌, ◌<◌, ◌≤◌, Bool, true, false, ◌&&◌, ◌||◌, if◌then◌else◌, List, [], Option, None, Some, refl, sym, ◌∙◌, ap, subst, arith, add-zero}
 use Rattle.std.specs.Prelude.{◌==◌, length, nat_le, is_some, unwrap_or}
 use Rattle.std.specs.Option.{option_and_then}
 use Rattle.std.proofs.lemmas.Bool.{and_parts, cases_lt, eqb-true}
@@ -12,7 +12,7 @@ use Rattle.blk_format.specs.Address.{blocks_256, external, external_number, file
 use Rattle.blk_format.specs.BlockFiles.{stands_in, stands_in_blocks}
 use Rattle.blk_format.specs.Standing.{stands}
 use Rattle.blk_format.specs.Storage.{is_storage}
-use Rattle.blk_volume.specs.View.{RecordFields, fields_at, fields_of, entry_at, data_size_of, address_of, stands_as, stored_at, store_of}
+use Rattle.blk_volume.specs.View.{RecordFields, fields_at, fields_of, entry_at, stands_as, stored_at, store_of}
 use Rattle.blk_volume.specs.Entries.{most_stream_bytes, stream, stored_stream, stored_streams}
 use Rattle.blk_disk.specs.declared.tables.BlockFiles.{BlockFiles}
 use Rattle.blk_disk.specs.Tables.{Agrees, stands_among}
@@ -22,14 +22,12 @@ use Rattle.blk_entry.proofs.KeyPlaces.{data_of_blocks, data_of_external, storage
 use Rattle.blk_entry.proofs.NewShown.{stands_as_kind, stands_here}
 use Rattle.blk_entry.proofs.Windows.{entry_room_least, not_external}
 use Rattle.blk_alloc.specs.Extending.{KeepsStanding}
-use Rattle.blk_stream.specs.Changing.{record_word, stream_words}
 use Rattle.blk_stream.specs.Loading.{WrittenStreamsLoad, streams_with}
 use Rattle.blk_stream.specs.Moving.{HasPlaceLength}
 use Rattle.blk_stream.specs.Owned.{AreOthers, KeepsOwned}
-use Rattle.blk_stream.specs.Streams.{address_place, address_word, may_keep, size_place, size_word, stream_bytes, streams_at}
-use Rattle.blk_stream.proofs.Copies.{blocky_of}
-use Rattle.blk_stream.proofs.EmptyStreams.{fourth_of, fourth_size, fourth_word}
-use Rattle.blk_stream.proofs.Naming.{apart_place}
+use Rattle.blk_stream.specs.Streams.{address_word, may_keep, size_word, stream_bytes, streams_at}
+use Rattle.blk_stream.proofs.PlacesFreed.{blocky_of}
+use Rattle.blk_stream.proofs.EmptyStreams.{fourth_of, fourth_off, fourth_size, fourth_word, streams_known}
 use Rattle.blk_stream.proofs.StreamPlaces.{may_both, may_parts, none_word, stored_is, stored_some, stream_facts, stream_is_bytes, streams_parts}
 
 clash : true ≡ false → ⊥
@@ -147,16 +145,6 @@ module _ (files : BlockFiles) (image : Image) (entry : ℕ) (streams : List (Lis
 
 -- The words of the fourth stream.
 
-fourth_off : (entry i at k : ℕ) → i < 3 → (at ≡ 52) ⊎ (at ≡ 68) → place entry + at ≤ k → k < place entry + at + 4 → (stream_words entry i).bytes (Block (file_selector entry)) k ≡ false
-fourth_off entry i at k few is first last =
-    let a = word_off (size_place i) (⊎_elim (λ (e : at ≡ 52). inr (omega (arith, e, few, first))) (λ (e : at ≡ 68). inr (omega (arith, e, few, first))) is) in
-    let b = word_off (address_place i) (⊎_elim (λ (e : at ≡ 52). inl (omega (arith, e, last))) (λ (e : at ≡ 68). inr (omega (arith, e, few, first))) is) in
-    let c = word_off 92 (⊎_elim (λ (e : at ≡ 52). inl (omega (arith, e, last))) (λ (e : at ≡ 68). inl (omega (arith, e, last))) is) in
-    rw (a, b, c) refl
-  where
-    word_off : (q : ℕ) → (k < place entry + q) ⊎ (place entry + q + 4 ≤ k) → (record_word entry q).bytes (Block (file_selector entry)) k ≡ false
-    word_off q off = apart_place (Block (file_selector entry)) (Block (file_selector entry)) (place entry + q) 4 k off
-
 fourth_same : (files : BlockFiles) (entry i old at : ℕ) (from image : Image) → kind_of entry ≡ blocks_256 → i < 3 → AreOthers files entry old from → KeepsOwned files entry i old from image → (at ≡ 52) ⊎ (at ≡ 68) → word image (Block (file_selector entry)) (place entry + at) ≡ word from (Block (file_selector entry)) (place entry + at)
 fourth_same files entry i old at from image kind few others owned is =
     let room = entry_room_least entry kind in
@@ -167,11 +155,6 @@ fourth_same files entry i old at from image kind few others owned is =
     (here (place entry + at + 2) (omega arith) (omega arith)) (here (place entry + at + 3) (omega arith) (omega arith))
 
 -- The law.
-
-streams_known : (image : Image) (fields : RecordFields) (a b c : List ℕ) → data_size_of fields 3 ≡ 0 → address_of fields 3 ≡ 0 → stored_stream (store_of image) fields 0 ≡ Some a → stored_stream (store_of image) fields 1 ≡ Some b → stored_stream (store_of image) fields 2 ≡ Some c
-    → stored_streams (store_of image) fields ≡ Some (a ∷ b ∷ c ∷ [])
-unfolding stored_streams
-streams_known image fields a b c size none is_a is_b is_c = rw (size, none, is_a, is_b, is_c) refl
 
 -- what stood stores what it did
 stores_still : (files kept : BlockFiles) (size w : ℕ) → KeepsStanding files kept → may_keep files size w ≡ true → may_keep kept size w ≡ true

@@ -115,13 +115,13 @@ none_stream files image w bytes e =
     subst (λ (v : ℕ). IsStream files image 0 v bytes) (sym h.0)
     (record { keep = zero_kept files; len = ap length h.1; is = h.1; there = λ x. omega arith })
 
-module _ (files : BlockFiles) (image : Image) (size w : ℕ) (bytes : List ℕ) (agrees : Agrees files image) (some : 0 < size) (s : IsStored image size w bytes) where
-  stored_bytes : bytes ≡ data_at image w 0 size
-  stored_bytes =
-      ⊎_elim (λ (outside : (kind_of w ≡ external) × ((length_of image (External (external_number w)) ≡ size) × (bytes ≡ range_at (byte image (External (external_number w))) 0 size))). outside.1.1 ∙ sym (data_of_external image w 0 size outside.0))
-      (λ (inside : (kind_of w ≢ external) × (bytes ≡ range_at (byte image (Block (file_selector w))) (place w) size)).
-      inside.1 ∙ ap (λ (i : ℕ). range_at (byte image (Block (file_selector w))) i size) (sym (add-zero (place w))) ∙ sym (data_of_blocks image w 0 size inside.0)) s.at
+at_data : (image : Image) (size w : ℕ) (bytes : List ℕ) → IsStored image size w bytes → bytes ≡ data_at image w 0 size
+at_data image size w bytes s =
+    ⊎_elim (λ (outside : (kind_of w ≡ external) × ((length_of image (External (external_number w)) ≡ size) × (bytes ≡ range_at (byte image (External (external_number w))) 0 size))). outside.1.1 ∙ sym (data_of_external image w 0 size outside.0))
+    (λ (inside : (kind_of w ≢ external) × (bytes ≡ range_at (byte image (Block (file_selector w))) (place w) size)).
+    inside.1 ∙ ap (λ (i : ℕ). range_at (byte image (Block (file_selector w))) i size) (sym (add-zero (place w))) ∙ sym (data_of_blocks image w 0 size inside.0)) s.at
 
+module _ (files : BlockFiles) (image : Image) (size w : ℕ) (bytes : List ℕ) (agrees : Agrees files image) (some : 0 < size) (s : IsStored image size w bytes) where
   stored_there : IsInFile w 0 size image
   stored_there is =
       ⊎_elim (λ (outside : (kind_of w ≡ external) × ((length_of image (External (external_number w)) ≡ size) × (bytes ≡ range_at (byte image (External (external_number w))) 0 size))). let h = outside.1.0 in omega (arith, h))
@@ -138,12 +138,12 @@ module _ (files : BlockFiles) (image : Image) (size w : ℕ) (bytes : List ℕ) 
       (cases_Bool (kind_of w == external)))
 
   stored_length : length bytes ≡ size
-  stored_length = ap length stored_bytes ∙ length-range size _ _
+  stored_length = ap length (at_data image size w bytes s) ∙ length-range size _ _
 
   pub some_stream : nat_le size most_stream_bytes ≡ true → IsStream files image size w bytes
   unfolding may_keep
   some_stream most =
-      record { keep = rw (most, stored_stores) refl; len = stored_length; is = stored_bytes; there = stored_there }
+      record { keep = rw (most, stored_stores) refl; len = stored_length; is = at_data image size w bytes s; there = stored_there }
 
 -- the streams of a record, one by one
 pub streams_parts : (image : Image) (fields : RecordFields) (streams : List (List ℕ)) → stored_streams (store_of image) fields ≡ Some streams → (i : ℕ) → i < 3 → stored_stream (store_of image) fields i ≡ Some (stream i streams)
@@ -259,12 +259,6 @@ unfolding may_keep
 may_both files size w most e = let h : nat_le size most_stream_bytes ≡ true = grind (arith, nat_tests) in rw (h, e) refl
 
 -- The bytes of a stream, where its words say.
-
-at_data : (image : Image) (size w : ℕ) (bytes : List ℕ) → IsStored image size w bytes → bytes ≡ data_at image w 0 size
-at_data image size w bytes s =
-    ⊎_elim (λ (outside : (kind_of w ≡ external) × ((length_of image (External (external_number w)) ≡ size) × (bytes ≡ range_at (byte image (External (external_number w))) 0 size))). outside.1.1 ∙ sym (data_of_external image w 0 size outside.0))
-    (λ (inside : (kind_of w ≢ external) × (bytes ≡ range_at (byte image (Block (file_selector w))) (place w) size)).
-    inside.1 ∙ ap (λ (i : ℕ). range_at (byte image (Block (file_selector w))) i size) (sym (add-zero (place w))) ∙ sym (data_of_blocks image w 0 size inside.0)) s.at
 
 stored_data : (image : Image) (size w : ℕ) (bytes : List ℕ) → stored_at image size w ≡ Some bytes → bytes ≡ data_at image w 0 size
 unfolding range_at

@@ -30,12 +30,11 @@ use Rattle.blk_stream.specs.Moving.{LeavesPlaceInProgress, data_at_place}
 use Rattle.blk_stream.specs.Placing.{IsPlaced, IsSite, IsSiteOf, PlacesInProgress, Site, Nowhere, NewFile, InFile, InGrowth, InAddition, placing_of}
 use Rattle.blk_stream.specs.Streams.{address_place, address_word, size_place, stream_bytes}
 use Rattle.blk_stream.specs.Written.{WritesStream, giving_up_of, writing_of}
-use Rattle.blk_stream.proofs.Copies.{blocky_of}
 use Rattle.blk_stream.proofs.Fillings.{data_off}
 use Rattle.blk_stream.proofs.InsideSteps.{data_blocks, data_external, record_same}
 use Rattle.blk_stream.proofs.KeptFiles.{external_spares, headers_spared}
 use Rattle.blk_stream.proofs.KeptMaps.{blocks_spared}
-use Rattle.blk_stream.proofs.PlacesFreed.{freeing_blocks, freeing_external, leaving_some}
+use Rattle.blk_stream.proofs.PlacesFreed.{blocky_of, freeing_blocks, freeing_external, leaving_some}
 use Rattle.blk_stream.proofs.PlacesLeft.{formed_behind, formed_named, freeing_off}
 
 clash : true ≡ false → ⊥

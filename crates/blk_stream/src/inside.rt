@@ -1,5 +1,5 @@
 // A stream is written inside its place.
-ghost use Rattle.std.specs.Prelude.{◌≡◌, ◌≢◌, ◌+◌, ◌≤◌, ◌<◌, ◌^◌, IsTrue, OnErr, OnOk, length};
+ghost use Rattle.std.specs.Prelude.{◌≡◌, ◌≢◌, ◌+◌, ◌≤◌, ◌<◌, IsTrue, OnErr, OnOk, length};
 ghost use Rattle.std.specs.Option.{ForSome};
 ghost use Rattle.blk_image.specs.Told.{Applies, AppliesPrefix, Passes, Rises};
 ghost use Rattle.blk_format.specs.Address.{blocks_256, byte_size, external, kind_of};

@@ -15,7 +15,7 @@ mod reading;
 mod writing;
 
 pub use dropping::drop_streams;
-pub use laws::drops_are_shown_inside;
+pub use laws::{drops_are_shown_inside, written_streams_load};
 pub use reading::read;
 pub use writing::write;
 

@@ -1,5 +1,5 @@
 // Where the streams of a record lie.
-ghost use Rattle.std.specs.Prelude.{◌≡◌, ◌==◌, ◌≤◌, ◌<◌, IfOk, IsOk, OnOk, Some, true, length, unwrap_or};
+ghost use Rattle.std.specs.Prelude.{◌≡◌, ◌==◌, ◌<◌, IfOk, IsOk, OnOk, Some, true, length, unwrap_or};
 ghost use Rattle.blk_image.specs.Bytes.{content, word_at};
 ghost use Rattle.blk_format.specs.Address.{blocks_256, is_address, kind_of};
 ghost use Rattle.blk_format.specs.Records.{entry_size};

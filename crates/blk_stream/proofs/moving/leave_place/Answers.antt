@@ -1,32 +1,26 @@
-use Rattle.std.proofs.Common.{◌≡◌, Some, ◌∙◌, false, sym, subst}
+use Rattle.std.proofs.Common.{◌≡◌, ◌∙◌, false, sym, subst}
 use Rattle.std.proofs.lemmas.Result.{on_ok_weaker}
-use Rattle.blk_image.specs.Image.{Image}
 use Rattle.blk_image.specs.Told.{Told}
 use Rattle.blk_image.proofs.Runs.{passes_end, passes_then, passes_weaker}
 use Rattle.blk_format.specs.Address.{block_count, file_selector, first_block}
-use Rattle.blk_format.specs.Sealed.{RecordChecks, record_at}
+use Rattle.blk_format.specs.Sealed.{record_at}
 use Rattle.blk_io.proofs.Carried.{if_damaged_weaker, told_at_end}
 use Rattle.blk_alloc.specs.Owning.{IsCause}
 use Rattle.blk_stream.specs.Changing.{NamesInProgress}
 use Rattle.blk_stream.specs.Freeing.{MayBeFreed}
-use Rattle.blk_stream.proofs.Joined.{IsTold, told_then}
+use Rattle.blk_stream.proofs.Joined.{told_then}
 use Rattle.blk_stream.proofs.PlacesLeft.{both_damaged, freed_changes, freeing_changes, named_free, naming_changes, record_freed, told_back}
-use Rattle.blk_stream.proofs.moving.leave_place.Given as given
 use Rattle.blk_stream.proofs.moving.leave_place.Goals as goal
 
 pub returns-in_err-name_place-clause-stops : goal.returns-in_err-name_place-clause-stops
 returns-in_err-name_place-clause-stops g c from there read good =
     passes_weaker (c.in_err-name_place.ensures.stops from there read good) (naming_changes c.args.entry c.args.stream c.args.old c.args.size c.args.word from) (naming_changes c.args.entry c.args.stream c.args.old c.args.size c.args.word from)
 
--- the image between the two
-mid_told : (g : given.Over) (c : goal.After-free_place g) (from : Image) → (g.F.Folder.told c.args.f.now).files ≡ Some from → c.args.bytes.now ≡ record_at from c.args.entry → RecordChecks c.args.entry from → IsTold (g.F.Folder.told c.name_place.new.f) (NamesInProgress c.args.entry c.args.stream from)
-mid_told g c from there read good = told_then (g.F.Folder.told c.args.f.now) (g.F.Folder.told c.name_place.new.f) from (NamesInProgress c.args.entry c.args.stream from) there (c.in_ok-name_place.ensures.stops from there read good)
-
 pub returns-clause-changed : goal.returns-clause-changed
 returns-clause-changed g c =
     on_ok_weaker c.free_place.result
     (λ freed from there read good image now.
-    let mid = mid_told g c from there read good in
+    let mid = told_then (g.F.Folder.told c.args.f.now) (g.F.Folder.told c.name_place.new.f) from (NamesInProgress c.args.entry c.args.stream from) there (c.in_ok-name_place.ensures.stops from there read good) in
     freed_changes c.args.entry c.args.stream c.args.old c.args.size c.args.word from mid.image c.requires.stream mid.holds (c.in_ok-name_place.ensures.named from there read mid.image mid.is) image (freed mid.image mid.is image now))
     c.free_place.ensures.freed
 
@@ -40,7 +34,7 @@ returns-clause-read g c =
 
 pub returns-clause-stops : goal.returns-clause-stops
 returns-clause-stops g c from there read good =
-    let mid = mid_told g c from there read good in
+    let mid = told_then (g.F.Folder.told c.args.f.now) (g.F.Folder.told c.name_place.new.f) from (NamesInProgress c.args.entry c.args.stream from) there (c.in_ok-name_place.ensures.stops from there read good) in
     let named = c.in_ok-name_place.ensures.named from there read mid.image mid.is in
     passes_then
     (passes_weaker (c.in_ok-name_place.ensures.stops from there read good) (naming_changes c.args.entry c.args.stream c.args.old c.args.size c.args.word from) (naming_changes c.args.entry c.args.stream c.args.old c.args.size c.args.word from))
