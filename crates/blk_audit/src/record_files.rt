@@ -11,11 +11,12 @@ ghost use Rattle.blk_audit.specs.Faults.{IfScanDamaged, IfScanDevice, IsRecordDa
 ghost use Rattle.blk_audit.specs.Records.{AreRecordsOf, IsSaidBy};
 
 use crate::fault::ScanFault;
-use crate::records::{Entry, first_of_record, read_record, said};
+use crate::record_words::read_words;
+use crate::records::{ReadRecord, first_of_record, record_of_bytes};
 use blk_addr::{Addr, Claims, Kind, NoMemory};
 use blk_disk::BlockFiles;
 use blk_io::{Fault, FileId, Folder, read_exact};
-use blk_record::{BlockHead, EntryView, Record};
+use blk_record::BlockHead;
 use std::alloc::Global;
 
 // The blocks of 256 bytes that one call reads: whole groups of four, so that a record never lies in two pieces.
@@ -32,7 +33,7 @@ const PIECE: usize = 32_768;
 #[derive(Clone, Copy, Debug)]
 pub(crate) struct Placed {
     pub(crate) first: Addr,
-    pub(crate) entry: Entry,
+    pub(crate) said: ReadRecord,
 }
 
 // The records that were read in pieces, by rising first block.
@@ -43,7 +44,7 @@ pub(crate) struct Records {
 
 impl Records {
     // The record of an address, if it was read in a piece.
-    fn get(&self, addr: Addr) -> Option<Entry>
+    fn get(&self, addr: Addr) -> Option<ReadRecord>
         requires kind { kind_of addr ≡ blocks_256 }
         ensures { (image : Image) → AreRecordsOf image self.now → IfSome result (IsSaidBy image addr) }
     {
@@ -52,7 +53,7 @@ impl Records {
             return None;
         };
         if placed.first.word() == first.word() {
-            Some(placed.entry)
+            Some(placed.said)
         } else {
             None
         }
@@ -94,23 +95,23 @@ impl Records {
     {
         for i in 0..BLOCKS_OF_PIECE {
             let at = BLOCK * i as usize;
-            self.add(named, file, first + i, &bytes[at..at + EntryView::SIZE])?;
+            self.add(named, file, first + i, &bytes[at..])?;
         }
         Ok(())
     }
 
-    // Adds the record that begins with a block of a file and these bytes, where the block has a claim.
-    fn add(&mut self, named: &Claims, file: u8, start: u32, window: &[u8]) -> Result<(), NoMemory>
+    // Adds the record that begins with a block of a file, where the block has a claim; these are the bytes from it on.
+    fn add(&mut self, named: &Claims, file: u8, start: u32, bytes: &[u8]) -> Result<(), NoMemory>
         requires small { start < 65536 }
-        requires size { length window.now ≡ 96 }
-        ensures { OnOk result ((image : Image) → AreBytes image → HasRange image (block file) (8192 + start * 256) 96 → window.now ≡ range_at (byte image (block file)) (8192 + start * 256) 96 → AreRecordsOf image self.old → AreRecordsOf image self.new) }
+        requires size { 96 ≤ length bytes.now }
+        ensures { OnOk result ((image : Image) → AreBytes image → HasRange image (block file) (8192 + start * 256) (length bytes.now) → bytes.now ≡ range_at (byte image (block file)) (8192 + start * 256) (length bytes.now) → AreRecordsOf image self.old → AreRecordsOf image self.new) }
     {
         if !named.has_block(file, start) {
             return Ok(());
         }
         let first = Addr::of_blocks(Kind::B256, file, start, 1);
-        let entry = said(window);
-        self.placed.push(Placed { first, entry })?;
+        let said = record_of_bytes(bytes);
+        self.placed.push(Placed { first, said })?;
         Ok(())
     }
 
@@ -187,17 +188,16 @@ pub(crate) fn read_records<F: Folder>(
     Ok(records)
 }
 
-// The record of an address that stands: it was read in a piece, or is read by one folder call.
+// The record of an address that stands: it was read in a piece, or its words are read by one folder call.
 pub(crate) fn record_of<F: Folder>(
     f: &mut F,
     files: &BlockFiles,
     records: &Records,
     addr: Addr,
-) -> Result<Entry, Fault>
+) -> Result<ReadRecord, Fault>
     requires kind { kind_of addr ≡ blocks_256 }
     requires stands { IsTrue (stands_among files.now addr) }
-    requires records { ForSome (F.told f.old).files (λ image. AreRecordsOf image records.now) }
-    ensures said { IfOk result (λ said. ForSome (F.told f.old).files (λ image. IsSaidBy image addr said)) }
+    ensures said { IfOk result (λ said. ForSome (F.told f.old).files (λ image. AreRecordsOf image records.now → IsSaidBy image addr said)) }
     ensures stays { Stays (F.told f.old) (F.told f.new) }
     ensures damaged { IfDamaged result (IsRecordDamage files.now (F.told f.new)) }
     ensures untold { ForSome (F.told f.new).files (Agrees files.now) → IfDamaged result (λ _. (F.told f.new).files ≡ None) }
@@ -205,7 +205,25 @@ pub(crate) fn record_of<F: Folder>(
     ensures device { IfDevice result (Rises (F.faults f.old) (F.faults f.new)) }
 {
     match records.get(addr) {
-        Some(entry) => Ok(entry),
+        Some(said) => Ok(said),
         None => read_record(f, files, addr),
     }
+}
+
+// Reads the words of the record of an address that stands, by one folder call.
+fn read_record<F: Folder>(f: &mut F, files: &BlockFiles, addr: Addr) -> Result<ReadRecord, Fault>
+    requires kind { kind_of addr ≡ blocks_256 }
+    requires stands { IsTrue (stands_among files.now addr) }
+    ensures said { IfOk result (λ said. ForSome (F.told f.old).files (λ image. IsSaidBy image addr said)) }
+    ensures stays { Stays (F.told f.old) (F.told f.new) }
+    ensures damaged { IfDamaged result (IsRecordDamage files.now (F.told f.new)) }
+    ensures untold { ForSome (F.told f.new).files (Agrees files.now) → IfDamaged result (λ _. (F.told f.new).files ≡ None) }
+    ensures later { F.faults f.old ≤ F.faults f.new }
+    ensures device { IfDevice result (Rises (F.faults f.old) (F.faults f.new)) }
+{
+    let words = read_words(f, files, addr)?;
+    Ok(ReadRecord {
+        words,
+        key_hash: None,
+    })
 }
