@@ -65,10 +65,14 @@ pub record AreListsOf (image : Image) (lists : Lists) : Type 0 where
   pub records : AreRecordsOf image lists.records
   pub named : AreNamed lists.nodes (nodes_walked lists.walked) lists.named
 
+-- that is what a node of an image says
+abbrev pub IsSaidAt : Image → WalkedNode → Type 0
+IsSaidAt image said = (store_of image).node_fields said.addr ≡ Some (record { contents = said.contents; dirty = said.dirty })
+
 -- this is one of the walked nodes, and what an image says at it
 pub record IsWalkedNode (image : Image) (walked : Walked) (i : ℕ) (said : WalkedNode) : Type 0 where
   pub addr : slice_get (nodes_walked walked) i ≡ Some said.addr
-  pub fields : (store_of image).node_fields said.addr ≡ Some (record { contents = said.contents; dirty = said.dirty })
+  pub fields : IsSaidAt image said
 
 -- whether a node of an image is walked and names a record
 abbrev pub is_listed : Image → ℕ → ℕ → Bool

@@ -1,21 +1,30 @@
 -- Records that walked nodes list, as they are read.
-use Rattle.std.proofs.Common.{◌≡◌, ℕ, ◌+◌, Bool, true, false, ◌&&◌, not, List, [], ◌∷◌, ◌++◌, take, Some, None, refl, sym, ap, ◌∙◌}
+use Rattle.std.proofs.Common.{◌≡◌, ℕ, ◌+◌, add-zero, Bool, true, false, ◌&&◌, not, List, [], ◌∷◌, ◌++◌, take, Some, None, refl, sym, ap, subst, ◌∙◌, arith}
 use Rattle.std.specs.Prelude.{◌==◌, slice_get}
 use Rattle.std.specs.Option.{option_map_or}
 use Rattle.std.specs.List.{filter}
 use Rattle.std.proofs.lemmas.List.Elements.{filter_more}
 use Rattle.std.proofs.lemmas.Option.{get_or_from_slice_get, slice_get_within}
 use Rattle.blk_image.specs.Image.{Image}
-use Rattle.blk_format.specs.Address.{blocks_256}
+use Rattle.blk_image.specs.Told.{Told}
+use Rattle.blk_format.specs.Address.{blocks_256, file_selector, place}
+use Rattle.blk_format.specs.Records.{child}
+use Rattle.blk_io.specs.declared.fault.Damage.{Damage}
+use Rattle.blk_io.specs.declared.folder.FileId.TheVariants as FileId
+use Rattle.blk_io.specs.Faults.{IsShort}
+use Rattle.blk_entry.proofs.KeyPlaces.{short_is_cut}
+use Rattle.blk_entry.proofs.Windows.{not_external}
+use Rattle.blk_audit.specs.Faults.{IsRecordDamage}
 use Rattle.blk_format.specs.BlockFiles.{is_among}
-use Rattle.blk_volume.specs.Audit.{is_unlisted}
+use Rattle.blk_volume.specs.Audit.{is_child, is_unlisted}
 use Rattle.blk_volume.specs.Found.{completed}
 use Rattle.blk_volume.specs.ListImages.{completed_walk}
-use Rattle.blk_volume.specs.View.{RecordFields, entry_at, fields_at, fields_of, stands_as, store_of, view_of}
+use Rattle.blk_volume.specs.View.{RecordFields, StoreView, entry_at, fields_at, fields_of, stands_as, store_of, view_of}
 use Rattle.blk_disk.specs.declared.tables.BlockFiles.{BlockFiles}
 use Rattle.blk_disk.specs.Tables.{Agrees, is_record_among}
 use Rattle.blk_audit.specs.ReadLists.{is_listed}
-use Rattle.blk_audit.proofs.Shown.{names_stand}
+use Rattle.blk_audit.proofs.Shown.{names_stand, record_fits}
+use Rattle.blk_scan.specs.Reads.{IsCutRead}
 use Rattle.blk_scan.proofs.Joined.{entry_none}
 
 -- the record of a word that names one among the kept files
@@ -53,3 +62,21 @@ none_some e = absurd cc
 
 pub some_same : {v w : ℕ} → Some v ≡ Some w → v ≡ w
 some_same e = cc
+
+-- whether a node names a part
+pub child_is : (store : StoreView) (node contents dirty : ℕ) (fields : RecordFields) → store.node_fields node ≡ Some (record { contents = contents; dirty = dirty }) → store.entry contents ≡ Some fields → is_child store node ≡ (fields.checks && (fields.flags == child))
+child_is store node contents dirty fields named there = rw (named, there) refl
+
+pub child_none : (store : StoreView) (node contents dirty : ℕ) → store.node_fields node ≡ Some (record { contents = contents; dirty = dirty }) → store.entry contents ≡ None → is_child store node ≡ false
+child_none store node contents dirty named none = rw (named, none) refl
+
+-- a short read of a record is one of its data
+pub cut_record : (files : BlockFiles) (old new : Told) → new ≡ old → (damage : Damage) → IsRecordDamage files new damage → IsCutRead files old damage
+cut_record files old new stays damage is = record {
+  word = is.entry;
+  at = 0;
+  count = 96;
+  inside = record { small = omega arith; stands = λ _. is.stands; room = λ _. record_fits is.entry is.kind };
+  cut = short_is_cut old is.entry 0 96 damage (not_external is.entry is.kind)
+      (subst (λ (t : Told). IsShort t (FileId.Block (file_selector is.entry)) (place is.entry + 0) 96 damage) stays (subst (λ (p : ℕ). IsShort new (FileId.Block (file_selector is.entry)) p 96 damage) (sym (add-zero (place is.entry))) is.short));
+}

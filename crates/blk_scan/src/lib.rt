@@ -13,6 +13,7 @@ mod roles;
 mod same_keys;
 mod storage;
 mod streams;
+mod walked_nodes;
 mod words;
 
 pub use charges::charge_of_all;
@@ -23,6 +24,7 @@ pub use parts::has_part;
 pub use reason::Reason;
 pub use roles::Role;
 pub use same_keys::has_this_key;
+pub use walked_nodes::{is_child, load_walked};
 
 #[cfg(test)]
 mod tests;

@@ -1,7 +1,7 @@
 // The verdict on a node, in a small folder in memory that tells nothing.
 ghost use Rattle.std.specs.Prelude.{◌<◌, ◌≤◌, length};
 
-use crate::{Role, Verdict, has_part, load, load_words, unlisted};
+use crate::{Role, Verdict, has_part, is_child, load, load_walked, unlisted};
 use blk_addr::{Addr, Kind};
 use blk_audit::{Lists, ScanFault, read_lists};
 use blk_disk::BlockFiles;
@@ -205,7 +205,7 @@ fn put_record(f: &mut Counted, i: u32, node: u32, next: u32) -> Result<(), Faile
     f.write_at(RECORDS, place + 96, b"abc")
 }
 
-// How many of the walked nodes are loaded.
+// How many of the walked nodes are loaded and name no part.
 fn count_loaded(f: &mut Counted, files: &BlockFiles, lists: &Lists) -> Result<u32, Fault> {
     let mut count: u32 = 0;
     for i in 0..lists.walked.count() {
@@ -221,12 +221,10 @@ fn is_loaded(f: &mut Counted, files: &BlockFiles, lists: &Lists, i: usize) -> Re
     let Some(node) = lists.node(i) else {
         return Ok(false);
     };
-    let Some(entry) = files.entry(node.contents) else {
+    if is_child(f, files, lists, &node)? {
         return Ok(false);
-    };
-    let said = lists.record_at(f, files, entry)?;
-    let reached = lists.reached.contains(node.contents);
-    match load_words(f, files, node.addr, entry, node.dirty, &said, reached)? {
+    }
+    match load_walked(f, files, lists, &node)? {
         Verdict::Loaded(_) => Ok(true),
         Verdict::Dropped(_) => Ok(false),
     }
