@@ -1,10 +1,13 @@
 // Records that are read many by one folder call.
 ghost use Rattle.std.specs.Prelude.{◌≡◌, ◌+◌, ◌*◌, ◌≤◌, ◌<◌, IfOk, IfSome, IsTrue, OnOk, None, length, slice_get, All};
+ghost use Rattle.std.specs.List.{list_any, range_with_len};
 ghost use Rattle.std.specs.Option.{ForSome};
 ghost use Rattle.blk_image.specs.Bytes.{range_at};
 ghost use Rattle.blk_image.specs.Image.{AreBytes, Block as block, HasRange, Image, byte};
 ghost use Rattle.blk_image.specs.Told.{Rises, Stays};
 ghost use Rattle.blk_format.specs.Address.{blocks_256, kind_of};
+ghost use Rattle.blk_format.specs.Claims.{BlockOf};
+ghost use Rattle.blk_addr.specs.Claims.{contains_claim};
 ghost use Rattle.blk_io.specs.Faults.{IfDamaged, IfDevice};
 ghost use Rattle.blk_disk.specs.Tables.{Agrees, stands_among};
 ghost use Rattle.blk_audit.specs.Faults.{IfScanDamaged, IfScanDevice, IsRecordDamage, IsRecordsDamage};
@@ -115,7 +118,7 @@ impl Records {
         Ok(())
     }
 
-    // Reads a piece of a file that lies in it, by one folder call, and adds its records.
+    // Reads a piece of a file that lies in it, by one folder call, and adds its records; no call where it has none.
     fn read_piece<F: Folder>(
         &mut self,
         f: &mut F,
@@ -131,6 +134,9 @@ impl Records {
         ensures later { F.faults f.old ≤ F.faults f.new }
         ensures device { IfScanDevice result (Rises (F.faults f.old) (F.faults f.new)) }
     {
+        if !has_named(named, file, first) {
+            return Ok(());
+        }
         let mut bytes = [0u8; PIECE];
         let at = BlockHead::HEADER_LEN + u64::from(first) * BLOCK as u64;
         read_exact(f, FileId::Block(file), at, &mut bytes)?;
@@ -138,7 +144,7 @@ impl Records {
         Ok(())
     }
 
-    // Reads the pieces of a file, up to the first that does not lie in it.
+    // Reads the pieces of a file that have a block with a claim, up to the first that does not lie in it.
     fn read_file<F: Folder>(
         &mut self,
         f: &mut F,
@@ -163,6 +169,14 @@ impl Records {
         }
         Ok(())
     }
+}
+
+// Whether one of the blocks of a piece has a claim.
+fn has_named(named: &Claims, file: u8, first: u32) -> bool
+    requires inside { first + 128 ≤ 65536 }
+    ensures { result ≡ list_any (λ b. contains_claim named.now (BlockOf file b)) (range_with_len first 128) }
+{
+    (first..first + BLOCKS_OF_PIECE).any(|block| named.has_block(file, block))
 }
 
 // Reads the records whose first blocks have a claim, file after file and each file in pieces.

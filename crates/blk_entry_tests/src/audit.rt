@@ -96,7 +96,7 @@ fn a_chain_ends_before_another_bucket_and_before_a_met_record(rt: HostRuntime) -
         ),
         Err(_) => panic!(rt; "they are followed"),
     }
-    assert_eq!(rt; f.calls().wrapping_sub(start), 68);
+    assert_eq!(rt; f.calls().wrapping_sub(start), 67);
     chain(&mut f, 2, 5, a)?;
     let first = 0x9000_0000;
     write_word(&mut f, FileId::Index, 288, first)?;
