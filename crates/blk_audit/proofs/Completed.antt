@@ -14,6 +14,8 @@ use Rattle.blk_volume.specs.View.{stands_as, checks_at, next_at, prev_at, list_o
 use Rattle.blk_volume.specs.ListImages.{completed_walk}
 use Rattle.blk_laws.proofs.lists.AtRest.{completions-end}
 use Rattle.blk_laws.proofs.lists.ListCompletions.{walk_outcome}
+use Rattle.blk_laws.proofs.lists.ListWrites.{checks_stay}
+use Rattle.blk_laws.proofs.lists.Walked.{walks-distinct}
 use Rattle.blk_audit.specs.Changes.{next_written, prev_written, head_written}
 use Rattle.blk_audit.specs.Nodes.{list_in, said_at, AreNodesOf}
 use Rattle.blk_audit.specs.declared.nodes.Node.{Node}
@@ -102,3 +104,10 @@ module _ (image : Image) (nodes : Nodes) (are : AreNodesOf image nodes) (head : 
       same_after writes (list_in nodes head) (list_of image) checks_are next_are prev_are (head_is ∙ here)
       ∙ ap (λ (ws : List ListWrite). walk (after_writes ws (list_of image))) plan
       ∙ finished_walk (list_of image)
+
+-- a walked node checks
+pub walked_checks : (image : Image) (node : ℕ) → is_among (completed_walk image) node ≡ true → (list_of image).checks node ≡ true
+walked_checks image node among =
+    let done : ListView = after_writes (completion_writes (list_of image)) (list_of image) in
+    ap (λ (checks : ℕ → Bool). checks node) (sym (checks_stay (completion_writes (list_of image)) (list_of image)))
+    ∙ (walks-distinct done).1 node (ap (λ (nodes : List ℕ). is_among nodes node) (finished_walk (list_of image)) ∙ among)

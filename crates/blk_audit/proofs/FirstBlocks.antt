@@ -1,14 +1,18 @@
 -- The first blocks that were met, by their claims.
-use Rattle.std.proofs.Common.{◌≡◌, ◌≢◌, ℕ, ◌+◌, ◌*◌, ◌<◌, Bool, true, false, ◌||◌, ◌&&◌, List, [], ◌∷◌, ◌++◌, map, refl, sym, ap, ap₂, ◌∙◌, arith, if◌then◌else◌}
+use Rattle.std.proofs.Common.{◌≡◌, ◌≢◌, ℕ, ◌+◌, ◌*◌, ◌<◌, Bool, true, false, ◌||◌, ◌&&◌, List, [], ◌∷◌, ◌++◌, map, cond, refl, sym, ap, ap₂, ◌∙◌, arith, if◌then◌else◌}
 use Rattle.std.specs.Prelude.{◌==◌}
+use Rattle.std.specs.BTreeMap.{is_at}
 use Rattle.std.specs.List.{list_any, range_with_len}
+use Rattle.std.specs.Ordering.{nat_cmp}
 use Rattle.std.proofs.lemmas.Bool.{eqb-true, eq-eqb, and_parts}
 use Rattle.blk_format.specs.Address.{kind_of, file_selector, first_block, block_count, block_word, external}
 use Rattle.blk_format.specs.Claims.{Claim, BlockOf, claims_of, claims_of_all, has_claim, overlap}
+use Rattle.blk_format.specs.BlockFiles.{is_among}
+use Rattle.blk_format.proofs.Among.{is_among_more}
 use Rattle.blk_format.proofs.Words.{AreFields, AreFields-of, kind_of-block_word, file_selector-block_word, first_block-block_word, block_count-block_word}
 use Rattle.blk_volume.specs.Chains.{file_and_block}
 use Rattle.blk_addr.specs.Claims.{is_claimed}
-use Rattle.blk_addr.proofs.ClaimLemmas.{or_false, claims_of-blocks, has_claim-append}
+use Rattle.blk_addr.proofs.ClaimLemmas.{or_comm, or_false, cond_or, is_at-nat_cmp, claims_of-blocks, has_claim-append}
 use Rattle.blk_addr.proofs.ClaimSetLemmas.{is_claimed-overlap}
 use Rattle.blk_audit.specs.Chaining.{AreReached, first_block_of, is_met}
 use Rattle.blk_audit.specs.declared.reaching.Reached.{Reached}
@@ -24,7 +28,7 @@ some_first w e = omega (arith, e)
 blocks_first : (w : ℕ) → kind_of (first_block_of w) ≢ external
 blocks_first w e = let h : ◌≡◌ {A = ℕ} 2 0 = sym (kind_of-block_word 2 (file_selector w) (first_block w) 1 (fields w)) ∙ e in omega (arith, h)
 
-claims_first : (w : ℕ) → claims_of (first_block_of w) ≡ BlockOf (file_selector w) (first_block w) ∷ []
+pub claims_first : (w : ℕ) → claims_of (first_block_of w) ≡ BlockOf (file_selector w) (first_block w) ∷ []
 claims_first w =
     claims_of-blocks (first_block_of w) (some_first w) (blocks_first w)
     ∙ ap₂ (λ (f s : ℕ). map (λ b. BlockOf f b) (range_with_len s (block_count (first_block_of w)))) (file_selector-block_word 2 (file_selector w) (first_block w) 1 (fields w)) (first_block-block_word 2 (file_selector w) (first_block w) 1 (fields w))
@@ -81,7 +85,7 @@ first_met words v =
     ∙ has_first words v
 
 pub claimed_first : (reached : Reached) (v : ℕ) → AreReached reached → is_claimed reached.met (first_block_of v) ≡ is_met reached.words.items v
-claimed_first reached v are = is_claimed-overlap reached.met (map first_block_of reached.words.items) (first_block_of v) are ∙ first_met reached.words.items v
+claimed_first reached v are = is_claimed-overlap reached.met (map first_block_of reached.words.items) (first_block_of v) are.met ∙ first_met reached.words.items v
 
 pub map_last : (f : ℕ → ℕ) (xs : List ℕ) (x : ℕ) → map f (xs ++ x ∷ []) ≡ map f xs ++ f x ∷ []
 map_last f [] x = refl
@@ -93,3 +97,12 @@ cond_below false x n some small = small
 
 pub start_small : (w s : ℕ) → s ≡ (if kind_of w == external then 0 else first_block w) → s < 65536
 start_small w s e = let h = cond_below (kind_of w == external) (first_block w) 65536 (omega arith) (AreFields-of w).start in omega (arith, h, e)
+
+-- one more word is known
+pub known_more : (old new : ℕ → Bool) (words : List ℕ) (w : ℕ) → ((v : ℕ) → new v ≡ cond (is_at (nat_cmp w) v) true (old v)) → ((v : ℕ) → old v ≡ is_among words v) → (v : ℕ) → new v ≡ is_among (words ++ w ∷ []) v
+known_more old new words w added known v =
+    added v ∙ cond_or (is_at (nat_cmp w) v) (old v)
+    ∙ ap₂ (λ (a b : Bool). a || b) (is_at-nat_cmp w v) (known v)
+    ∙ or_comm (v == w) (is_among words v)
+    ∙ ap (λ (t : Bool). is_among words v || t) (both_or_neither (v == w) (w == v) (λ e. eq-eqb w v (sym (eqb-true v w e))) (λ e. eq-eqb v w (sym (eqb-true w v e))))
+    ∙ sym (is_among_more words w v)

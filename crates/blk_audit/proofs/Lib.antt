@@ -15,3 +15,5 @@ pub mod Chained
 pub mod FirstBlocks
 pub mod AllChains
 pub mod PiecesOfRecords
+pub mod RecordFacts
+pub mod ReadNodes

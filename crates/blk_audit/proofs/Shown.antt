@@ -1,9 +1,9 @@
 -- What an image shows of a record, by its bytes.
-use Rattle.std.proofs.Common.{◌≡◌, ℕ, ◌+◌, ◌%◌, ◌≤◌, Bool, true, false, ◌&&◌, ◌||◌, List, [], ◌∷◌, map, take, add-zero, inr, refl, sym, ap, ap₂, subst, ◌∙◌, arith, if◌then◌else◌}
+use Rattle.std.proofs.Common.{◌≡◌, ℕ, ◌+◌, ◌%◌, ◌≤◌, Bool, true, false, ◌&&◌, ◌||◌, List, [], ◌∷◌, map, take, inr, refl, sym, ap, subst, ◌∙◌, arith, if◌then◌else◌}
 use Rattle.std.specs.Prelude.{◌==◌}
 use Rattle.std.proofs.lemmas.Bool.{eqb-true, eq-eqb}
 use Rattle.blk_image.specs.Bytes.{content, word_at, range_at}
-use Rattle.blk_image.specs.Image.{Block, HasRange, Image, Index, AreBytes, byte, word, has_file, External}
+use Rattle.blk_image.specs.Image.{Block, Image, Index, AreBytes, byte, has_file, External}
 use Rattle.blk_image.specs.Told.{Told}
 use Rattle.blk_format.specs.Address.{byte_size, is_address, kind_of, file_selector, external, external_number, blocks_256, place}
 use Rattle.blk_format.specs.BlockFiles.{is_among, stands_in_blocks}
@@ -26,9 +26,9 @@ use Rattle.blk_io.specs.declared.folder.FileId.TheVariants as names
 use Rattle.blk_io.specs.declared.fault.Damage.{Damage}
 use Rattle.blk_io.specs.Faults.{IsShort}
 use Rattle.blk_audit.specs.Faults.{IsRecordDamage}
-use Rattle.blk_audit.specs.Records.{entry_said, IsSaidBy}
+use Rattle.blk_audit.specs.Records.{IsSaidBy}
 use Rattle.blk_audit.specs.Chaining.{AreOfFirst}
-use Rattle.blk_audit.specs.declared.records.Entry.{Entry}
+use Rattle.blk_audit.specs.declared.records.ReadRecord.{ReadRecord}
 use Rattle.blk_audit.proofs.Truths.{or_first, or_second}
 
 and_none : (a : Bool) → (a && false) ≡ false
@@ -63,21 +63,9 @@ module _ (image : Image) (w : ℕ) (small : AreBytes image) (kind : kind_of w �
       entry_checks-by (entry_at image w) (entry_in (content (record_at image w)) 0) seal (entry-here image w kind)
       ∙ entry_checks-front (record_at image w) front (omega (arith, s, length-record w image))
 
-  word_is : (bytes : List ℕ) (q : ℕ) → bytes ≡ record_at image w → q + 4 ≤ 96 → word_at (content bytes) q ≡ word image (Block (file_selector w)) (place w + q)
-  word_is bytes q are inside = ap (λ (b : List ℕ). word_at (content b) q) are ∙ record_word image w q (let size = entry_bytes w kind in omega (arith, size, inside))
-
-  -- the bytes that are read say what the record says
-  pub said_is : (bytes : List ℕ) → bytes ≡ range_at (byte image (Block (file_selector w))) (place w + 0) 96 → HasRange image (Block (file_selector w)) (place w) 96 → IsSaidBy image w (entry_said bytes)
-  unfolding entry_in
-  said_is bytes is inside =
-      let are : bytes ≡ record_at image w = record_read image w 96 bytes (sym (entry_bytes w kind)) is in
-      let here : place w + 0 ≡ place w = omega arith in
-      record {
-        checks = ap (checks 92) are ∙ sym checks_is;
-        hash = word_is bytes 0 are (omega arith) ∙ ap (word_at (byte image (Block (file_selector w)))) here;
-        next = word_is bytes 4 are (omega arith);
-        there = inside;
-      }
+  -- the bytes that are read check where the record does
+  pub checks_read : (bytes : List ℕ) → bytes ≡ range_at (byte image (Block (file_selector w))) (place w + 0) 96 → checks 92 bytes ≡ entry_checks (entry_at image w)
+  checks_read bytes is = ap (checks 92) (record_read image w 96 bytes (sym (entry_bytes w kind)) is) ∙ sym checks_is
 
 -- What is shown of a word.
 
@@ -85,15 +73,15 @@ pub of_none : (image : Image) (bucket w : ℕ) → stands_as image blocks_256 w 
 unfolding store_of fields_at
 of_none image bucket w e = rw e refl
 
-pub of_is : (image : Image) (bucket w : ℕ) (said : Entry) → stands_as image blocks_256 w ≡ true → IsSaidBy image w said → is_of_bucket (store_of image) bucket w ≡ (said.checks && (said.hash % 65536 == bucket))
+pub of_is : (image : Image) (bucket w : ℕ) (said : ReadRecord) → stands_as image blocks_256 w ≡ true → IsSaidBy image w said → is_of_bucket (store_of image) bucket w ≡ (said.words.checks && (said.words.hash % 65536 == bucket))
 unfolding store_of fields_at
 of_is image bucket w said e is =
     let shown : is_of_bucket (store_of image) bucket w ≡ (entry_checks (entry_at image w) && ((entry_at image w).hash % 65536 == bucket)) = rw e refl in
-    shown ∙ ap₂ (λ (c : Bool) (h : ℕ). c && (h % 65536 == bucket)) (sym is.checks) (sym is.hash)
+    shown ∙ ap (λ (f : RecordFields). f.checks && (f.hash % 65536 == bucket)) (sym is.words.fields)
 
-pub next_is : (image : Image) (w : ℕ) (said : Entry) → stands_as image blocks_256 w ≡ true → IsSaidBy image w said → (store_of image).chain_next w ≡ said.next
+pub next_is : (image : Image) (w : ℕ) (said : ReadRecord) → stands_as image blocks_256 w ≡ true → IsSaidBy image w said → (store_of image).chain_next w ≡ said.words.next
 unfolding store_of follow_at
-next_is image w said e is = let shown : (store_of image).chain_next w ≡ (entry_at image w).next = rw e refl in shown ∙ sym is.next
+next_is image w said e is = let shown : (store_of image).chain_next w ≡ (entry_at image w).next = rw e refl in shown ∙ sym is.words.next
 
 -- two records with one first block are of one bucket
 one_bucket : (image : Image) (w v m b : ℕ) → file_and_block w ≡ file_and_block v → is_of_bucket (store_of image) m w ≡ true → is_of_bucket (store_of image) b v ≡ true → m ≡ b
@@ -133,13 +121,8 @@ record_fits w kind =
     omega (arith, inside, size)
 
 -- a short read of a record
-pub short_record : (files : BlockFiles) (old new : Told) (w : ℕ) → new ≡ old → kind_of w ≡ blocks_256 → stands_among files w ≡ true → (damage : Damage) → IsShort old (names.Block (file_selector w)) (place w + 0) 96 damage → IsRecordDamage files new damage
-short_record files old new w stays kind there damage short = record {
-  entry = w;
-  kind = kind;
-  stands = there;
-  short = subst (λ (t : Told). IsShort t (names.Block (file_selector w)) (place w) 96 damage) (sym stays) (subst (λ (p : ℕ). IsShort old (names.Block (file_selector w)) p 96 damage) (add-zero (place w)) short);
-}
+pub short_record : (files : BlockFiles) (old new : Told) (w : ℕ) → new ≡ old → kind_of w ≡ blocks_256 → stands_among files w ≡ true → (damage : Damage) → IsShort old (names.Block (file_selector w)) (place w) 96 damage → IsRecordDamage files new damage
+short_record files old new w stays kind there damage short = record { entry = w; kind = kind; stands = there; short = subst (λ (t : Told). IsShort t (names.Block (file_selector w)) (place w) 96 damage) (sym stays) short }
 
 -- of another bucket
 pub of_bucket_by : (checks is : Bool) → is ≡ false → (checks && is) ≡ false

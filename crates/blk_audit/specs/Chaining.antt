@@ -1,5 +1,7 @@
 -- Chains as they are followed, bucket after bucket.
 use Rattle.std.specs.Prelude.{ℕ, zero, suc, ◌*◌, ◌<◌, ◌≡◌, Bool, true, List, [], ◌∷◌, ◌++◌, length, map}
+use Rattle.std.specs.BTreeSet.{contains}
+use Rattle.std.specs.Ordering.{nat_cmp}
 use Rattle.std.specs.declared.option.Option.{Option}
 use Rattle.std.specs.declared.option.Option.TheVariants.{None, Some}
 use Rattle.blk_addr.specs.Claims.{IsClaimsOf}
@@ -26,9 +28,10 @@ words_reached reached = reached.words.items
 abbrev pub first_block_of : ℕ → ℕ
 first_block_of w = block_word blocks_256 (file_selector w) (first_block w) 1
 
--- the first blocks of the reached records are those that were met
-abbrev pub AreReached : Reached → Type 0
-AreReached reached = IsClaimsOf reached.met (map first_block_of reached.words.items)
+-- the first blocks of the reached records are those that were met, and their addresses are the words that are known
+pub record AreReached (reached : Reached) : Type 0 where
+  pub met : IsClaimsOf reached.met (map first_block_of reached.words.items)
+  pub known : (w : ℕ) → contains nat_cmp reached.known w ≡ is_among reached.words.items w
 
 -- a record that checks is of one of the first n buckets
 pub record IsOfFirst (store : StoreView) (n w : ℕ) : Type 0 where

@@ -5,5 +5,6 @@ pub mod Faults
 pub mod Filled
 pub mod Filling
 pub mod Nodes
+pub mod ReadLists
 pub mod Records
 pub mod Walking

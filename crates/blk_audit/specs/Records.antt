@@ -1,24 +1,71 @@
 -- What is read of a record.
-use Rattle.std.specs.Prelude.{ℕ, ◌≡◌, List, All}
-use Rattle.blk_image.specs.Bytes.{content, word_at}
+use Rattle.std.specs.Prelude.{ℕ, ◌≡◌, List, All, IfSome, take, drop, length, nat_le, ◌&&◌, if◌then◌else◌}
+use Rattle.std.specs.declared.option.Option.{Option}
+use Rattle.std.specs.declared.option.Option.TheVariants.{None, Some}
+use Rattle.blk_image.specs.Bytes.{content, word_at, words_at}
 use Rattle.blk_image.specs.Image.{Block, HasRange, Image}
 use Rattle.blk_format.specs.Address.{file_selector, place}
-use Rattle.blk_format.specs.Records.{checks, entry_checks}
-use Rattle.blk_volume.specs.View.{entry_at}
-use Rattle.blk_audit.specs.declared.records.Entry.{Entry}
+use Rattle.blk_format.specs.Hash.{hash}
+use Rattle.blk_format.specs.Records.{checks, entry_size}
+use Rattle.blk_format.specs.Storage.{longest_short_key}
+use Rattle.blk_volume.specs.Entries.{stored_key}
+use Rattle.blk_volume.specs.View.{RecordFields, entry_at, fields_of, store_of}
+use Rattle.blk_audit.specs.declared.record_words.RecordWords.{RecordWords}
+use Rattle.blk_audit.specs.declared.records.ReadRecord.{ReadRecord}
 use Rattle.blk_audit.specs.declared.record_files.Records.{Records}
 
--- what a record with these bytes says
-abbrev pub entry_said : List ℕ → Entry
-entry_said bytes = record { checks = checks 92 bytes; hash = word_at (content bytes) 0; next = word_at (content bytes) 4 }
+-- the words of a record with these bytes
+abbrev pub words_in : List ℕ → RecordWords
+words_in bytes = record {
+  checks = checks 92 bytes;
+  hash = word_at (content bytes) 0;
+  next = word_at (content bytes) 4;
+  node = word_at (content bytes) 8;
+  state = word_at (content bytes) 20;
+  key_len = word_at (content bytes) 32;
+  long_key = word_at (content bytes) 36;
+  sizes = words_at (content bytes) 40 4;
+  addrs = words_at (content bytes) 56 4;
+  flags = word_at (content bytes) 72;
+}
+
+-- what the words say of their record
+abbrev pub fields_said : RecordWords → RecordFields
+fields_said words = record {
+  checks = words.checks;
+  hash = words.hash;
+  rankings_node = words.node;
+  state = words.state;
+  key_len = words.key_len;
+  long_key = words.long_key;
+  data_size = words.sizes;
+  data_addr = words.addrs;
+  flags = words.flags;
+}
+
+-- these are the words of the record that a word of an image names
+pub record AreWordsOf (image : Image) (entry : ℕ) (words : RecordWords) : Type 0 where
+  pub fields : fields_said words ≡ fields_of (entry_at image entry)
+  pub next : words.next ≡ (entry_at image entry).next
+
+-- the hash of a short key that lies in front of these bytes
+abbrev pub hash_in : ℕ → List ℕ → Option ℕ
+hash_in key_len bytes = if nat_le key_len longest_short_key && nat_le key_len (length bytes) then Some (hash (take key_len bytes)) else None
+
+-- what a record says whose bytes are these, or the first of these
+abbrev pub record_in : List ℕ → ReadRecord
+record_in bytes = record { words = words_in (take entry_size bytes); key_hash = hash_in (words_in (take entry_size bytes)).key_len (drop entry_size bytes) }
+
+-- this is the hash of the key of a record with these words, where the key is stored
+abbrev pub IsHashOfKey : Image → ℕ → RecordWords → ℕ → Type 0
+IsHashOfKey image entry words sum = (key : List ℕ) → stored_key (store_of image) entry (fields_said words) ≡ Some key → sum ≡ hash key
 
 -- that is what the record says that lies at the place that a word of an image names, and its bytes are there
-pub record IsSaidBy (image : Image) (w : ℕ) (said : Entry) : Type 0 where
-  pub checks : said.checks ≡ entry_checks (entry_at image w)
-  pub hash : said.hash ≡ (entry_at image w).hash
-  pub next : said.next ≡ (entry_at image w).next
-  pub there : HasRange image (Block (file_selector w)) (place w) 96
+pub record IsSaidBy (image : Image) (w : ℕ) (said : ReadRecord) : Type 0 where
+  pub words : AreWordsOf image w said.words
+  pub key_hash : IfSome said.key_hash (IsHashOfKey image w said.words)
+  pub there : HasRange image (Block (file_selector w)) (place w) entry_size
 
 -- the records that were read in pieces are those of an image
 abbrev pub AreRecordsOf : Image → Records → Type 0
-AreRecordsOf image records = All (λ placed. IsSaidBy image placed.first placed.entry) records.placed.items
+AreRecordsOf image records = All (λ placed. IsSaidBy image placed.first placed.said) records.placed.items

@@ -1,5 +1,6 @@
 // The walk of the use list.
 ghost use Rattle.std.specs.Prelude.{◌≡◌, ℕ, IfOk, OnOk, MatchOption, None, length, map, slice_get};
+ghost use Rattle.blk_format.specs.BlockFiles.{is_among};
 ghost use Rattle.blk_volume.specs.ListView.{after_writes};
 ghost use Rattle.blk_volume.specs.Walk as walking;
 ghost use Rattle.blk_lru.specs.Writes.{meant};
@@ -35,9 +36,9 @@ struct Link {
 
 // A node and its address.
 #[derive(Clone, Copy, Debug)]
-struct Standing {
-    addr: Addr,
-    node: Node,
+pub(crate) struct Standing {
+    pub(crate) addr: Addr,
+    pub(crate) node: Node,
 }
 
 // Walks the use list with this head after these writes.
@@ -108,7 +109,7 @@ fn visit(
 }
 
 // The node that a word names, if one stands there.
-fn node_named(nodes: &Nodes, word: u32) -> Option<Standing>
+pub(crate) fn node_named(nodes: &Nodes, word: u32) -> Option<Standing>
     ensures { MatchOption result (loaded_node nodes.now word ≡ None) (IsStanding nodes.now word) }
 {
     let Some(addr) = Addr::from_word(word) else {
@@ -135,6 +136,14 @@ impl Walked {
         ensures { result ≡ slice_get (nodes_walked self.now) i }
     {
         self.nodes.get(i).copied()
+    }
+
+    // Whether a node was walked.
+    pub(crate) fn has(&self, node: Addr) -> bool
+        requires node { IsNodeWord node }
+        ensures { AreMet self.now → result ≡ is_among (nodes_walked self.now) node }
+    {
+        self.met.has(node)
     }
 
     // Adds a node, unless it was met. Gives whether it was added.

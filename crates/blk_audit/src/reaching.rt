@@ -4,6 +4,7 @@ ghost use Rattle.std.specs.Option.{ForSome};
 ghost use Rattle.blk_image.specs.Image.{HasRange, Index as index};
 ghost use Rattle.blk_image.specs.Told.{Rises, Stays};
 ghost use Rattle.blk_format.specs.Address.{blocks_256, kind_of};
+ghost use Rattle.blk_format.specs.BlockFiles.{is_among};
 ghost use Rattle.blk_format.specs.Headers.{place_of_bucket, table_length};
 ghost use Rattle.blk_volume.specs.View.{store_of};
 ghost use Rattle.blk_volume.specs.Chains.{chain_from, most_records};
@@ -22,6 +23,7 @@ use blk_disk::BlockFiles;
 use blk_index::buckets;
 use blk_io::Folder;
 use std::alloc::Global;
+use std::collections::BTreeSet;
 
 // The most records of a chain, and the number of buckets.
 const MOST_RECORDS: u32 = 16_777_216;
@@ -39,6 +41,7 @@ const PIECES: u16 = 64;
 pub struct Reached {
     words: Vec<Addr>,
     met: Claims,
+    known: BTreeSet<u32>,
 }
 
 impl Reached {
@@ -56,6 +59,13 @@ impl Reached {
         self.words.get(i).copied()
     }
 
+    /// Whether a word is the address of one of the reached records.
+    pub fn contains(&self, word: u32) -> bool
+        ensures { AreReached self.now → result ≡ is_among (words_reached self.now) word }
+    {
+        self.known.contains(&word)
+    }
+
     // No record is reached.
     fn none(alloc: Global) -> Reached
         ensures reached { AreReached result }
@@ -64,6 +74,7 @@ impl Reached {
         Reached {
             words: Vec::new(alloc),
             met: Claims::new(alloc),
+            known: BTreeSet::new(alloc),
         }
     }
 
@@ -85,6 +96,7 @@ impl Reached {
         ensures added { OnOk result (words_reached self.new ≡ words_reached self.old ++ addr ∷ []) }
     {
         self.met.add(first_of_record(addr))?;
+        self.known.insert(addr.word())?;
         self.words.push(addr)?;
         Ok(())
     }
@@ -115,10 +127,30 @@ pub fn chains<F: Folder>(
     ensures device { IfScanDevice result (Rises (F.faults f.old) (F.faults f.new)) }
 {
     let records = read_records(alloc, f, files, named)?;
+    chains_over(alloc, f, files, &records)
+}
+
+// Follows the chains, where these records were read before.
+pub(crate) fn chains_over<F: Folder>(
+    alloc: Global,
+    f: &mut F,
+    files: &BlockFiles,
+    records: &Records,
+) -> Result<Reached, ScanFault>
+    requires records { ForSome (F.told f.old).files (λ image. AreRecordsOf image records.now) }
+    ensures reached { IfOk result (λ reached. ForSome (F.told f.old).files (λ image. Agrees files.now image → words_reached reached ≡ reached_by (store_of image) table_length)) }
+    ensures met { IfOk result AreReached }
+    ensures checked { IfOk result (λ reached. ForSome (F.told f.old).files (λ image. HasChains files.now image (words_reached reached))) }
+    ensures stays { Stays (F.told f.old) (F.told f.new) }
+    ensures damaged { IfScanDamaged result (IsChainsDamage files.now (F.told f.new)) }
+    ensures untold { ForSome (F.told f.old).files (IsOpen files.now) → IfScanDamaged result (λ _. (F.told f.old).files ≡ None) }
+    ensures later { F.faults f.old ≤ F.faults f.new }
+    ensures device { IfScanDevice result (Rises (F.faults f.old) (F.faults f.new)) }
+{
     let mut reached = Reached::none(alloc);
     for piece in 0..PIECES {
         let first = piece * PIECE as u16;
-        follow_piece(f, files, &records, first, &mut reached)?;
+        follow_piece(f, files, records, first, &mut reached)?;
     }
     Ok(reached)
 }
@@ -250,12 +282,12 @@ fn reach<F: Folder>(
         return Ok(None);
     }
     let said = record_of(f, files, records, addr)?;
-    if !said.checks {
+    if !said.words.checks {
         return Ok(None);
     }
-    if said.hash % BUCKETS != bucket {
+    if said.words.hash % BUCKETS != bucket {
         return Ok(None);
     }
     reached.add(addr)?;
-    Ok(Some(said.next))
+    Ok(Some(said.words.next))
 }

@@ -1,21 +1,25 @@
 // Records that are read many by one folder call.
 ghost use Rattle.std.specs.Prelude.{◌≡◌, ◌+◌, ◌*◌, ◌≤◌, ◌<◌, IfOk, IfSome, IsTrue, OnOk, None, length, slice_get, All};
+ghost use Rattle.std.specs.List.{list_any, range_with_len};
 ghost use Rattle.std.specs.Option.{ForSome};
 ghost use Rattle.blk_image.specs.Bytes.{range_at};
 ghost use Rattle.blk_image.specs.Image.{AreBytes, Block as block, HasRange, Image, byte};
 ghost use Rattle.blk_image.specs.Told.{Rises, Stays};
 ghost use Rattle.blk_format.specs.Address.{blocks_256, kind_of};
+ghost use Rattle.blk_format.specs.Claims.{BlockOf};
+ghost use Rattle.blk_addr.specs.Claims.{contains_claim};
 ghost use Rattle.blk_io.specs.Faults.{IfDamaged, IfDevice};
 ghost use Rattle.blk_disk.specs.Tables.{Agrees, stands_among};
 ghost use Rattle.blk_audit.specs.Faults.{IfScanDamaged, IfScanDevice, IsRecordDamage, IsRecordsDamage};
 ghost use Rattle.blk_audit.specs.Records.{AreRecordsOf, IsSaidBy};
 
 use crate::fault::ScanFault;
-use crate::records::{Entry, first_of_record, read_record, said};
+use crate::record_words::read_words;
+use crate::records::{ReadRecord, first_of_record, record_of_bytes};
 use blk_addr::{Addr, Claims, Kind, NoMemory};
 use blk_disk::BlockFiles;
 use blk_io::{Fault, FileId, Folder, read_exact};
-use blk_record::{BlockHead, EntryView, Record};
+use blk_record::BlockHead;
 use std::alloc::Global;
 
 // The blocks of 256 bytes that one call reads: whole groups of four, so that a record never lies in two pieces.
@@ -32,7 +36,7 @@ const PIECE: usize = 32_768;
 #[derive(Clone, Copy, Debug)]
 pub(crate) struct Placed {
     pub(crate) first: Addr,
-    pub(crate) entry: Entry,
+    pub(crate) said: ReadRecord,
 }
 
 // The records that were read in pieces, by rising first block.
@@ -43,7 +47,7 @@ pub(crate) struct Records {
 
 impl Records {
     // The record of an address, if it was read in a piece.
-    fn get(&self, addr: Addr) -> Option<Entry>
+    fn get(&self, addr: Addr) -> Option<ReadRecord>
         requires kind { kind_of addr ≡ blocks_256 }
         ensures { (image : Image) → AreRecordsOf image self.now → IfSome result (IsSaidBy image addr) }
     {
@@ -52,7 +56,7 @@ impl Records {
             return None;
         };
         if placed.first.word() == first.word() {
-            Some(placed.entry)
+            Some(placed.said)
         } else {
             None
         }
@@ -94,27 +98,27 @@ impl Records {
     {
         for i in 0..BLOCKS_OF_PIECE {
             let at = BLOCK * i as usize;
-            self.add(named, file, first + i, &bytes[at..at + EntryView::SIZE])?;
+            self.add(named, file, first + i, &bytes[at..])?;
         }
         Ok(())
     }
 
-    // Adds the record that begins with a block of a file and these bytes, where the block has a claim.
-    fn add(&mut self, named: &Claims, file: u8, start: u32, window: &[u8]) -> Result<(), NoMemory>
+    // Adds the record that begins with a block of a file, where the block has a claim; these are the bytes from it on.
+    fn add(&mut self, named: &Claims, file: u8, start: u32, bytes: &[u8]) -> Result<(), NoMemory>
         requires small { start < 65536 }
-        requires size { length window.now ≡ 96 }
-        ensures { OnOk result ((image : Image) → AreBytes image → HasRange image (block file) (8192 + start * 256) 96 → window.now ≡ range_at (byte image (block file)) (8192 + start * 256) 96 → AreRecordsOf image self.old → AreRecordsOf image self.new) }
+        requires size { 96 ≤ length bytes.now }
+        ensures { OnOk result ((image : Image) → AreBytes image → HasRange image (block file) (8192 + start * 256) (length bytes.now) → bytes.now ≡ range_at (byte image (block file)) (8192 + start * 256) (length bytes.now) → AreRecordsOf image self.old → AreRecordsOf image self.new) }
     {
         if !named.has_block(file, start) {
             return Ok(());
         }
         let first = Addr::of_blocks(Kind::B256, file, start, 1);
-        let entry = said(window);
-        self.placed.push(Placed { first, entry })?;
+        let said = record_of_bytes(bytes);
+        self.placed.push(Placed { first, said })?;
         Ok(())
     }
 
-    // Reads a piece of a file that lies in it, by one folder call, and adds its records.
+    // Reads a piece of a file that lies in it, by one folder call, and adds its records; no call where it has none.
     fn read_piece<F: Folder>(
         &mut self,
         f: &mut F,
@@ -130,6 +134,9 @@ impl Records {
         ensures later { F.faults f.old ≤ F.faults f.new }
         ensures device { IfScanDevice result (Rises (F.faults f.old) (F.faults f.new)) }
     {
+        if !has_named(named, file, first) {
+            return Ok(());
+        }
         let mut bytes = [0u8; PIECE];
         let at = BlockHead::HEADER_LEN + u64::from(first) * BLOCK as u64;
         read_exact(f, FileId::Block(file), at, &mut bytes)?;
@@ -137,7 +144,7 @@ impl Records {
         Ok(())
     }
 
-    // Reads the pieces of a file, up to the first that does not lie in it.
+    // Reads the pieces of a file that have a block with a claim, up to the first that does not lie in it.
     fn read_file<F: Folder>(
         &mut self,
         f: &mut F,
@@ -164,6 +171,14 @@ impl Records {
     }
 }
 
+// Whether one of the blocks of a piece has a claim.
+fn has_named(named: &Claims, file: u8, first: u32) -> bool
+    requires inside { first + 128 ≤ 65536 }
+    ensures { result ≡ list_any (λ b. contains_claim named.now (BlockOf file b)) (range_with_len first 128) }
+{
+    (first..first + BLOCKS_OF_PIECE).any(|block| named.has_block(file, block))
+}
+
 // Reads the records whose first blocks have a claim, file after file and each file in pieces.
 pub(crate) fn read_records<F: Folder>(
     alloc: Global,
@@ -187,17 +202,16 @@ pub(crate) fn read_records<F: Folder>(
     Ok(records)
 }
 
-// The record of an address that stands: it was read in a piece, or is read by one folder call.
+// The record of an address that stands: it was read in a piece, or its words are read by one folder call.
 pub(crate) fn record_of<F: Folder>(
     f: &mut F,
     files: &BlockFiles,
     records: &Records,
     addr: Addr,
-) -> Result<Entry, Fault>
+) -> Result<ReadRecord, Fault>
     requires kind { kind_of addr ≡ blocks_256 }
     requires stands { IsTrue (stands_among files.now addr) }
-    requires records { ForSome (F.told f.old).files (λ image. AreRecordsOf image records.now) }
-    ensures said { IfOk result (λ said. ForSome (F.told f.old).files (λ image. IsSaidBy image addr said)) }
+    ensures said { IfOk result (λ said. ForSome (F.told f.old).files (λ image. AreRecordsOf image records.now → IsSaidBy image addr said)) }
     ensures stays { Stays (F.told f.old) (F.told f.new) }
     ensures damaged { IfDamaged result (IsRecordDamage files.now (F.told f.new)) }
     ensures untold { ForSome (F.told f.new).files (Agrees files.now) → IfDamaged result (λ _. (F.told f.new).files ≡ None) }
@@ -205,7 +219,25 @@ pub(crate) fn record_of<F: Folder>(
     ensures device { IfDevice result (Rises (F.faults f.old) (F.faults f.new)) }
 {
     match records.get(addr) {
-        Some(entry) => Ok(entry),
+        Some(said) => Ok(said),
         None => read_record(f, files, addr),
     }
+}
+
+// Reads the words of the record of an address that stands, by one folder call.
+fn read_record<F: Folder>(f: &mut F, files: &BlockFiles, addr: Addr) -> Result<ReadRecord, Fault>
+    requires kind { kind_of addr ≡ blocks_256 }
+    requires stands { IsTrue (stands_among files.now addr) }
+    ensures said { IfOk result (λ said. ForSome (F.told f.old).files (λ image. IsSaidBy image addr said)) }
+    ensures stays { Stays (F.told f.old) (F.told f.new) }
+    ensures damaged { IfDamaged result (IsRecordDamage files.now (F.told f.new)) }
+    ensures untold { ForSome (F.told f.new).files (Agrees files.now) → IfDamaged result (λ _. (F.told f.new).files ≡ None) }
+    ensures later { F.faults f.old ≤ F.faults f.new }
+    ensures device { IfDevice result (Rises (F.faults f.old) (F.faults f.new)) }
+{
+    let words = read_words(f, files, addr)?;
+    Ok(ReadRecord {
+        words,
+        key_hash: None,
+    })
 }

@@ -1,60 +1,48 @@
 // Entry records, as they are read.
-ghost use Rattle.std.specs.Prelude.{◌≡◌, ◌<◌, ◌≤◌, IfOk, IsTrue, None, length};
-ghost use Rattle.std.specs.Option.{ForSome};
-ghost use Rattle.blk_image.specs.Told.{Rises, Stays};
+ghost use Rattle.std.specs.Prelude.{◌≡◌, ◌≤◌, length};
 ghost use Rattle.blk_format.specs.Address.{blocks_256, kind_of};
-ghost use Rattle.blk_io.specs.Faults.{IfDamaged, IfDevice};
-ghost use Rattle.blk_disk.specs.Tables.{Agrees, stands_among};
-ghost use Rattle.blk_audit.specs.Faults.{IsRecordDamage};
-ghost use Rattle.blk_audit.specs.Records.{IsSaidBy, entry_said};
+ghost use Rattle.blk_audit.specs.Records.{hash_in, record_in};
 ghost use Rattle.blk_audit.specs.Chaining.{first_block_of};
 
+use crate::record_words::{RecordWords, words_of};
 use blk_addr::{Addr, FileId, Kind};
-use blk_disk::BlockFiles;
-use blk_io::{Fault, Folder};
-use blk_record::{EntryView, Record};
+use blk_record::{EntryView, Record, super_fast_hash};
 
-// What a record says of its chain, and whether it checks.
+// The longest key that lies in its record.
+const MOST_IN_RECORD: u32 = 927;
+
+/// What was read of a record.
 #[derive(Clone, Copy, Debug)]
-pub(crate) struct Entry {
-    pub(crate) checks: bool,
-    pub(crate) hash: u32,
-    pub(crate) next: u32,
+pub struct ReadRecord {
+    /// Its words.
+    pub words: RecordWords,
+    /// The hash of the bytes of its key, where these were read with it: no long key is.
+    pub key_hash: Option<u32>,
 }
 
-// What a record with these bytes says.
-pub(crate) fn said(window: &[u8]) -> Entry
-    requires { length window.now ≡ 96 }
-    ensures { result ≡ entry_said window.now }
+// The record that begins with the first of these bytes, which may go on behind it.
+pub(crate) fn record_of_bytes(bytes: &[u8]) -> ReadRecord
+    requires { 96 ≤ length bytes.now }
+    ensures { result ≡ record_in bytes.now }
 {
-    let Some(view) = EntryView::over(window) else {
-        unreachable!();
-    };
-    Entry {
-        checks: view.checks(),
-        hash: view.word(0),
-        next: view.word(4),
+    let words = words_of(&bytes[..EntryView::SIZE]);
+    let key_hash = hash_of_key(words.key_len, &bytes[EntryView::SIZE..]);
+    ReadRecord { words, key_hash }
+}
+
+// The hash of a short key, where these bytes begin with it.
+#[tactic(auto, using(std::proofs::lemmas::Bool::Decides::nat_tests))]
+fn hash_of_key(key_len: u32, bytes: &[u8]) -> Option<u32>
+    ensures { result ≡ hash_in key_len bytes.now }
+{
+    if key_len > MOST_IN_RECORD {
+        return None;
     }
-}
-
-// Reads the record of an address that stands, by one folder call.
-pub(crate) fn read_record<F: Folder>(
-    f: &mut F,
-    files: &BlockFiles,
-    addr: Addr,
-) -> Result<Entry, Fault>
-    requires kind { kind_of addr ≡ blocks_256 }
-    requires stands { IsTrue (stands_among files.now addr) }
-    ensures said { IfOk result (λ said. ForSome (F.told f.old).files (λ image. IsSaidBy image addr said)) }
-    ensures stays { Stays (F.told f.old) (F.told f.new) }
-    ensures damaged { IfDamaged result (IsRecordDamage files.now (F.told f.new)) }
-    ensures untold { ForSome (F.told f.new).files (Agrees files.now) → IfDamaged result (λ _. (F.told f.new).files ≡ None) }
-    ensures later { F.faults f.old ≤ F.faults f.new }
-    ensures device { IfDevice result (Rises (F.faults f.old) (F.faults f.new)) }
-{
-    let mut bytes = [0u8; EntryView::SIZE];
-    files.read_block(f, addr, 0, &mut bytes)?;
-    Ok(said(&bytes))
+    let key_len = key_len as usize;
+    if key_len > bytes.len() {
+        return None;
+    }
+    Some(super_fast_hash(&bytes[..key_len]))
 }
 
 // The address of the first block of a record.

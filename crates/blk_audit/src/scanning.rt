@@ -1,8 +1,7 @@
 // The use list and the chains of a folder, read together.
-ghost use Rattle.std.specs.Prelude.{◌≡◌, ◌≤◌, None, IfOk, IfSome};
+ghost use Rattle.std.specs.Prelude.{◌≡◌, ◌≤◌, None, IfOk};
 ghost use Rattle.std.specs.Option.{ForSome};
 ghost use Rattle.blk_image.specs.Told.{Rises, Stays};
-ghost use Rattle.blk_format.specs.Address.{blocks_256, kind_of};
 ghost use Rattle.blk_format.specs.Headers.{table_length};
 ghost use Rattle.blk_volume.specs.ListImages.{completed_walk};
 ghost use Rattle.blk_volume.specs.View.{store_of};
@@ -10,27 +9,33 @@ ghost use Rattle.blk_disk.specs.Open.{IsOpen};
 ghost use Rattle.blk_disk.specs.Tables.{Agrees};
 ghost use Rattle.blk_audit.specs.Chaining.{HasChains, reached_by, words_reached};
 ghost use Rattle.blk_audit.specs.Faults.{IfScanDamaged, IfScanDevice, IsListsDamage};
+ghost use Rattle.blk_audit.specs.ReadLists.{AreListsOf};
 ghost use Rattle.blk_audit.specs.Walking.{HasUseList, nodes_walked};
 
 use crate::fault::ScanFault;
 use crate::list_walk::Walked;
+use crate::named::named_by;
 use crate::nodes::Nodes;
-use crate::reaching::{Reached, chains};
+use crate::reaching::{Reached, chains_over};
 use crate::reading::read_nodes;
-use crate::records::first_of_record;
+use crate::record_files::{Records, read_records};
 use crate::walking::walk_over;
-use blk_addr::{Addr, Claims, Kind, NoMemory};
+use blk_addr::Claims;
 use blk_disk::BlockFiles;
 use blk_io::Folder;
 use std::alloc::Global;
 
-/// The walked nodes and the reached records of a folder.
+/// The walked nodes and the reached records of a folder, with what was read of both.
 #[derive(Drop)]
 pub struct Lists {
     /// The nodes of the use list.
     pub walked: Walked,
     /// The records of the chains.
     pub reached: Reached,
+    pub(crate) nodes: Nodes,
+    pub(crate) records: Records,
+    // the first blocks of the records that the walked nodes name
+    pub(crate) named: Claims,
 }
 
 /// Walks the use list of a folder, as it is once its operation in flight is completed, and follows its chains. Nothing
@@ -48,6 +53,7 @@ pub fn read_lists<F: Folder>(
     ensures walked { IfOk result (λ lists. ForSome (F.told f.old).files (λ image. Agrees files.now image → nodes_walked lists.walked ≡ completed_walk image)) }
     ensures reached { IfOk result (λ lists. ForSome (F.told f.old).files (λ image. Agrees files.now image → words_reached lists.reached ≡ reached_by (store_of image) table_length)) }
     ensures checked { IfOk result (λ lists. ForSome (F.told f.old).files (λ image. HasUseList files.now image × HasChains files.now image (words_reached lists.reached))) }
+    ensures lists { IfOk result (λ lists. ForSome (F.told f.old).files (λ image. Agrees files.now image → AreListsOf image lists)) }
     ensures stays { Stays (F.told f.old) (F.told f.new) }
 
     // A folder that tells its files gives a damage only where its index is too short or the block files don't agree with it.
@@ -60,31 +66,13 @@ pub fn read_lists<F: Folder>(
     let nodes = read_nodes(alloc, f, files)?;
     let walked = walk_over(alloc, f, files, &nodes)?;
     let named = named_by(alloc, &nodes, &walked)?;
-    let reached = chains(alloc, f, files, &named)?;
-    Ok(Lists { walked, reached })
-}
-
-// The first blocks of the records that the walked nodes name.
-fn named_by(alloc: Global, nodes: &Nodes, walked: &Walked) -> Result<Claims, NoMemory> {
-    let mut named = Claims::new(alloc);
-    for i in 0..walked.count() {
-        if let Some(entry) = contents_of(nodes, walked, i) {
-            named.add(first_of_record(entry))?;
-        }
-    }
-    Ok(named)
-}
-
-// The address of a record that one of the walked nodes names.
-fn contents_of(nodes: &Nodes, walked: &Walked, i: usize) -> Option<Addr>
-    ensures kind { IfSome result (λ addr. kind_of addr ≡ blocks_256) }
-{
-    let node = walked.at(i)?;
-    let said = nodes.get(node)?;
-    let entry = Addr::from_word(said.contents)?;
-    if entry.kind() == Kind::B256 {
-        Some(entry)
-    } else {
-        None
-    }
+    let records = read_records(alloc, f, files, &named)?;
+    let reached = chains_over(alloc, f, files, &records)?;
+    Ok(Lists {
+        walked,
+        reached,
+        nodes,
+        records,
+        named,
+    })
 }

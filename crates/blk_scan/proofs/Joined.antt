@@ -16,8 +16,8 @@ use Rattle.blk_disk.specs.declared.tables.BlockFiles.{BlockFiles}
 use Rattle.blk_disk.specs.Tables.{Agrees, is_record_among}
 use Rattle.blk_audit.proofs.Shown.{names_stand}
 use Rattle.blk_scan.specs.Loading.{reason_by_words, load_data, load_streams}
-use Rattle.blk_scan.specs.Records.{AreWordsOf, fields_said}
-use Rattle.blk_scan.specs.declared.record_words.RecordWords.{RecordWords}
+use Rattle.blk_audit.specs.Records.{AreWordsOf, fields_said}
+use Rattle.blk_audit.specs.declared.record_words.RecordWords.{RecordWords}
 
 -- a reason that holds, or else what comes behind
 abbrev pub first_or_then : Option Reason → Result Loaded Reason → Result Loaded Reason

@@ -1,20 +1,23 @@
 -- The key of a record by its words.
-use Rattle.std.proofs.Common.{◌≡◌, ◌≢◌, ◌+◌, ◌≤◌, ◌<◌, ℕ, Bool, true, false, ◌||◌, if◌then◌else◌, List, take, Option, None, Some, refl, sym, ◌∙◌, ap, arith}
+use Rattle.std.proofs.Common.{◌≡◌, ◌≢◌, ◌+◌, ◌≤◌, ◌<◌, ℕ, Bool, true, false, ◌||◌, if◌then◌else◌, List, length, length-take, take, Option, None, Some, refl, sym, ◌∙◌, ap, arith}
 use Rattle.std.specs.Prelude.{◌==◌, nat_le, is_some}
 use Rattle.std.specs.Option.{option_map}
 use Rattle.std.proofs.lemmas.Bool.{and_parts}
 use Rattle.std.proofs.lemmas.Bool.Decides.{nat_tests}
-use Rattle.blk_image.specs.Image.{Image}
-use Rattle.blk_format.specs.Address.{blocks_256, external, is_address, kind_of}
+use Rattle.blk_image.specs.Bytes.{range_at}
+use Rattle.blk_image.specs.Image.{Block, Image, byte}
+use Rattle.blk_image.proofs.Words.{length-range}
+use Rattle.blk_format.specs.Address.{blocks_256, external, file_selector, is_address, kind_of, place}
 use Rattle.blk_format.specs.Storage.{is_storage, kind_for}
 use Rattle.blk_volume.specs.Entries.{stored_key}
-use Rattle.blk_volume.specs.View.{key_place_at, store_of, stored_at}
+use Rattle.blk_volume.specs.View.{RecordFields, key_place_at, store_of, stored_at}
 use Rattle.blk_disk.specs.declared.tables.BlockFiles.{BlockFiles}
 use Rattle.blk_disk.specs.Tables.{Agrees, stands_among}
 use Rattle.blk_entry.specs.Keys.{IsInside, bytes_before, data_at, is_short, key_address, may_have, stores}
 use Rattle.blk_entry.proofs.KeyPlaces.{IsKey, bytes_keyed, keyed, of_other, storage_parts, storage_room}
-use Rattle.blk_scan.specs.Records.{fields_said}
-use Rattle.blk_scan.specs.declared.record_words.RecordWords.{RecordWords}
+use Rattle.blk_audit.specs.Records.{fields_said}
+use Rattle.blk_audit.specs.declared.record_words.RecordWords.{RecordWords}
+use Rattle.blk_scan.proofs.StreamFacts.{stored_length}
 
 pub short_is : (k : ℕ) → k ≤ 927 → is_short k ≡ true
 short_is k few = grind (arith, nat_tests)
@@ -103,3 +106,26 @@ pub part_inside : (files : BlockFiles) (size w at n : ℕ) → 0 < size → size
 part_inside files size w at n some few e less =
     let all = front_inside files size w (at + n) some few e less in
     record { small = omega (arith, less, few); stands = all.stands; room = λ block_kind. let h = all.room block_kind in omega (arith, h) }
+
+-- a stored key has the length that its record says
+pub key_length : (image : Image) (w : ℕ) (fields : RecordFields) (key : List ℕ) → stored_key (store_of image) w fields ≡ Some key → length key ≡ fields.key_len
+unfolding stored_key store_of key_place_at
+key_length image w fields key e = by_tests (nat_le fields.key_len 927) (fields.long_key == 0) e
+  where
+    none_some : None ≡ Some key → ⊥
+    none_some h = cc
+
+    long : (o : Option (List ℕ)) → stored_at image (fields.key_len + 1) fields.long_key ≡ o → option_map (take fields.key_len) o ≡ Some key → length key ≡ fields.key_len
+    long None is h = absurd (none_some h)
+    long (Some bytes) is h =
+        let size = stored_length image (fields.key_len + 1) fields.long_key bytes is in
+        let taken = length-take fields.key_len bytes in
+        let same : take fields.key_len bytes ≡ key = cc in
+        sym (ap length same) ∙ (let e : length (take fields.key_len bytes) ≡ fields.key_len = omega (arith, size, taken) in e)
+
+    by_tests : (t z : Bool) → (if t then (if z then Some (range_at (byte image (Block (file_selector w))) (place w + 96) fields.key_len) else None) else option_map (take fields.key_len) (stored_at image (fields.key_len + 1) fields.long_key)) ≡ Some key → length key ≡ fields.key_len
+    by_tests true true h =
+        let same : range_at (byte image (Block (file_selector w))) (place w + 96) fields.key_len ≡ key = cc in
+        sym (ap length same) ∙ length-range fields.key_len (place w + 96) (byte image (Block (file_selector w)))
+    by_tests true false h = absurd (none_some h)
+    by_tests false z h = long (stored_at image (fields.key_len + 1) fields.long_key) (λ i. stored_at image (fields.key_len + 1) fields.long_key) h

@@ -8,7 +8,7 @@ use Rattle.blk_model.proofs.Same.{same_bytes}
 use Rattle.blk_volume.specs.Entries.{stored_key}
 use Rattle.blk_volume.specs.View.{StoreView, store_of}
 use Rattle.blk_scan.specs.Keyed.{IsKeyOf, words_kept}
-use Rattle.blk_scan.specs.Records.{fields_said}
+use Rattle.blk_audit.specs.Records.{fields_said}
 use Rattle.blk_scan.specs.declared.loading.Loaded.{Loaded}
 
 -- a key by its length and by the word of a long key

@@ -1,6 +1,7 @@
 -- The streams of a record by their sizes and address words.
-use Rattle.std.proofs.Common.{◌≡◌, ◌≢◌, ⊎_elim, zero, suc, ◌<◌, ◌≤◌, ℕ, Bool, true, false, ◌&&◌, if◌then◌else◌, List, [], ◌∷◌, length, Option, None, Some, refl, ◌∙◌, ap, arith}
+use Rattle.std.proofs.Common.{◌≡◌, ◌≢◌, ⊎_elim, zero, suc, ◌<◌, ◌≤◌, ◌+◌, ℕ, Bool, true, false, ◌&&◌, if◌then◌else◌, List, [], ◌∷◌, length, Option, None, Some, refl, ◌∙◌, ap, subst, arith}
 use Rattle.std.specs.Prelude.{◌==◌, nat_le, not, is_some}
+use Rattle.std.specs.List.{sum_by}
 use Rattle.std.specs.Option.{option_and_then, option_map}
 use Rattle.std.proofs.lemmas.Bool.{eq-eqb}
 use Rattle.std.proofs.lemmas.Bool.Decides.{nat_tests}
@@ -45,6 +46,7 @@ pub record AreStored (image : Image) (fields : RecordFields) (streams : List (Li
   pub first : stored_at image (data_size_of fields 0) (address_of fields 0) ≡ Some (stream 0 streams)
   pub second : stored_at image (data_size_of fields 1) (address_of fields 1) ≡ Some (stream 1 streams)
   pub third : stored_at image (data_size_of fields 2) (address_of fields 2) ≡ Some (stream 2 streams)
+  pub three : sum_by length streams ≡ length (stream 0 streams) + length (stream 1 streams) + length (stream 2 streams)
 
 stored_one : (image : Image) (fields : RecordFields) (i : ℕ) (bytes : List ℕ) → stored_stream (store_of image) fields i ≡ Some bytes → stored_at image (data_size_of fields i) (address_of fields i) ≡ Some bytes
 unfolding stored_stream store_of
@@ -76,6 +78,7 @@ are_stored image fields streams e = by_tests ((data_size_of fields 3 == 0) && (a
           first = stored_one image fields 0 a ep ∙ ap (λ (l : List (List ℕ)). Some (stream 0 l)) is;
           second = stored_one image fields 1 b eq ∙ ap (λ (l : List (List ℕ)). Some (stream 1 l)) is;
           third = stored_one image fields 2 c er ∙ ap (λ (l : List (List ℕ)). Some (stream 2 l)) is;
+          three = subst (λ (l : List (List ℕ)). sum_by length l ≡ length (stream 0 l) + length (stream 1 l) + length (stream 2 l)) is (let sum : sum_by length (a ∷ b ∷ c ∷ []) ≡ length a + length b + length c = omega arith in sum);
         }
 
 -- stored data lies where its word says

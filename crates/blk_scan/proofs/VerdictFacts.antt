@@ -23,13 +23,13 @@ use Rattle.blk_audit.specs.Chaining.{reached_by}
 use Rattle.blk_audit.proofs.AllChains.{reached-chained}
 use Rattle.blk_scan.specs.Loading.{load_data, load_streams, reason_by_words}
 use Rattle.blk_scan.specs.Reasons.{reason_of}
-use Rattle.blk_scan.specs.Records.{fields_said}
+use Rattle.blk_audit.specs.Records.{fields_said}
 use Rattle.blk_scan.specs.Roles.{IsRoleIf}
 use Rattle.blk_scan.specs.Verdicts.{IsVerdict, loaded_with}
 use Rattle.blk_scan.specs.declared.loading.Verdict.TheVariants as verdict
 use Rattle.blk_scan.specs.declared.reason.Reason.{Reason}
 use Rattle.blk_scan.specs.declared.reason.Reason.TheVariants as reason
-use Rattle.blk_scan.specs.declared.record_words.RecordWords.{RecordWords}
+use Rattle.blk_audit.specs.declared.record_words.RecordWords.{RecordWords}
 use Rattle.blk_scan.specs.declared.roles.Role.{Role}
 use Rattle.blk_scan.proofs.Joined.{first_or_then, load_is, loaded_of, streams_with}
 use Rattle.blk_scan.proofs.StreamFacts.{are_stored, stored_length}

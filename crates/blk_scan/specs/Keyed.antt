@@ -5,7 +5,7 @@ use Rattle.blk_image.specs.Image.{Image}
 use Rattle.blk_volume.specs.Entries.{stored_key}
 use Rattle.blk_volume.specs.View.{RecordFields, store_of}
 use Rattle.blk_scan.specs.declared.loading.Loaded.{Loaded}
-use Rattle.blk_scan.specs.declared.record_words.RecordWords.{RecordWords}
+use Rattle.blk_audit.specs.declared.record_words.RecordWords.{RecordWords}
 
 -- the words of a record that say where its key lies, and what is kept of the others
 abbrev pub words_kept : Loaded → RecordWords

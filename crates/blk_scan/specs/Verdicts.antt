@@ -11,7 +11,7 @@ use Rattle.blk_scan.specs.Roles.{IsRole}
 use Rattle.blk_scan.specs.declared.loading.Loaded.{Loaded}
 use Rattle.blk_scan.specs.declared.loading.Verdict.{Verdict}
 use Rattle.blk_scan.specs.declared.loading.Verdict.TheVariants as verdict
-use Rattle.blk_scan.specs.declared.record_words.RecordWords.{RecordWords}
+use Rattle.blk_audit.specs.declared.record_words.RecordWords.{RecordWords}
 use Rattle.blk_scan.specs.declared.roles.Role.{Role}
 
 -- what is kept of a node with a record

@@ -9,11 +9,11 @@ ghost use Rattle.blk_io.specs.Faults.{IfDamaged, IfDevice};
 ghost use Rattle.blk_disk.specs.Tables.{Agrees, stands_among};
 ghost use Rattle.blk_entry.specs.Keys.{IsPlaced, is_short, may_hold, most_key};
 ghost use Rattle.blk_scan.specs.Reads.{IsCutRead};
-ghost use Rattle.blk_scan.specs.Records.{fields_said};
+ghost use Rattle.blk_audit.specs.Records.{fields_said};
 
-use crate::record_words::RecordWords;
 use crate::storage::is_stored;
 use blk_addr::Addr;
+use blk_audit::RecordWords;
 use blk_disk::BlockFiles;
 use blk_entry::read_data;
 use blk_io::{Failed, Fault, Folder};

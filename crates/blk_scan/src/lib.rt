@@ -1,26 +1,30 @@
 //! Which walked nodes of a cache folder are kept, and why the others are dropped.
 #![tactic(auto)]
 
+mod charges;
 mod covers;
 mod keys;
 mod laws;
+mod listing;
 mod loading;
 mod parts;
 mod reason;
-mod record_words;
 mod roles;
 mod same_keys;
 mod storage;
 mod streams;
+mod walked_nodes;
 mod words;
 
+pub use charges::charge_of_all;
 pub use laws::loaded_keys_are_found;
+pub use listing::unlisted;
 pub use loading::{Loaded, Verdict, load, load_words};
 pub use parts::has_part;
 pub use reason::Reason;
-pub use record_words::{RecordWords, read_words};
 pub use roles::Role;
 pub use same_keys::has_this_key;
+pub use walked_nodes::{is_child, load_walked};
 
 #[cfg(test)]
 mod tests;

@@ -2,6 +2,7 @@
 ghost use Rattle.std.specs.Prelude.{◌≡◌, ◌≤◌, ◌<◌, ◌==◌, ◌&&◌, if◌then◌else◌, ℕ, List, IfOk, None, OnOk, Some, length, slice_index, take, true};
 ghost use Rattle.std.specs.Option.{ForSome};
 ghost use Rattle.blk_image.specs.Told.{Rises, Stays};
+ghost use Rattle.blk_format.specs.Records.{child};
 ghost use Rattle.blk_volume.specs.Entries as entries;
 ghost use Rattle.blk_volume.specs.Entries.{stored_streams};
 ghost use Rattle.blk_volume.specs.View.{store_of, stored_at};
@@ -10,15 +11,15 @@ ghost use Rattle.blk_disk.specs.Tables.{Agrees};
 ghost use Rattle.blk_entry.specs.Keys.{stores};
 ghost use Rattle.blk_scan.specs.Readable.{HasIndexIf};
 ghost use Rattle.blk_scan.specs.Reads.{IsCutRead};
-ghost use Rattle.blk_scan.specs.Records.{fields_said};
+ghost use Rattle.blk_audit.specs.Records.{fields_said};
 ghost use Rattle.blk_scan.specs.Roles.{IsRoleIf};
 ghost use Rattle.blk_scan.specs.declared.roles.Role.TheVariants as role;
 ghost use Rattle.blk_ranges.specs.PartMaps.{index_of, map_signature};
 ghost use Rattle.std.specs.Int.{cast_unsigned, w64};
 
 use crate::covers::{is_covered, is_named};
-use crate::record_words::RecordWords;
 use blk_addr::Addr;
+use blk_audit::RecordWords;
 use blk_disk::BlockFiles;
 use blk_entry::read_data;
 use blk_io::{Fault, Folder};
@@ -50,7 +51,8 @@ pub enum Role {
     Part(ChildName),
 }
 
-// What a record with a key and three streams is, if its index is right; a parent or a part takes one folder call.
+// What a record with three streams is, if its index is right; a parent or a part takes one folder call. Of a part
+// this is the key; no other key is looked at.
 pub(crate) fn read_role<F: Folder>(
     f: &mut F,
     files: &BlockFiles,
@@ -58,7 +60,7 @@ pub(crate) fn read_role<F: Folder>(
     key: &[u8],
 ) -> Result<Option<Role>, Fault>
     requires stored { stores files.now (slice_index words.now.sizes 2) (slice_index words.now.addrs 2) ≡ true }
-    ensures role { IfOk result (λ role. ForSome (F.told f.old).files (λ image. (streams : List (List ℕ)) → stored_streams (store_of image) (fields_said words.now) ≡ Some streams → IsRoleIf key.now (entries.role_of (fields_said words.now) key.now streams) role)) }
+    ensures role { IfOk result (λ role. ForSome (F.told f.old).files (λ image. (stored : List ℕ) (streams : List (List ℕ)) → (words.now.flags ≡ child → stored ≡ key.now) → stored_streams (store_of image) (fields_said words.now) ≡ Some streams → IsRoleIf stored (entries.role_of (fields_said words.now) stored streams) role)) }
     ensures index { IfOk result (HasIndexIf files.now words.now.sizes words.now.addrs) }
     ensures stays { Stays (F.told f.old) (F.told f.new) }
     ensures short { IfDamaged result (IsCutRead files.now (F.told f.old)) }

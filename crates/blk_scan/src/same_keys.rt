@@ -11,7 +11,7 @@ ghost use Rattle.blk_scan.specs.Reads.{IsCutRead};
 
 use crate::keys::read_key;
 use crate::loading::Loaded;
-use crate::record_words::RecordWords;
+use blk_audit::RecordWords;
 use blk_disk::BlockFiles;
 use blk_io::{Fault, Folder};
 

@@ -6,11 +6,11 @@ ghost use Rattle.blk_volume.specs.Entries.{stored_streams};
 ghost use Rattle.blk_volume.specs.View.{store_of};
 ghost use Rattle.blk_disk.specs.Tables.{Agrees};
 ghost use Rattle.blk_entry.specs.Keys.{stores};
-ghost use Rattle.blk_scan.specs.Records.{fields_said};
+ghost use Rattle.blk_audit.specs.Records.{fields_said};
 ghost use Rattle.blk_scan.specs.Streams.{is_stream};
 
-use crate::record_words::RecordWords;
 use crate::storage::is_stored;
+use blk_audit::RecordWords;
 use blk_disk::BlockFiles;
 use blk_io::{Failed, Folder};
 

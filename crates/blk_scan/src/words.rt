@@ -6,12 +6,12 @@ ghost use Rattle.blk_format.specs.Records.{child};
 ghost use Rattle.blk_model.specs.Sizes.{longest_key};
 ghost use Rattle.blk_volume.specs.Entries as entries;
 ghost use Rattle.blk_scan.specs.Reasons.{reason_of};
-ghost use Rattle.blk_scan.specs.Records.{fields_said};
+ghost use Rattle.blk_audit.specs.Records.{fields_said};
 ghost use Rattle.blk_scan.specs.Loading as loading;
 
 use crate::reason::Reason;
-use crate::record_words::RecordWords;
 use blk_addr::{Addr, entry_blocks};
+use blk_audit::RecordWords;
 
 // The state of a live entry.
 const LIVE: u32 = 0;

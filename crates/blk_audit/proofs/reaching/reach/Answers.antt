@@ -37,37 +37,37 @@ returns-then-not-said-clause-step g c image there agrees =
     let named : c.in-Some.addr ≡ c.args.word = value_by (is_record_among c.args.files.now c.args.word) c.args.word c.in-Some.addr (sym c.in-Some.is ∙ c.entry.ensures.entry) in
     let stand : stands_as image blocks_256 c.args.word ≡ true =
     sym (names_stand c.args.files.now image c.args.word agrees) ∙ test_by (is_record_among c.args.files.now c.args.word) c.args.word c.in-Some.addr (sym c.in-Some.is ∙ c.entry.ensures.entry) in
-    let is : IsSaidBy image c.args.word c.in_ok-said.said = subst (λ (w : ℕ). IsSaidBy image w c.in_ok-said.said) named (c.in_ok-said.ensures.said image there) in
-    let bad : c.in_ok-said.said.checks ≡ false = true_not c.in_ok-said.said.checks (sym c.if-not-said.true) in
+    let is : IsSaidBy image c.args.word c.in_ok-said.said = subst (λ (w : ℕ). IsSaidBy image w c.in_ok-said.said) named (c.in_ok-said.ensures.said image there (c.requires.records image there)) in
+    let bad : c.in_ok-said.said.words.checks ≡ false = true_not c.in_ok-said.said.words.checks (sym c.if-not-said.true) in
     reach_stops (store_of image) c.args.bucket c.args.reached.now.words.items c.args.word
     (not_reached (store_of image) c.args.bucket (map file_and_block c.args.reached.now.words.items) c.args.word
-    (of_is image c.args.bucket c.args.word c.in_ok-said.said stand is ∙ ap (λ (t : Bool). t && (c.in_ok-said.said.hash % 65536 == c.args.bucket)) bad))
+    (of_is image c.args.bucket c.args.word c.in_ok-said.said stand is ∙ ap (λ (t : Bool). t && (c.in_ok-said.said.words.hash % 65536 == c.args.bucket)) bad))
 
 pub returns-then-said-bucket-clause-step : goal.returns-then-said-bucket-clause-step
 returns-then-said-bucket-clause-step g c image there agrees =
     let named : c.in-Some.addr ≡ c.args.word = value_by (is_record_among c.args.files.now c.args.word) c.args.word c.in-Some.addr (sym c.in-Some.is ∙ c.entry.ensures.entry) in
     let stand : stands_as image blocks_256 c.args.word ≡ true =
     sym (names_stand c.args.files.now image c.args.word agrees) ∙ test_by (is_record_among c.args.files.now c.args.word) c.args.word c.in-Some.addr (sym c.in-Some.is ∙ c.entry.ensures.entry) in
-    let is : IsSaidBy image c.args.word c.in_ok-said.said = subst (λ (w : ℕ). IsSaidBy image w c.in_ok-said.said) named (c.in_ok-said.ensures.said image there) in
-    let other : (c.in_ok-said.said.hash % 65536 == c.args.bucket) ≡ false = ne_eqb (c.in_ok-said.said.hash % 65536) c.args.bucket c.if-said-bucket.true in
+    let is : IsSaidBy image c.args.word c.in_ok-said.said = subst (λ (w : ℕ). IsSaidBy image w c.in_ok-said.said) named (c.in_ok-said.ensures.said image there (c.requires.records image there)) in
+    let other : (c.in_ok-said.said.words.hash % 65536 == c.args.bucket) ≡ false = ne_eqb (c.in_ok-said.said.words.hash % 65536) c.args.bucket c.if-said-bucket.true in
     reach_stops (store_of image) c.args.bucket c.args.reached.now.words.items c.args.word
     (not_reached (store_of image) c.args.bucket (map file_and_block c.args.reached.now.words.items) c.args.word
-    (of_is image c.args.bucket c.args.word c.in_ok-said.said stand is ∙ of_bucket_by c.in_ok-said.said.checks (c.in_ok-said.said.hash % 65536 == c.args.bucket) other))
+    (of_is image c.args.bucket c.args.word c.in_ok-said.said stand is ∙ of_bucket_by c.in_ok-said.said.words.checks (c.in_ok-said.said.words.hash % 65536 == c.args.bucket) other))
 
 pub returns-clause-step : goal.returns-clause-step
 returns-clause-step g c image there agrees =
     let named : c.in-Some.addr ≡ c.args.word = value_by (is_record_among c.args.files.now c.args.word) c.args.word c.in-Some.addr (sym c.in-Some.is ∙ c.entry.ensures.entry) in
     let stand : stands_as image blocks_256 c.args.word ≡ true =
     sym (names_stand c.args.files.now image c.args.word agrees) ∙ test_by (is_record_among c.args.files.now c.args.word) c.args.word c.in-Some.addr (sym c.in-Some.is ∙ c.entry.ensures.entry) in
-    let is : IsSaidBy image c.args.word c.in_ok-said.said = subst (λ (w : ℕ). IsSaidBy image w c.in_ok-said.said) named (c.in_ok-said.ensures.said image there) in
+    let is : IsSaidBy image c.args.word c.in_ok-said.said = subst (λ (w : ℕ). IsSaidBy image w c.in_ok-said.said) named (c.in_ok-said.ensures.said image there (c.requires.records image there)) in
     let fresh : is_met c.args.reached.now.words.items c.args.word ≡ false = sym (ap (is_met c.args.reached.now.words.items) named) ∙ sym c.has.ensures ∙ c.if-has.false in
-    let good : c.in_ok-said.said.checks ≡ true = false_not c.in_ok-said.said.checks (sym c.if-not-said.false) in
+    let good : c.in_ok-said.said.words.checks ≡ true = false_not c.in_ok-said.said.words.checks (sym c.if-not-said.false) in
     let of : is_of_bucket (store_of image) c.args.bucket c.args.word ≡ true =
     of_is image c.args.bucket c.args.word c.in_ok-said.said stand is
-    ∙ ap (λ (t : Bool). t && (c.in_ok-said.said.hash % 65536 == c.args.bucket)) good
-    ∙ eq-eqb (c.in_ok-said.said.hash % 65536) c.args.bucket c.if-said-bucket.false in
+    ∙ ap (λ (t : Bool). t && (c.in_ok-said.said.words.hash % 65536 == c.args.bucket)) good
+    ∙ eq-eqb (c.in_ok-said.said.words.hash % 65536) c.args.bucket c.if-said-bucket.false in
     let items : c.add.new.self.words.items ≡ c.args.reached.now.words.items ++ c.args.word ∷ [] = c.in_ok-add.ensures.added ∙ ap (λ (w : ℕ). c.args.reached.now.words.items ++ w ∷ []) named in
-    reach_on (store_of image) c.args.bucket c.args.reached.now.words.items c.add.new.self.words.items c.args.word c.in_ok-said.said.next
+    reach_on (store_of image) c.args.bucket c.args.reached.now.words.items c.add.new.self.words.items c.args.word c.in_ok-said.said.words.next
     (reached_new (store_of image) c.args.bucket (map file_and_block c.args.reached.now.words.items) c.args.word fresh of)
     (next_is image c.args.word c.in_ok-said.said stand is)
     items
@@ -85,24 +85,24 @@ returns-then-has-clause-checked g c image there =
 pub returns-then-not-said-clause-checked : goal.returns-then-not-said-clause-checked
 returns-then-not-said-clause-checked g c image there is =
     let named : c.in-Some.addr ≡ c.args.word = value_by (is_record_among c.args.files.now c.args.word) c.args.word c.in-Some.addr (sym c.in-Some.is ∙ c.entry.ensures.entry) in
-    let said : IsSaidBy image c.args.word c.in_ok-said.said = subst (λ (w : ℕ). IsSaidBy image w c.in_ok-said.said) named (c.in_ok-said.ensures.said image there) in
+    let said : IsSaidBy image c.args.word c.in_ok-said.said = subst (λ (w : ℕ). IsSaidBy image w c.in_ok-said.said) named (c.in_ok-said.ensures.said image there (c.requires.records image there)) in
     said.there
 
 pub returns-then-said-bucket-clause-checked : goal.returns-then-said-bucket-clause-checked
 returns-then-said-bucket-clause-checked g c image there is =
     let named : c.in-Some.addr ≡ c.args.word = value_by (is_record_among c.args.files.now c.args.word) c.args.word c.in-Some.addr (sym c.in-Some.is ∙ c.entry.ensures.entry) in
-    let said : IsSaidBy image c.args.word c.in_ok-said.said = subst (λ (w : ℕ). IsSaidBy image w c.in_ok-said.said) named (c.in_ok-said.ensures.said image there) in
+    let said : IsSaidBy image c.args.word c.in_ok-said.said = subst (λ (w : ℕ). IsSaidBy image w c.in_ok-said.said) named (c.in_ok-said.ensures.said image there (c.requires.records image there)) in
     said.there
 
 pub returns-clause-checked : goal.returns-clause-checked
 returns-clause-checked g c image there is =
     let named : c.in-Some.addr ≡ c.args.word = value_by (is_record_among c.args.files.now c.args.word) c.args.word c.in-Some.addr (sym c.in-Some.is ∙ c.entry.ensures.entry) in
-    let said : IsSaidBy image c.args.word c.in_ok-said.said = subst (λ (w : ℕ). IsSaidBy image w c.in_ok-said.said) named (c.in_ok-said.ensures.said image there) in
+    let said : IsSaidBy image c.args.word c.in_ok-said.said = subst (λ (w : ℕ). IsSaidBy image w c.in_ok-said.said) named (c.in_ok-said.ensures.said image there (c.requires.records image there)) in
     said.there
 
 pub returns-clause-taken : goal.returns-clause-taken
 returns-clause-taken g c image there =
     let named : c.in-Some.addr ≡ c.args.word = value_by (is_record_among c.args.files.now c.args.word) c.args.word c.in-Some.addr (sym c.in-Some.is ∙ c.entry.ensures.entry) in
-    let said : IsSaidBy image c.args.word c.in_ok-said.said = subst (λ (w : ℕ). IsSaidBy image w c.in_ok-said.said) named (c.in_ok-said.ensures.said image there) in
+    let said : IsSaidBy image c.args.word c.in_ok-said.said = subst (λ (w : ℕ). IsSaidBy image w c.in_ok-said.said) named (c.in_ok-said.ensures.said image there (c.requires.records image there)) in
     let items : c.add.new.self.words.items ≡ c.args.reached.now.words.items ++ c.args.word ∷ [] = c.in_ok-add.ensures.added ∙ ap (λ (w : ℕ). c.args.reached.now.words.items ++ w ∷ []) named in
-    (items, (said.next, record { named = test_by (is_record_among c.args.files.now c.args.word) c.args.word c.in-Some.addr (sym c.in-Some.is ∙ c.entry.ensures.entry); there = said.there }))
+    (items, (said.words.next, record { named = test_by (is_record_among c.args.files.now c.args.word) c.args.word c.in-Some.addr (sym c.in-Some.is ∙ c.entry.ensures.entry); there = said.there }))

@@ -5,17 +5,17 @@ use Rattle.blk_volume.specs.View.{store_of}
 use Rattle.blk_disk.specs.Tables.{Agrees}
 use Rattle.blk_entry.proofs.KeyPlaces.{may_have_parts}
 use Rattle.blk_lru.proofs.Conditions.{told_before, told_stays}
-use Rattle.blk_scan.specs.Records.{fields_said}
+use Rattle.blk_audit.specs.Records.{fields_said}
 use Rattle.blk_scan.specs.declared.reason.Reason.TheVariants as reason
 use Rattle.blk_scan.proofs.Joined.{data_no_key}
 use Rattle.blk_scan.proofs.VerdictFacts.{dropped}
 use Rattle.blk_scan.proofs.loading.load_data.Goals as goal
 
 pub has_key-requires : goal.has_key-requires
-has_key-requires g c = let parts = may_have_parts c.args.entry c.args.words.now.key_len c.requires.has in record { short = parts.1 }
+has_key-requires g c = let parts = may_have_parts c.args.entry c.args.said.now.words.key_len c.requires.has in record { short = parts.1 }
 
 pub load_key-requires-clause-short : goal.load_key-requires-clause-short
-load_key-requires-clause-short g c = let parts = may_have_parts c.args.entry c.args.words.now.key_len c.requires.has in parts.1
+load_key-requires-clause-short g c = let parts = may_have_parts c.args.entry c.args.said.now.words.key_len c.requires.has in parts.1
 
 pub returns-then-branch-clause-untold : goal.returns-then-branch-clause-untold
 returns-then-branch-clause-untold g c agrees =
@@ -26,5 +26,5 @@ returns-then-branch-clause-untold g c agrees =
     sym (c.in_ok-has_key.ensures.key image there c.args.entry (agrees image there)) ∙ c.if-branch.true))
 
 pub returns-else-branch-clause-verdict : goal.returns-else-branch-clause-verdict
-returns-else-branch-clause-verdict g c image there dirty agrees reached =
-    dropped _ reason.KeyPlace (data_no_key (store_of image) c.args.node c.args.entry dirty (fields_said c.args.words.now) (sym (c.in_ok-has_key.ensures.key image there c.args.entry agrees) ∙ c.if-branch.false))
+returns-else-branch-clause-verdict g c image there dirty agrees sums reached =
+    dropped _ reason.KeyPlace (data_no_key (store_of image) c.args.node c.args.entry dirty (fields_said c.args.said.now.words) (sym (c.in_ok-has_key.ensures.key image there c.args.entry agrees) ∙ c.if-branch.false))

@@ -3,7 +3,7 @@ use Rattle.std.specs.Prelude.{◌==◌, slice_index}
 use Rattle.std.proofs.lemmas.Bool.Decides.{nat_tests}
 use Rattle.blk_volume.specs.Entries as entries
 use Rattle.blk_volume.specs.Entries.{stream}
-use Rattle.blk_scan.specs.Records.{fields_said}
+use Rattle.blk_audit.specs.Records.{fields_said}
 use Rattle.blk_entry.specs.Keys.{stores}
 use Rattle.blk_scan.specs.Readable.{HasIndexIf}
 use Rattle.blk_scan.specs.Roles.{IsRoleIf}

@@ -5,7 +5,7 @@ use Rattle.std.proofs.lemmas.Bool.Decides.{nat_tests}
 use Rattle.blk_volume.specs.Entries as entries
 use Rattle.blk_volume.specs.Entries.{stream}
 use Rattle.blk_ranges.specs.PartMaps.{index_of, map_signature}
-use Rattle.blk_scan.specs.Records.{fields_said}
+use Rattle.blk_audit.specs.Records.{fields_said}
 use Rattle.blk_scan.specs.Roles.{IsRoleIf}
 use Rattle.blk_scan.specs.declared.roles.Role.{Role}
 use Rattle.blk_scan.specs.declared.roles.Role.TheVariants as role

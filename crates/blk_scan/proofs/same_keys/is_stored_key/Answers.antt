@@ -4,8 +4,8 @@ use Rattle.std.specs.Str.{bytes_eq}
 use Rattle.blk_io.proofs.Carried.{carried}
 use Rattle.blk_volume.specs.Entries.{stored_key}
 use Rattle.blk_volume.specs.View.{store_of}
-use Rattle.blk_scan.specs.Records.{fields_said}
-use Rattle.blk_scan.specs.declared.record_words.RecordWords.{RecordWords}
+use Rattle.blk_audit.specs.Records.{fields_said}
+use Rattle.blk_audit.specs.declared.record_words.RecordWords.{RecordWords}
 use Rattle.blk_scan.proofs.KeyOf.{stored_same}
 use Rattle.blk_scan.proofs.same_keys.is_stored_key.Goals as goal
 

@@ -6,7 +6,7 @@ use Rattle.blk_volume.specs.Entries.{stored_streams}
 use Rattle.blk_volume.specs.View.{store_of}
 use Rattle.blk_disk.specs.Tables.{Agrees}
 use Rattle.blk_entry.proofs.KeyPlaces.{ok_weaker}
-use Rattle.blk_scan.specs.Records.{fields_said}
+use Rattle.blk_audit.specs.Records.{fields_said}
 use Rattle.blk_scan.proofs.StreamFacts.{by_third, no_first, no_fourth_addr, no_fourth_size, no_second}
 use Rattle.blk_scan.proofs.streams.has_streams.Goals.{then-words-ne0-via-then-words-ne0, then-words-ne0-via-else-words-ne0+then-words-ne0-2}
 use Rattle.blk_scan.proofs.streams.has_streams.Goals as goal

@@ -9,5 +9,5 @@ pub returns-then-word : goal.returns-then-word
 returns-then-word c image are =
     let here : slice_get c.args.self.now.placed.items c.place_of.result ≡ Some c.in-Some.placed = sym c.at.ensures ∙ c.in-Some.is in
     let same : c.in-Some.placed.first ≡ first_block_of c.args.addr = sym c.word-2.ensures.word ∙ c.if-word.true ∙ c.word-3.ensures.word ∙ c.first_of_record-first.ensures in
-    of_first image c.args.addr c.in-Some.placed.entry c.requires.kind
-    (subst (λ (w : ℕ). IsSaidBy image w c.in-Some.placed.entry) same (listed image c.args.self.now c.place_of.result c.in-Some.placed are here))
+    of_first image c.args.addr c.in-Some.placed.said c.requires.kind
+    (subst (λ (w : ℕ). IsSaidBy image w c.in-Some.placed.said) same (listed image c.args.self.now c.place_of.result c.in-Some.placed are here))

@@ -5,7 +5,7 @@ use Rattle.blk_image.specs.Told.{Stays}
 use Rattle.blk_volume.specs.View.{store_of}
 use Rattle.blk_audit.specs.Chaining.{AreReached, HasFirst, reached_by, words_reached}
 use Rattle.blk_disk.specs.Tables.{Agrees}
-use Rattle.blk_audit.proofs.reaching.chains.Given as goal
+use Rattle.blk_audit.proofs.reaching.chains_over.Given as goal
 
 abbrev pub invariant-loop-piece : goal.invariant-loop-piece
 invariant-loop-piece g l = record {

@@ -1,19 +1,18 @@
 -- The words of a record by its bytes.
 use Rattle.std.proofs.Common.{◌≡◌, ◌+◌, ℕ, List, refl, arith}
 use Rattle.blk_image.specs.Bytes.{content, range_at, word_at}
-use Rattle.blk_image.specs.Image.{AreBytes, Block, HasRange, Image, byte}
+use Rattle.blk_image.specs.Image.{AreBytes, Block, Image, byte}
 use Rattle.blk_format.specs.Address.{blocks_256, file_selector, kind_of, place}
-use Rattle.blk_format.specs.Records.{entry_in}
+use Rattle.blk_format.specs.Records.{entry_checks, entry_in}
 use Rattle.blk_volume.specs.View.{entry_at}
 use Rattle.blk_entry.specs.declared.keys.Head.{Head}
 use Rattle.blk_entry.proofs.KeyPlaces.{head_is, head_word}
-use Rattle.blk_audit.proofs.Shown.{said_is}
-use Rattle.blk_scan.specs.Records.{AreWordsOf, words_in}
+use Rattle.blk_audit.proofs.Shown.{checks_read}
+use Rattle.blk_audit.specs.Records.{AreWordsOf, words_in}
 
-pub are_words : (image : Image) (w : ℕ) (window : List ℕ) → AreBytes image → kind_of w ≡ blocks_256 → window ≡ range_at (byte image (Block (file_selector w))) (place w + 0) 96 → HasRange image (Block (file_selector w)) (place w) 96
-    → AreWordsOf image w (words_in window)
+pub are_words : (image : Image) (w : ℕ) (window : List ℕ) → AreBytes image → kind_of w ≡ blocks_256 → window ≡ range_at (byte image (Block (file_selector w))) (place w + 0) 96 → AreWordsOf image w (words_in window)
 unfolding entry_in
-are_words image w window small kind is there =
+are_words image w window small kind is =
     let said : Head = record {
       hash = (words_in window).hash;
       next = (words_in window).next;
@@ -25,11 +24,11 @@ are_words image w window small kind is there =
       flags = (words_in window).flags;
     } in
     let head = head_is image w window said kind is refl refl refl refl refl refl refl refl in
-    let checks = said_is image w small kind window is there in
+    let checks : (words_in window).checks ≡ entry_checks (entry_at image w) = checks_read image w small kind window is in
     let state : word_at (content window) 20 ≡ (entry_at image w).state = head_word image w 20 window kind (omega arith) is in
     record {
       fields = λ i. record {
-        checks = checks.checks i;
+        checks = checks i;
         hash = head.hash i;
         rankings_node = head.node i;
         state = state i;

@@ -1,0 +1,102 @@
+// The records that no walked node lists.
+ghost use Rattle.std.specs.Prelude.{◌≡◌, ℕ, ◌++◌, ◌≤◌, [], ◌∷◌, IfOk, None, OnOk, Some, map, slice_get};
+ghost use Rattle.std.specs.List.{filter};
+ghost use Rattle.std.specs.Option.{ForSome};
+ghost use Rattle.blk_image.specs.Told.{Rises, Stays};
+ghost use Rattle.blk_volume.specs.Audit as audit;
+ghost use Rattle.blk_volume.specs.Found.{completed};
+ghost use Rattle.blk_volume.specs.Reasons as reason;
+ghost use Rattle.blk_volume.specs.View.{view_of};
+ghost use Rattle.blk_disk.specs.Tables.{Agrees};
+ghost use Rattle.blk_io.specs.Faults.{IfDamaged, IfDevice};
+ghost use Rattle.blk_audit.specs.Chaining.{words_reached};
+ghost use Rattle.blk_audit.specs.Faults.{IfScanDamaged, IfScanDevice, IsRecordDamage};
+ghost use Rattle.blk_audit.specs.ReadLists.{AreListsOf};
+
+use blk_addr::{Addr, NoMemory};
+use blk_audit::{Lists, ScanFault};
+use blk_disk::BlockFiles;
+use blk_io::{Fault, Folder};
+use std::alloc::Global;
+
+/// The reached records whose node is not walked or does not name them, bucket after bucket and each chain in its order.
+///
+/// Of a record that no walked node names nothing is read. Of the others one folder call each reads those that were not
+/// read with the lists. A damage is a read that gave too few bytes; a folder whose files are those of `files` gives none.
+pub fn unlisted<F: Folder>(
+    alloc: Global,
+    f: &mut F,
+    files: &BlockFiles,
+    lists: &Lists,
+) -> Result<Vec<Addr>, ScanFault>
+    ensures unlisted { IfOk result (λ found. ForSome (F.told f.old).files (λ image. Agrees files.now image → AreListsOf image lists.now → map (λ contents. (contents, reason.Unlisted)) found.items ≡ audit.unlisted (completed (view_of image)))) }
+    ensures stays { Stays (F.told f.old) (F.told f.new) }
+    ensures damaged { IfScanDamaged result (IsRecordDamage files.now (F.told f.new)) }
+    ensures untold { ForSome (F.told f.old).files (Agrees files.now) → IfScanDamaged result (λ _. (F.told f.old).files ≡ None) }
+    ensures later { F.faults f.old ≤ F.faults f.new }
+    ensures device { IfScanDevice result (Rises (F.faults f.old) (F.faults f.new)) }
+{
+    let mut found = Vec::new(alloc);
+    for i in 0..lists.reached.count() {
+        add_if(f, files, lists, i, &mut found)?;
+    }
+    Ok(found)
+}
+
+// Adds one of the reached records, if it is unlisted.
+fn add_if<F: Folder>(
+    f: &mut F,
+    files: &BlockFiles,
+    lists: &Lists,
+    i: usize,
+    found: &mut Vec<Addr>,
+) -> Result<(), ScanFault>
+    ensures added { OnOk result (ForSome (F.told f.old).files (λ image. Agrees files.now image → AreListsOf image lists.now → (w : ℕ) → slice_get (words_reached lists.now.reached) i ≡ Some w → found.new.items ≡ found.old.items ++ filter (audit.is_unlisted (completed (view_of image))) (w ∷ []))) }
+    ensures stays { Stays (F.told f.old) (F.told f.new) }
+    ensures damaged { IfScanDamaged result (IsRecordDamage files.now (F.told f.new)) }
+    ensures untold { ForSome (F.told f.new).files (Agrees files.now) → IfScanDamaged result (λ _. (F.told f.new).files ≡ None) }
+    ensures later { F.faults f.old ≤ F.faults f.new }
+    ensures device { IfScanDevice result (Rises (F.faults f.old) (F.faults f.new)) }
+{
+    let Some(entry) = lists.reached.at(i) else {
+        return Ok(());
+    };
+    let unlisted = is_unlisted(f, files, lists, entry.word())?;
+    if unlisted {
+        push(found, entry)?;
+    }
+    Ok(())
+}
+
+// Adds a record.
+fn push(found: &mut Vec<Addr>, entry: Addr) -> Result<(), NoMemory>
+    ensures { OnOk result (found.new.items ≡ found.old.items ++ entry ∷ []) }
+{
+    found.push(entry)?;
+    Ok(())
+}
+
+// Whether a record stands whose node is not walked or does not name it.
+fn is_unlisted<F: Folder>(
+    f: &mut F,
+    files: &BlockFiles,
+    lists: &Lists,
+    word: u32,
+) -> Result<bool, Fault>
+    ensures unlisted { IfOk result (λ is. ForSome (F.told f.old).files (λ image. Agrees files.now image → AreListsOf image lists.now → is ≡ audit.is_unlisted (completed (view_of image)) word)) }
+    ensures stays { Stays (F.told f.old) (F.told f.new) }
+    ensures damaged { IfDamaged result (IsRecordDamage files.now (F.told f.new)) }
+    ensures untold { ForSome (F.told f.new).files (Agrees files.now) → IfDamaged result (λ _. (F.told f.new).files ≡ None) }
+    ensures later { F.faults f.old ≤ F.faults f.new }
+    ensures device { IfDevice result (Rises (F.faults f.old) (F.faults f.new)) }
+{
+    let Some(entry) = files.entry(word) else {
+        return Ok(false);
+    };
+    if !lists.is_named(entry) {
+        return Ok(true);
+    }
+    let said = lists.record_at(f, files, entry)?;
+    let listed = lists.is_listed(entry, said.words.node);
+    Ok(!listed)
+}
