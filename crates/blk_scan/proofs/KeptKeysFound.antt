@@ -6,15 +6,14 @@ use Rattle.blk_image.specs.Bytes.{range_at}
 use Rattle.blk_image.specs.Image.{Block, Image, byte}
 use Rattle.blk_image.proofs.Words.{length-range}
 use Rattle.blk_format.specs.Address.{file_selector, place}
-use Rattle.blk_volume.specs.Entries as entries
 use Rattle.blk_volume.specs.Entries.{stored_key, stream}
 use Rattle.blk_volume.specs.ListView.{first_or}
 use Rattle.blk_volume.specs.Loads.{held_rule}
-use Rattle.blk_volume.specs.View.{RecordFields, address_of, data_size_of, key_place_at, stored_at, store_of}
+use Rattle.blk_volume.specs.View.{RecordFields, data_size_of, key_place_at, stored_at, store_of}
 use Rattle.blk_laws.proofs.walks.Loads.{load-then}
 use Rattle.blk_scan.specs.Keyed.{IsKeyOf}
 use Rattle.blk_scan.specs.KeptKeys.{LoadedIndexesAreFound, LoadedKeysAreFound}
-use Rattle.blk_format.specs.SparseIndex.{ParentIndex, read_parent_index}
+use Rattle.blk_format.specs.SparseIndex.{read_parent_index}
 use Rattle.blk_scan.proofs.RoleFacts.{index_length, index_of_parent}
 use Rattle.blk_scan.proofs.StreamFacts.{are_stored, stored_length}
 

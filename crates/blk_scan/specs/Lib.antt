@@ -1,6 +1,9 @@
+pub mod ByHash
+pub mod Kept
 pub mod KeptKeys
 pub mod Keyed
 pub mod Loading
+pub mod Owning
 pub mod Readable
 pub mod Reads
 pub mod Reasons

@@ -1,10 +1,14 @@
 //! Which walked nodes of a cache folder are kept, and why the others are dropped.
 #![tactic(auto)]
 
+mod by_hash;
 mod covers;
+mod fitting;
+mod kept;
 mod keys;
 mod laws;
 mod loading;
+mod owning;
 mod parts;
 mod reason;
 mod record_words;

@@ -1,8 +1,11 @@
 // The verdict on a node, in a small folder in memory that tells nothing.
-ghost use Rattle.std.specs.Prelude.{◌<◌, length};
+ghost use Rattle.std.specs.Prelude.{◌<◌, OnOk, length};
+ghost use Rattle.blk_scan.specs.Kept.{IsInOrder};
 
+use crate::kept::KeptSoFar;
 use crate::{Role, Verdict, has_part, load};
 use blk_addr::{Addr, Kind};
+use blk_audit::ScanFault;
 use blk_disk::BlockFiles;
 use blk_io::{Failed, Fault, FileId, Folder, MemFolder, SilentFolder};
 use std::alloc::Global;
@@ -31,11 +34,20 @@ fn folder(alloc: Global, key: &[u8], hash: u32) -> Result<Mem, Failed>
             f.write_at(file, 4 * i as u64, &word.to_le_bytes())?;
         }
     }
-    put(&mut f, RECORDS, 8192, 0, hash)?;
-    put(&mut f, RECORDS, 8192, 8, 0x9000_0000)?;
-    put(&mut f, RECORDS, 8192, 32, key.len() as u32)?;
-    f.write_at(RECORDS, 8192 + 96, key)?;
+    put_record(&mut f, 0, key, hash)?;
     Ok(f)
+}
+
+// Writes the record of an entry of a key with this hash into a block, with the node of the same number.
+fn put_record(f: &mut Mem, block: u32, key: &[u8], hash: u32) -> Result<(), Failed>
+    requires key { length key.now < 100 }
+    requires block { block < 40 }
+{
+    let place = 8192 + 256 * u64::from(block);
+    put(f, RECORDS, place, 0, hash)?;
+    put(f, RECORDS, place, 8, 0x9000_0000 + block)?;
+    put(f, RECORDS, place, 32, key.len() as u32)?;
+    f.write_at(RECORDS, place + 96, key)
 }
 
 // The verdict on node 0.
@@ -50,6 +62,27 @@ fn number(f: &mut Mem, contents: u32, dirty: u32, reached: bool) -> Result<u32, 
     match verdict(f, contents, dirty, reached)? {
         Verdict::Loaded(_) => Ok(0),
         Verdict::Dropped(reason) => Ok(reason.number()),
+    }
+}
+
+// Judges the record in a block against those kept so far: the number of the reason, or 0.
+fn admit(
+    f: &mut Mem,
+    files: &BlockFiles,
+    kept: &mut KeptSoFar,
+    block: u32,
+) -> Result<u32, ScanFault>
+    requires order { IsInOrder files.now kept.old }
+    requires block { block < 40 }
+    ensures { OnOk result (IsInOrder files.now kept.new) }
+{
+    let node = Addr::of_blocks(Kind::Rankings, 0, block, 1);
+    match load(f, files, node, ENTRY + block, 0, true)? {
+        Verdict::Loaded(loaded) => match kept.admit(f, files, loaded)? {
+            Some(reason) => Ok(reason.number()),
+            None => Ok(0),
+        },
+        Verdict::Dropped(reason) => Ok(100 + reason.number()),
     }
 }
 
@@ -147,5 +180,41 @@ fn a_parent_and_a_part_have_their_index(rt: HostRuntime) -> Result<(), Fail> {
     put(&mut f, RECORDS, 8192, 44, 1023)?;
     put(&mut f, RECORDS, 8192, 60, 0xA301_0004)?;
     assert_eq!(rt; number(&mut f, ENTRY, 0, true)?, 12);
+    Ok(())
+}
+
+#[test]
+fn a_record_is_judged_against_those_kept(rt: HostRuntime) -> Result<(), Fail> {
+    let mut f = folder(rt.alloc(), b"k", 0x4EA5_85C0)?;
+    put_record(&mut f, 1, b"k", 0x4EA5_85C0)?;
+    put_record(&mut f, 2, b"Range_k:1:0", 0x216A_AC0E)?;
+    put_record(&mut f, 4, b"Range_k:1:1", 0xD22F_D8DB)?;
+    for (block, at, word) in [
+        (1, 72, 1u32),
+        (1, 48, 8256),
+        (1, 64, 0xC203_0000),
+        (2, 72, 2),
+        (2, 48, 192),
+        (2, 64, 0xA001_0003),
+        (4, 72, 2),
+        (4, 48, 192),
+        (4, 64, 0xA001_0005),
+    ] {
+        put(&mut f, RECORDS, 8192 + 256 * block, at, word)?;
+    }
+    put_index(&mut f, FileId::Block(3), 8192)?;
+    for block in [3, 5] {
+        put_index(&mut f, RECORDS, 8192 + 256 * block)?;
+        put(&mut f, RECORDS, 8192 + 256 * block, 64, 0)?;
+    }
+    let files = BlockFiles::load(&mut f)?;
+    let mut kept = KeptSoFar::none(rt.alloc());
+    assert_eq!(rt; admit(&mut f, &files, &mut kept, 2)?, 15);
+    assert_eq!(rt; admit(&mut f, &files, &mut kept, 1)?, 0);
+    assert_eq!(rt; admit(&mut f, &files, &mut kept, 1)?, 13);
+    assert_eq!(rt; admit(&mut f, &files, &mut kept, 0)?, 14);
+    assert_eq!(rt; admit(&mut f, &files, &mut kept, 2)?, 0);
+    assert_eq!(rt; admit(&mut f, &files, &mut kept, 4)?, 15);
+    assert_eq!(rt; kept.count(), 2);
     Ok(())
 }
