@@ -65,6 +65,13 @@ fn number(f: &mut Mem, contents: u32, dirty: u32, reached: bool) -> Result<u32, 
     }
 }
 
+// No record is kept, whatever the block files are.
+fn nothing_kept(alloc: Global, files: &BlockFiles) -> KeptSoFar
+    ensures { IsInOrder files.now result }
+{
+    KeptSoFar::none(alloc)
+}
+
 // Judges the record in a block against those kept so far: the number of the reason, or 0.
 fn admit(
     f: &mut Mem,
@@ -208,7 +215,7 @@ fn a_record_is_judged_against_those_kept(rt: HostRuntime) -> Result<(), Fail> {
         put(&mut f, RECORDS, 8192 + 256 * block, 64, 0)?;
     }
     let files = BlockFiles::load(&mut f)?;
-    let mut kept = KeptSoFar::none(rt.alloc());
+    let mut kept = nothing_kept(rt.alloc(), &files);
     assert_eq!(rt; admit(&mut f, &files, &mut kept, 2)?, 15);
     assert_eq!(rt; admit(&mut f, &files, &mut kept, 1)?, 0);
     assert_eq!(rt; admit(&mut f, &files, &mut kept, 1)?, 13);
