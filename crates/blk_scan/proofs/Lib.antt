@@ -9,6 +9,7 @@ pub mod PartBits
 pub mod VerdictFacts
 pub mod KeyOf
 pub mod KeptKeysFound
+pub mod JudgedFacts
 pub mod OwnedClaims
 pub mod PlacesOfHashes
 pub mod Searched

@@ -4,6 +4,7 @@
 mod by_hash;
 mod covers;
 mod fitting;
+mod judging;
 mod kept;
 mod keys;
 mod laws;
