@@ -2,6 +2,7 @@
 ghost use Rattle.std.specs.Prelude.{◌<◌, OnOk, length};
 ghost use Rattle.blk_scan.specs.Kept.{IsInOrder};
 
+use crate::judging::judge;
 use crate::kept::KeptSoFar;
 use crate::{Role, Verdict, has_part, load};
 use blk_addr::{Addr, Kind};
@@ -72,8 +73,8 @@ fn nothing_kept(alloc: Global, files: &BlockFiles) -> KeptSoFar
     KeptSoFar::none(alloc)
 }
 
-// Judges the record in a block against those kept so far: the number of the reason, or 0.
-fn admit(
+// Judges the node and the record with this number against those kept so far: the number of the reason, or 0.
+fn judged(
     f: &mut Mem,
     files: &BlockFiles,
     kept: &mut KeptSoFar,
@@ -84,12 +85,9 @@ fn admit(
     ensures { OnOk result (IsInOrder files.now kept.new) }
 {
     let node = Addr::of_blocks(Kind::Rankings, 0, block, 1);
-    match load(f, files, node, ENTRY + block, 0, true)? {
-        Verdict::Loaded(loaded) => match kept.admit(f, files, loaded)? {
-            Some(reason) => Ok(reason.number()),
-            None => Ok(0),
-        },
-        Verdict::Dropped(reason) => Ok(100 + reason.number()),
+    match judge(f, files, kept, node, ENTRY + block, 0, true)? {
+        Some(reason) => Ok(reason.number()),
+        None => Ok(0),
     }
 }
 
@@ -216,12 +214,12 @@ fn a_record_is_judged_against_those_kept(rt: HostRuntime) -> Result<(), Fail> {
     }
     let files = BlockFiles::load(&mut f)?;
     let mut kept = nothing_kept(rt.alloc(), &files);
-    assert_eq!(rt; admit(&mut f, &files, &mut kept, 2)?, 15);
-    assert_eq!(rt; admit(&mut f, &files, &mut kept, 1)?, 0);
-    assert_eq!(rt; admit(&mut f, &files, &mut kept, 1)?, 13);
-    assert_eq!(rt; admit(&mut f, &files, &mut kept, 0)?, 14);
-    assert_eq!(rt; admit(&mut f, &files, &mut kept, 2)?, 0);
-    assert_eq!(rt; admit(&mut f, &files, &mut kept, 4)?, 15);
+    assert_eq!(rt; judged(&mut f, &files, &mut kept, 2)?, 15);
+    assert_eq!(rt; judged(&mut f, &files, &mut kept, 1)?, 0);
+    assert_eq!(rt; judged(&mut f, &files, &mut kept, 1)?, 13);
+    assert_eq!(rt; judged(&mut f, &files, &mut kept, 0)?, 14);
+    assert_eq!(rt; judged(&mut f, &files, &mut kept, 2)?, 0);
+    assert_eq!(rt; judged(&mut f, &files, &mut kept, 4)?, 15);
     assert_eq!(rt; kept.count(), 2);
     Ok(())
 }
