@@ -1,4 +1,5 @@
 pub mod Stored
+pub mod AdmitFacts
 pub mod StreamFacts
 pub mod Joined
 pub mod RoleFacts
@@ -8,3 +9,9 @@ pub mod VerdictFacts
 pub mod KeyOf
 pub mod KeptKeysFound
 pub mod ListedFacts
+pub mod JudgedFacts
+pub mod OwnedClaims
+pub mod PlacesOfHashes
+pub mod Searched
+pub mod ShownClaims
+pub mod SoughtFacts

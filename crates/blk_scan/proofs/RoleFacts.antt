@@ -149,7 +149,7 @@ part_short key streams e = by_tests (length (stream 0 streams) == 0) (nat_lt 104
     by_tests true false et eu = part_by key streams (read_name key) None et eu refl none ∙ nothing (read_name key) (λ name. goes name (length (stream 1 streams)))
 
 -- the key that a name says has the length that was read
-name_length : (key : List ℕ) (said : ChildName) → IsName key (name_within key said) → length (take said.key_len (drop 6 key)) ≡ said.key_len
+pub name_length : (key : List ℕ) (said : ChildName) → IsName key (name_within key said) → length (take said.key_len (drop 6 key)) ≡ said.key_len
 name_length key said is =
     let k : List ℕ = take said.key_len (drop 6 key) in
     let printed : ((name_head ++ k) ++ colon ∷ hexadecimal (cast_unsigned w64 said.signature)) ++ colon ∷ hexadecimal said.part ≡ key = joined k (cast_unsigned w64 said.signature) said.part ∙ sym is.printed in
@@ -260,6 +260,70 @@ index_of_parent fields key streams index e = by_flags (fields.flags == 1) (field
     by_flags : (t u : Bool) → (fields.flags == 1) ≡ t → (fields.flags == 2) ≡ u → read_parent_index (stream 2 streams) ≡ Some index
     by_flags true u et eu = parent_index fields streams index (sym (role_parent fields key streams (eqb-true _ _ et)) ∙ e)
     by_flags false true et eu = absurd (no_parent key streams index (sym (role_part fields key streams (eqb-true _ _ eu)) ∙ e))
+    by_flags false false et eu = absurd (plain_some (sym (role_plain fields key streams (λ h. clash (sym et ∙ eq-eqb _ _ h)) (λ h. clash (sym eu ∙ eq-eqb _ _ h))) ∙ e))
+      where
+        clash : false ≡ true → ⊥
+        clash h = cc
+
+-- The name of a part.
+
+-- the name that a part's role has is the one that its key is
+part_name : (key : List ℕ) (streams : List (List ℕ)) (name : Name) (index : PartIndex) → part_role key streams ≡ Some (entries.IsPart name index) → read_name key ≡ Some name
+unfolding goes
+part_name key streams name index e = by_tests (length (stream 0 streams) == 0) (nat_lt 1048576 (length (stream 1 streams))) refl refl
+  where
+    none_some : None ≡ Some (entries.IsPart name index) → ⊥
+    none_some h = cc
+
+    same_name : (of : Name) (other : PartIndex) → Some (entries.IsPart of other) ≡ Some (entries.IsPart name index) → Some of ≡ Some name
+    same_name of other h = cc
+
+    by_goes : (t : Bool) (of : Name) (other : PartIndex) → (if t then Some (entries.IsPart of other) else None) ≡ Some (entries.IsPart name index) → Some of ≡ Some name
+    by_goes true of other h = same_name of other h
+    by_goes false of other h = absurd (none_some h)
+
+    by_both : (n : Option Name) (o : Option PartIndex) → option_and_then (λ (of : Name). option_and_then (goes of (length (stream 1 streams))) o) n ≡ Some (entries.IsPart name index) → n ≡ Some name
+    by_both None o h = absurd (none_some h)
+    by_both (Some of) None h = absurd (none_some h)
+    by_both (Some of) (Some other) h = by_goes _ of other h
+
+    by_tests : (t u : Bool) → (length (stream 0 streams) == 0) ≡ t → nat_lt 1048576 (length (stream 1 streams)) ≡ u → read_name key ≡ Some name
+    by_tests false u et eu = absurd (none_some (sym (part_full key streams et) ∙ e))
+    by_tests true true et eu = absurd (none_some (sym (part_long key streams eu) ∙ e))
+    by_tests true false et eu = by_both (read_name key) (read_part_index (stream 2 streams)) (sym (part_by key streams (read_name key) (read_part_index (stream 2 streams)) et eu refl refl) ∙ e)
+
+-- a parent is no part
+no_part : (fields : RecordFields) (streams : List (List ℕ)) (name : Name) (index : PartIndex) → parent_role fields streams ≡ Some (entries.IsPart name index) → ⊥
+unfolding with_length
+no_part fields streams name index e = by_zero (length (stream 1 streams) == 0) refl
+  where
+    none_some : None ≡ Some (entries.IsPart name index) → ⊥
+    none_some h = cc
+
+    parent_some : (read : ParentIndex) → Some (entries.IsParent read) ≡ Some (entries.IsPart name index) → ⊥
+    parent_some read h = cc
+
+    by_length : (t : Bool) (read : ParentIndex) → (if t then Some (entries.IsParent read) else None) ≡ Some (entries.IsPart name index) → ⊥
+    by_length true read h = parent_some read h
+    by_length false read h = none_some h
+
+    by_index : (o : Option ParentIndex) → option_and_then (with_length fields) o ≡ Some (entries.IsPart name index) → ⊥
+    by_index None h = none_some h
+    by_index (Some read) h = by_length (read.key_len == fields.key_len) read h
+
+    by_zero : (t : Bool) → (length (stream 1 streams) == 0) ≡ t → ⊥
+    by_zero false h = none_some (sym (parent_full fields streams h) ∙ e)
+    by_zero true h = by_index (read_parent_index (stream 2 streams)) (sym (parent_by fields streams (read_parent_index (stream 2 streams)) h refl) ∙ e)
+
+pub name_of_part : (fields : RecordFields) (key : List ℕ) (streams : List (List ℕ)) (name : Name) (index : PartIndex) → role_of fields key streams ≡ Some (entries.IsPart name index) → read_name key ≡ Some name
+name_of_part fields key streams name index e = by_flags (fields.flags == 1) (fields.flags == 2) refl refl
+  where
+    plain_some : Some entries.IsPlain ≡ Some (entries.IsPart name index) → ⊥
+    plain_some h = cc
+
+    by_flags : (t u : Bool) → (fields.flags == 1) ≡ t → (fields.flags == 2) ≡ u → read_name key ≡ Some name
+    by_flags true u et eu = absurd (no_part fields streams name index (sym (role_parent fields key streams (eqb-true _ _ et)) ∙ e))
+    by_flags false true et eu = part_name key streams name index (sym (role_part fields key streams (eqb-true _ _ eu)) ∙ e)
     by_flags false false et eu = absurd (plain_some (sym (role_plain fields key streams (λ h. clash (sym et ∙ eq-eqb _ _ h)) (λ h. clash (sym eu ∙ eq-eqb _ _ h))) ∙ e))
       where
         clash : false ≡ true → ⊥

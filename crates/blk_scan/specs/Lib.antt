@@ -1,7 +1,10 @@
+pub mod ByHash
 pub mod Charges
+pub mod Kept
 pub mod KeptKeys
 pub mod Keyed
 pub mod Loading
+pub mod Owning
 pub mod Readable
 pub mod Reads
 pub mod Reasons

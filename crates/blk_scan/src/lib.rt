@@ -1,12 +1,17 @@
 //! Which walked nodes of a cache folder are kept, and why the others are dropped.
 #![tactic(auto)]
 
+mod by_hash;
 mod charges;
 mod covers;
+mod fitting;
+mod judging;
+mod kept;
 mod keys;
 mod laws;
 mod listing;
 mod loading;
+mod owning;
 mod parts;
 mod reason;
 mod roles;

@@ -1,5 +1,5 @@
 // Whether a record that is loaded has a key.
-ghost use Rattle.std.specs.Prelude.{◌≡◌, ◌≤◌, List, ℕ, IfOk, None, length};
+ghost use Rattle.std.specs.Prelude.{◌≡◌, ◌≤◌, List, ℕ, IfOk, None, OnOk, length};
 ghost use Rattle.std.specs.Option.{ForSome};
 ghost use Rattle.std.specs.Str.{bytes_eq};
 ghost use Rattle.blk_image.specs.Told.{Rises, Stays};
@@ -62,11 +62,30 @@ fn is_stored_key<F: Folder>(
     ensures later { F.faults f.old ≤ F.faults f.new }
     ensures device { IfDevice result (Rises (F.faults f.old) (F.faults f.new)) }
 {
-    let words = words_of(loaded);
     let mut buffer = [0u8; MOST_NAME];
     let stored = &mut buffer[..key.len()];
-    read_key(f, files, loaded.entry, &words, stored)?;
+    read_key_of(f, files, loaded, stored)?;
     Ok(*stored == *key)
+}
+
+// Reads the key of a record that is loaded into a buffer of its length, by one folder call.
+pub(crate) fn read_key_of<F: Folder>(
+    f: &mut F,
+    files: &BlockFiles,
+    loaded: &Loaded,
+    out: &mut [u8],
+) -> Result<(), Fault>
+    requires readable { IsReadable files.now loaded.now }
+    requires size { length out.old ≡ loaded.now.key_len }
+    ensures key { OnOk result (ForSome (F.told f.old).files (λ image. (key : List ℕ) → IsKeyOf image loaded.now key → out.new ≡ key)) }
+    ensures stays { Stays (F.told f.old) (F.told f.new) }
+    ensures short { IfDamaged result (IsCutRead files.now (F.told f.old)) }
+    ensures untold { ForSome (F.told f.old).files (Agrees files.now) → ForSome (F.told f.old).files (λ image. HasKey image loaded.now) → IfDamaged result (λ _. (F.told f.old).files ≡ None) }
+    ensures later { F.faults f.old ≤ F.faults f.new }
+    ensures device { IfDevice result (Rises (F.faults f.old) (F.faults f.new)) }
+{
+    let words = words_of(loaded);
+    read_key(f, files, loaded.entry, &words, out)
 }
 
 // The words that are kept of a record.

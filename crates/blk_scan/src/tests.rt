@@ -1,6 +1,9 @@
 // The verdict on a node, in a small folder in memory that tells nothing.
-ghost use Rattle.std.specs.Prelude.{◌<◌, ◌≤◌, length};
+ghost use Rattle.std.specs.Prelude.{◌<◌, ◌≤◌, OnOk, length};
+ghost use Rattle.blk_scan.specs.Kept.{IsInOrder};
 
+use crate::judging::judge;
+use crate::kept::KeptSoFar;
 use crate::{Role, Verdict, has_part, is_child, load, load_walked, unlisted};
 use blk_addr::{Addr, Kind};
 use blk_audit::{Lists, ScanFault, read_lists};
@@ -32,11 +35,20 @@ fn folder(alloc: Global, key: &[u8], hash: u32) -> Result<Mem, Failed>
             f.write_at(file, 4 * i as u64, &word.to_le_bytes())?;
         }
     }
-    put(&mut f, RECORDS, 8192, 0, hash)?;
-    put(&mut f, RECORDS, 8192, 8, 0x9000_0000)?;
-    put(&mut f, RECORDS, 8192, 32, key.len() as u32)?;
-    f.write_at(RECORDS, 8192 + 96, key)?;
+    put_record(&mut f, 0, key, hash)?;
     Ok(f)
+}
+
+// Writes the record of an entry of a key with this hash into a block, with the node of the same number.
+fn put_record(f: &mut Mem, block: u32, key: &[u8], hash: u32) -> Result<(), Failed>
+    requires key { length key.now < 100 }
+    requires block { block < 40 }
+{
+    let place = 8192 + 256 * u64::from(block);
+    put(f, RECORDS, place, 0, hash)?;
+    put(f, RECORDS, place, 8, 0x9000_0000 + block)?;
+    put(f, RECORDS, place, 32, key.len() as u32)?;
+    f.write_at(RECORDS, place + 96, key)
 }
 
 // The verdict on node 0.
@@ -51,6 +63,31 @@ fn number(f: &mut Mem, contents: u32, dirty: u32, reached: bool) -> Result<u32, 
     match verdict(f, contents, dirty, reached)? {
         Verdict::Loaded(_) => Ok(0),
         Verdict::Dropped(reason) => Ok(reason.number()),
+    }
+}
+
+// No record is kept, whatever the block files are.
+fn nothing_kept(alloc: Global, files: &BlockFiles) -> KeptSoFar
+    ensures { IsInOrder files.now result }
+{
+    KeptSoFar::none(alloc)
+}
+
+// Judges the node and the record with this number against those kept so far: the number of the reason, or 0.
+fn judged(
+    f: &mut Mem,
+    files: &BlockFiles,
+    kept: &mut KeptSoFar,
+    block: u32,
+) -> Result<u32, ScanFault>
+    requires order { IsInOrder files.now kept.old }
+    requires block { block < 40 }
+    ensures { OnOk result (IsInOrder files.now kept.new) }
+{
+    let node = Addr::of_blocks(Kind::Rankings, 0, block, 1);
+    match judge(f, files, kept, node, ENTRY + block, 0, true)? {
+        Some(reason) => Ok(reason.number()),
+        None => Ok(0),
     }
 }
 
@@ -176,7 +213,7 @@ fn many(alloc: Global) -> Result<Counted, Failed> {
     for i in 0..ENTRIES {
         put_entry(&mut f, i)?;
     }
-    put_record(&mut f, ENTRIES, 0x9000_0000, 0)?;
+    put_linked(&mut f, ENTRIES, 0x9000_0000, 0)?;
     Ok(f)
 }
 
@@ -191,11 +228,11 @@ fn put_entry(f: &mut Counted, i: u32) -> Result<(), Failed>
     for (at, word) in [(16, next), (20, prev), (24, ENTRY + i)] {
         write_word(f, FileId::Block(0), place + at, word)?;
     }
-    put_record(f, i, node, ENTRY + i + 1)
+    put_linked(f, i, node, ENTRY + i + 1)
 }
 
 // Writes a record with the key abc.
-fn put_record(f: &mut Counted, i: u32, node: u32, next: u32) -> Result<(), Failed>
+fn put_linked(f: &mut Counted, i: u32, node: u32, next: u32) -> Result<(), Failed>
     requires { i ≤ 4000 }
 {
     let place = 8192 + 256 * u64::from(i);
@@ -231,7 +268,7 @@ fn is_loaded(f: &mut Counted, files: &BlockFiles, lists: &Lists, i: usize) -> Re
 }
 
 // The numbers of the nodes that are loaded and of the records that are unlisted.
-fn judged(alloc: Global, f: &mut Counted) -> Result<(u32, usize), ScanFault> {
+fn judged_alone(alloc: Global, f: &mut Counted) -> Result<(u32, usize), ScanFault> {
     let files = BlockFiles::load(f)?;
     let lists = read_lists(alloc, f, &files)?;
     let loaded = count_loaded(f, &files, &lists)?;
@@ -243,10 +280,46 @@ fn judged(alloc: Global, f: &mut Counted) -> Result<(u32, usize), ScanFault> {
 fn plain_entries_are_judged_in_memory(rt: HostRuntime) -> Result<(), Fail> {
     let mut f = many(rt.alloc())?;
     let start = f.calls();
-    match judged(rt.alloc(), &mut f) {
+    match judged_alone(rt.alloc(), &mut f) {
         Ok(counts) => assert_eq!(rt; counts, (4000, 1)),
         Err(_) => panic!(rt; "they are judged"),
     }
     assert!(rt; f.calls().wrapping_sub(start) <= 120);
+    Ok(())
+}
+
+#[test]
+fn a_record_is_judged_against_those_kept(rt: HostRuntime) -> Result<(), Fail> {
+    let mut f = folder(rt.alloc(), b"k", 0x4EA5_85C0)?;
+    put_record(&mut f, 1, b"k", 0x4EA5_85C0)?;
+    put_record(&mut f, 2, b"Range_k:1:0", 0x216A_AC0E)?;
+    put_record(&mut f, 4, b"Range_k:1:1", 0xD22F_D8DB)?;
+    for (block, at, word) in [
+        (1, 72, 1u32),
+        (1, 48, 8256),
+        (1, 64, 0xC203_0000),
+        (2, 72, 2),
+        (2, 48, 192),
+        (2, 64, 0xA001_0003),
+        (4, 72, 2),
+        (4, 48, 192),
+        (4, 64, 0xA001_0005),
+    ] {
+        put(&mut f, RECORDS, 8192 + 256 * block, at, word)?;
+    }
+    put_index(&mut f, FileId::Block(3), 8192)?;
+    for block in [3, 5] {
+        put_index(&mut f, RECORDS, 8192 + 256 * block)?;
+        put(&mut f, RECORDS, 8192 + 256 * block, 64, 0)?;
+    }
+    let files = BlockFiles::load(&mut f)?;
+    let mut kept = nothing_kept(rt.alloc(), &files);
+    assert_eq!(rt; judged(&mut f, &files, &mut kept, 2)?, 15);
+    assert_eq!(rt; judged(&mut f, &files, &mut kept, 1)?, 0);
+    assert_eq!(rt; judged(&mut f, &files, &mut kept, 1)?, 13);
+    assert_eq!(rt; judged(&mut f, &files, &mut kept, 0)?, 14);
+    assert_eq!(rt; judged(&mut f, &files, &mut kept, 2)?, 0);
+    assert_eq!(rt; judged(&mut f, &files, &mut kept, 4)?, 15);
+    assert_eq!(rt; kept.count(), 2);
     Ok(())
 }
