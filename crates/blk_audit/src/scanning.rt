@@ -43,7 +43,7 @@ pub struct Lists {
 ///
 /// On a folder where each reached record is that of a walked node, no call is made for a node or a record alone, but
 /// for those of the operation in flight and for records in a file that is too short for its blocks. A damage is a read
-/// that gave too few bytes, or a node of the operation that does not check; a folder whose files are those of `files`
+/// that gave too few bytes; a folder whose files are those of `files`
 /// gives none. `Device` comes only where the folder failed in this call.
 pub fn read_lists<F: Folder>(
     alloc: Global,
