@@ -6,5 +6,7 @@
 
 mod chains;
 mod links;
+mod removals;
 
 pub use chains::mend_chain;
+pub use removals::remove_others;
