@@ -1,17 +1,9 @@
-use Rattle.std.proofs.Common.{◌≡◌, ◌≤◌, ℕ, ◌+◌, ◌<◌, None, false, true, drop, length, get_or, sym, ◌∙◌, ap, subst, arith, rules}
-use Rattle.std.specs.Prelude.{All}
-use Rattle.std.specs.Option.{ForSome}
-use Rattle.std.proofs.lemmas.List.Elements.{All-get_or}
+use Rattle.std.proofs.Common.{◌≡◌, ◌≤◌, ℕ, ◌+◌, None, sym, ◌∙◌, ap, subst, arith, rules}
 use Rattle.blk_image.specs.Told.{Told}
 use Rattle.blk_image.proofs.Runs.{part_whole}
 use Rattle.blk_io.proofs.Carried.{carried, if_damaged_weaker}
-use Rattle.blk_disk.specs.Open.{IsOpen}
-use Rattle.blk_disk.specs.Tables.{is_node_among}
-use Rattle.blk_repair_laws.specs.ListRepair.{is_first}
-use Rattle.blk_repair.specs.Damages.{IsRemovalsDamage}
 use Rattle.blk_repair.proofs.Progress.{ended, was_untold}
 use Rattle.blk_repair.proofs.RemovalRuns.{HasTaken, removals-done, removals-mend, removals-pass, taken-listed, taken-none, taken-out, taken-part, taken-pass}
-use Rattle.blk_repair.proofs.removals.remove_others.Given as given
 use Rattle.blk_repair.proofs.removals.remove_others.Goals as goal
 use Rattle.blk_repair.proofs.removals.remove_others.Goals.{then-is_next, else-is_next+in_ok-remove}
 
