@@ -1,3 +1,5 @@
 pub mod Progress
 pub mod Choices
 pub mod ChainRuns
+pub mod RemovalRuns
+pub mod ListRuns

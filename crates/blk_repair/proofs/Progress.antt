@@ -48,6 +48,26 @@ module _ {old now : Told} {whole rest : Image → List TrailStep} (progress : Pr
           subst P (some_inj (sym (now_files from there) ∙ here))
           (along_front P (progress.done from) (rest (after (progress.done from) from)) from (subst (Along P from) (progress.split from) (all from there)))
 
+  -- what holds now of every told beginning holds of the files now
+  pub now_by : (P : Image → Type 0) → ForSome old.files (λ from. ForSome now.files P) → ForSome now.files P
+  now_by P holds image here = by_files old.files refl
+    where
+      no_some : None ≡ Some image → ⊥
+      no_some e = cc
+
+      by_files : (o : Option Image) → old.files ≡ o → P image
+      by_files None none = absurd (no_some (sym (progress.silent none) ∙ here))
+      by_files (Some from) there = holds from there image here
+
+  -- the rest may be said in another way
+  pub said_as : (other : Image → List TrailStep) → ((image : Image) → rest image ≡ other image) → Progress old now whole other
+  said_as other same = record {
+    done = progress.done;
+    split = λ from. progress.split from ∙ ap (λ (l : List TrailStep). progress.done from ++ l) (same (after (progress.done from) from));
+    applies = progress.applies;
+    silent = progress.silent;
+  }
+
   -- nothing is told now only where nothing was
   pub was_untold : now.files ≡ None → old.files ≡ None
   was_untold none = by_files old.files refl

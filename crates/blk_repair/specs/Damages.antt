@@ -1,5 +1,5 @@
 -- What is told of a damage that repair meets.
-use Rattle.std.specs.Prelude.{ℕ, ◌≡◌, ◌⊎◌, ◌+◌, List, All, true}
+use Rattle.std.specs.Prelude.{ℕ, ◌≡◌, ◌⊎◌, ◌+◌, List, All, true, Option}
 use Rattle.blk_image.specs.Image.{Image}
 use Rattle.blk_image.specs.Told.{Told}
 use Rattle.blk_format.specs.Address.{file_selector, place}
@@ -10,8 +10,9 @@ use Rattle.blk_io.specs.declared.folder.FileId.TheVariants as names
 use Rattle.blk_io.specs.declared.fault.Damage.{Damage}
 use Rattle.blk_io.specs.Faults.{IsShort}
 use Rattle.blk_disk.specs.declared.tables.BlockFiles.{BlockFiles}
-use Rattle.blk_disk.specs.Tables.{is_record_among}
+use Rattle.blk_disk.specs.Tables.{is_node_among, is_record_among}
 use Rattle.blk_disk.specs.Unsealed.{IsUnsealed}
+use Rattle.blk_lru.specs.Damages.{IsCompletingDamage, IsEndDamage, IsRemovalDamage}
 
 -- the records of some addresses check
 abbrev pub AllCheck : List ℕ → Image → Type 0
@@ -26,3 +27,20 @@ pub record IsWrongRecord (files : BlockFiles) (told : Told) (damage : Damage) : 
 -- a chain was damaged at the word of its bucket, or at a record
 abbrev pub IsChainDamage : ℕ → BlockFiles → Told → Damage → Type 0
 IsChainDamage bucket files told damage = IsShort told names.Index (place_of_bucket bucket) 4 damage ⊎ IsWrongRecord files told damage
+
+-- some node that stands was taken out of the list, from some files on, and that met a damage
+pub record IsRemovalsDamage (files : BlockFiles) (told : Told) (damage : Damage) : Type 0 where
+  pub node : ℕ
+  pub before : Told
+  pub stands : is_node_among files node ≡ true
+  pub met : IsRemovalDamage node files before told damage
+
+-- the end of the list was mended, from some files on, and that met a damage
+pub record IsEndingDamage (files : BlockFiles) (told : Told) (damage : Damage) : Type 0 where
+  pub last : Option ℕ
+  pub before : Told
+  pub met : IsEndDamage last files before told damage
+
+-- the list was repaired: a damage where its operation is completed, where its end is mended, or where a node is taken out
+abbrev pub IsListRepairDamage : BlockFiles → Told → Damage → Type 0
+IsListRepairDamage files told damage = IsCompletingDamage files told damage ⊎ (IsEndingDamage files told damage ⊎ IsRemovalsDamage files told damage)

@@ -245,7 +245,7 @@ unfolding list_of checks_at stands is_address is_initialized
 zero_bad image = refl
 
 -- what mends the end can be written
-end-can : (image : Image) → CanBeMade image (end_writes (list_of image))
+pub end-can : (image : Image) → CanBeMade image (end_writes (list_of image))
 unfolding end_writes walk
 end-can image = by_nodes (walk (list_of image)) (walked-is (list_of image).checks (list_of image).next (list_of image).prev 131072 [] (list_of image).head (list_of image).head) where
   Checks : ℕ → Type 0

@@ -1,7 +1,6 @@
-use Rattle.std.proofs.Common.{◌≡◌, ℕ, ◌+◌, List, None, drop, refl, arith, subst, sym, rules}
+use Rattle.std.proofs.Common.{◌≡◌, ℕ, ◌+◌, None, drop, refl, arith, subst, sym, rules}
 use Rattle.std.specs.Option.{ForSome}
 use Rattle.std.proofs.lemmas.List.Elements.{All-get_or}
-use Rattle.blk_image.specs.Image.{Image}
 use Rattle.blk_image.proofs.Runs.{part_whole}
 use Rattle.blk_io.proofs.Carried.{carried, if_damaged_weaker}
 use Rattle.blk_format.specs.Sealed.{RecordChecks}
@@ -24,7 +23,7 @@ loop-i-init g c = record { progress = begun (g.F.Folder.told c.args.f.now) (g.F.
 pub returns-in_err-set_next-clause-prefix : goal.returns-in_err-set_next-clause-prefix
 returns-in_err-set_next-clause-prefix g c = record {
   made = stopped c.loop-i.invariant.progress (next_steps c.index-records-i.result c.first_word-behind.result) (next_words_steps (drop (c.loop-i.i + 1) c.args.records.now)) (g.F.Folder.told c.set_next.new.f)
-    (link-leads c.args.records.now c.loop-i.i c.index-records-i.result c.first_word-behind.result c.loop-i-test.true c.index-records-i.is c.first_word-behind.ensures) c.in_err-set_next.ensures.prefix.made;
+      (link-leads c.args.records.now c.loop-i.i c.index-records-i.result c.first_word-behind.result c.loop-i-test.true c.index-records-i.is c.first_word-behind.ensures) c.in_err-set_next.ensures.prefix.made;
   silent = search rules;
 }
 

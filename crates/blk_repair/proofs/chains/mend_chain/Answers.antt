@@ -1,18 +1,16 @@
-use Rattle.std.proofs.Common.{◌≡◌, ℕ, ◌+◌, ◌<◌, List, [], None, refl, ap, subst, sym, ◌∙◌, inl, inr, arith, rules}
+use Rattle.std.proofs.Common.{◌≡◌, ℕ, List, [], None, refl, subst, inl, inr, rules}
 use Rattle.std.specs.Option.{ForSome}
 use Rattle.std.proofs.lemmas.Result.{on_ok_weaker}
 use Rattle.blk_image.specs.Image.{Image}
 use Rattle.blk_image.specs.Steps.{TrailStep}
-use Rattle.blk_image.specs.Told.{Told, Along, Applies, AppliesPrefix}
+use Rattle.blk_image.specs.Told.{Along, Applies, AppliesPrefix}
 use Rattle.blk_io.proofs.Carried.{carried, if_damaged_weaker}
-use Rattle.blk_disk.specs.Open.{IsOpen}
 use Rattle.blk_volume.specs.ListView.{first_or}
 use Rattle.blk_repair_laws.specs.ChainRepair.{bucket_steps, chain_steps, next_words_steps}
-use Rattle.blk_repair.specs.Chains.{IsNextChain}
 use Rattle.blk_repair.specs.Damages.{AllCheck}
 use Rattle.blk_repair.proofs.Choices.{bucket-open, chain-open}
 use Rattle.blk_repair.proofs.ChainRuns.{chain-leads, chain-mended, chain-passes, links-check, links-lead}
-use Rattle.blk_repair.proofs.Progress.{Progress, begun, ended, ended_part, now_has, stays-open, stopped, was_untold, went_on}
+use Rattle.blk_repair.proofs.Progress.{Progress, begun, ended, now_has, stays-open, stopped, was_untold, went_on}
 use Rattle.blk_repair.proofs.chains.mend_chain.Given as given
 use Rattle.blk_repair.proofs.chains.mend_chain.Goals as goal
 
@@ -28,8 +26,8 @@ link-requires-clause-is_open g c =
 pub returns-in_err-set_front-clause-prefix : goal.returns-in_err-set_front-clause-prefix
 returns-in_err-set_front-clause-prefix g c = record {
   made = stopped (begun (g.F.Folder.told c.args.f.now) (g.F.Folder.told c.args.f.now) (chain_steps c.args.bucket c.args.records.now) refl) (bucket_steps c.args.bucket (first_or 0 c.args.records.now)) (next_words_steps c.args.records.now) (g.F.Folder.told c.set_front.new.f)
-    (chain-leads c.args.bucket c.args.records.now)
-    (front c.args.records.now c.args.bucket c.first_word.result (λ (s : Image → List TrailStep). ForSome (g.F.Folder.told c.args.f.now).files (λ from. AppliesPrefix (g.F.Folder.told c.args.f.now) (g.F.Folder.told c.set_front.new.f) (s from))) c.first_word.ensures c.in_err-set_front.ensures.prefix.made);
+      (chain-leads c.args.bucket c.args.records.now)
+      (front c.args.records.now c.args.bucket c.first_word.result (λ (s : Image → List TrailStep). ForSome (g.F.Folder.told c.args.f.now).files (λ from. AppliesPrefix (g.F.Folder.told c.args.f.now) (g.F.Folder.told c.set_front.new.f) (s from))) c.first_word.ensures c.in_err-set_front.ensures.prefix.made);
   silent = search rules;
 }
 

@@ -14,7 +14,7 @@ returns-then-now-word-clause-steps g c x there =
 pub returns-in_err-set_bucket-clause-prefix : goal.returns-in_err-set_bucket-clause-prefix
 returns-in_err-set_bucket-clause-prefix g c = record {
   made = λ x there. subst (AppliesPrefix (g.F.Folder.told c.args.f.now) (g.F.Folder.told c.set_bucket.new.f)) (sym (bucket-other x c.args.number c.args.word c.in_ok-now.now (c.in_ok-now.ensures.word x there) c.if-now-word.false))
-    (subst (λ (t : Told). AppliesPrefix t (g.F.Folder.told c.set_bucket.new.f) (word_step Index (place_of_bucket c.args.number) c.args.word)) c.in_ok-now.ensures.stays c.in_err-set_bucket.ensures.prefix);
+      (subst (λ (t : Told). AppliesPrefix t (g.F.Folder.told c.set_bucket.new.f) (word_step Index (place_of_bucket c.args.number) c.args.word)) c.in_ok-now.ensures.stays c.in_err-set_bucket.ensures.prefix);
   silent = search rules;
 }
 

@@ -52,6 +52,6 @@ returns-clause-steps g c =
 pub returns-clause-prefix : goal.returns-clause-prefix
 returns-clause-prefix g c = record {
   made = next-later c.args.files.now (g.F.Folder.told c.args.f.now) (g.F.Folder.told c.field.new.f) c.args.entry c.args.word c.in_ok-now.now (λ (t : Told) (s : List TrailStep). AppliesPrefix t (g.F.Folder.told c.update_sealed.new.f) s)
-    c.requires.is_open c.requires.stands c.in_ok-now.ensures.value c.if-now-word.false c.in_ok-now.ensures.stays c.update_sealed.ensures.prefix.made;
+      c.requires.is_open c.requires.stands c.in_ok-now.ensures.value c.if-now-word.false c.in_ok-now.ensures.stays c.update_sealed.ensures.prefix.made;
   silent = search rules;
 }

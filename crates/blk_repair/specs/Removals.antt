@@ -1,0 +1,37 @@
+-- The repair of the use list, by its walked and its kept nodes.
+use Rattle.std.specs.Prelude.{◌≡◌, ℕ, List, [], ◌++◌, Option, map}
+use Rattle.blk_image.specs.Image.{Image}
+use Rattle.blk_format.specs.BlockFiles.{IsWellFormed}
+use Rattle.blk_image.specs.Steps.{TrailStep, after}
+use Rattle.blk_volume.specs.Found.{kept}
+use Rattle.blk_volume.specs.ListImages.{IsWritable, completed_walk, completion_steps}
+use Rattle.blk_volume.specs.ListPlans.{ending_writes}
+use Rattle.blk_volume.specs.ListSteps.{steps_of_writes}
+use Rattle.blk_volume.specs.View.{list_of}
+use Rattle.blk_lru.specs.Lists.{last_node_of}
+use Rattle.blk_repair_laws.specs.ListRepair.{HasRemoved, all_but, removal_steps}
+
+-- the list was ended with these nodes, and these of them are kept; none was taken out yet
+pub record IsEndedList (entry : Image) (walked kept : List ℕ) (image : Image) : Type 0 where
+  pub well_formed : IsWellFormed entry
+  pub writable : IsWritable entry
+  pub removed : HasRemoved entry [] walked kept image
+
+-- a node becomes the last of the list, or the list empty
+abbrev pub ending_steps : Option ℕ → Image → List TrailStep
+ending_steps last image = steps_of_writes (ending_writes (list_of image) last) image
+
+-- then the walked nodes go out that are not kept
+abbrev pub steps_from_end : (walked kept : List ℕ) → Image → List TrailStep
+steps_from_end walked kept image = ending_steps (last_node_of walked) image ++ removal_steps (all_but walked kept) (after (ending_steps (last_node_of walked) image) image)
+
+-- and before all the operation in flight is completed
+abbrev pub mending_steps : (walked kept : List ℕ) → Image → List TrailStep
+mending_steps walked kept image = completion_steps image ++ steps_from_end walked kept (after (completion_steps image) image)
+
+-- these are the nodes that completing leaves, and those of them that are kept
+pub record IsListScanned (nodes others : List ℕ) (image : Image) : Type 0 where
+  pub well_formed : IsWellFormed image
+  pub writable : IsWritable image
+  pub walked : nodes ≡ completed_walk image
+  pub kept_nodes : others ≡ map (λ k. k.node) (kept image)

@@ -1,0 +1,58 @@
+// The use list is repaired.
+ghost use Rattle.std.specs.Prelude.{◌≡◌, ◌≤◌, None, OnOk, All, true};
+ghost use Rattle.std.specs.Option.{ForSome};
+ghost use Rattle.blk_image.specs.Told.{Applies, MakesPartOf, Passes, Rises};
+ghost use Rattle.blk_io.specs.Faults.{IfDamaged, IfDevice};
+ghost use Rattle.blk_disk.specs.Open.{IsOpen};
+ghost use Rattle.blk_disk.specs.Tables.{is_node_among};
+ghost use Rattle.blk_lru.specs.Lists.{last_node_of};
+ghost use Rattle.blk_repair_laws.specs.ListRepair.{HoldsTheSame, IsListMended};
+ghost use Rattle.blk_repair.specs.Damages.{IsListRepairDamage};
+ghost use Rattle.blk_repair.specs.Removals.{IsListScanned, mending_steps};
+
+use crate::removals::remove_others;
+use blk_addr::Addr;
+use blk_disk::BlockFiles;
+use blk_io::{Fault, Folder};
+use blk_lru::{complete, end_at};
+
+/// Repairs the use list: the operation in flight is completed, the last of the walked nodes becomes the end of the
+/// list, and each walked node that is not kept goes out, in the order of the list.
+///
+/// `walked` are the nodes that completing leaves, and `kept` those of them that are kept, in the same order. A list that is
+/// whole and at rest with the kept nodes takes 3 folder calls. A damage is one of the calls on the list.
+pub fn mend_list<F: Folder>(
+    f: &mut F,
+    files: &BlockFiles,
+    walked: &[Addr],
+    kept: &[Addr],
+) -> Result<(), Fault>
+    requires stand { All (λ w. is_node_among files.now w ≡ true) walked.now }
+    requires is_open { ForSome (F.told f.old).files (IsOpen files.now) }
+    ensures steps { OnOk result (ForSome (F.told f.old).files (λ from. Applies (F.told f.old) (F.told f.new) (mending_steps walked.now kept.now from))) }
+    ensures prefix { MakesPartOf (F.told f.old) (F.told f.new) (mending_steps walked.now kept.now) }
+
+    // With the walked and the kept nodes of the folder the list is mended in the end, and the same is kept and found at each word.
+    ensures mended { OnOk result (ForSome (F.told f.old).files (λ from. IsListScanned walked.now kept.now from → ForSome (F.told f.new).files (IsListMended from))) }
+    ensures stops { ForSome (F.told f.old).files (λ from. IsListScanned walked.now kept.now from → Passes (F.told f.old) (F.told f.new) (HoldsTheSame from)) }
+
+    ensures is_open { ForSome (F.told f.new).files (IsOpen files.now) }
+
+    // A folder that tells its files gives a damage only where these aren't its walked and kept nodes.
+    ensures damaged { IfDamaged result (IsListRepairDamage files.now (F.told f.new)) }
+    ensures untold { ForSome (F.told f.old).files (IsListScanned walked.now kept.now) → IfDamaged result (λ _. (F.told f.old).files ≡ None) }
+
+    ensures later { F.faults f.old ≤ F.faults f.new }
+    ensures device { IfDevice result (Rises (F.faults f.old) (F.faults f.new)) }
+{
+    complete(f, files)?;
+    end_at(f, files, last_of(walked))?;
+    remove_others(f, files, walked, kept)
+}
+
+// The last of some nodes.
+fn last_of(nodes: &[Addr]) -> Option<Addr>
+    ensures { result ≡ last_node_of nodes.now }
+{
+    nodes.last().copied()
+}

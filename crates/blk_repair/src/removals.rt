@@ -1,0 +1,67 @@
+// The nodes that are not kept go out of the use list.
+ghost use Rattle.std.specs.Prelude.{◌≡◌, ◌≤◌, None, OnOk, All, drop, true};
+ghost use Rattle.std.specs.Option.{ForSome};
+ghost use Rattle.blk_image.specs.Image.{Image};
+ghost use Rattle.blk_image.specs.Told.{Applies, MakesPartOf, Passes, Rises};
+ghost use Rattle.blk_io.specs.Faults.{IfDamaged, IfDevice};
+ghost use Rattle.blk_disk.specs.Open.{IsOpen};
+ghost use Rattle.blk_disk.specs.Tables.{is_node_among};
+ghost use Rattle.blk_repair_laws.specs.ListRepair.{HoldsTheSame, IsListMended, all_but, is_first, removal_steps};
+ghost use Rattle.blk_repair.specs.Damages.{IsRemovalsDamage};
+ghost use Rattle.blk_repair.specs.Removals.{IsEndedList};
+
+use blk_addr::Addr;
+use blk_disk::BlockFiles;
+use blk_io::{Fault, Folder};
+use blk_lru::remove;
+
+/// Takes the walked nodes that are not kept out of the use list, in its order. Those that are kept are some of the
+/// walked ones, in the same order.
+///
+/// A node goes out by an operation of its own, so by at most 17 folder calls; a list in which all nodes are kept takes
+/// none. A damage is one of `remove`.
+pub fn remove_others<F: Folder>(
+    f: &mut F,
+    files: &BlockFiles,
+    walked: &[Addr],
+    kept: &[Addr],
+) -> Result<(), Fault>
+    requires stand { All (λ w. is_node_among files.now w ≡ true) walked.now }
+    requires is_open { ForSome (F.told f.old).files (IsOpen files.now) }
+    ensures steps { OnOk result (ForSome (F.told f.old).files (λ from. Applies (F.told f.old) (F.told f.new) (removal_steps (all_but walked.now kept.now) from))) }
+    ensures prefix { MakesPartOf (F.told f.old) (F.told f.new) (λ from. removal_steps (all_but walked.now kept.now) from) }
+
+    // Where the list was ended with the walked nodes, it is mended in the end, and the same is kept and found at each word.
+    ensures mended { OnOk result (ForSome (F.told f.old).files (λ from. (entry : Image) → IsEndedList entry walked.now kept.now from → ForSome (F.told f.new).files (IsListMended entry))) }
+    ensures stops { ForSome (F.told f.old).files (λ from. (entry : Image) → IsEndedList entry walked.now kept.now from → Passes (F.told f.old) (F.told f.new) (HoldsTheSame entry)) }
+
+    ensures is_open { ForSome (F.told f.new).files (IsOpen files.now) }
+
+    // A folder that tells its files gives a damage only where the list wasn't ended with the walked nodes.
+    ensures damaged { IfDamaged result (IsRemovalsDamage files.now (F.told f.new)) }
+    ensures untold { ForSome (F.told f.old).files (λ from. (entry : Image) × IsEndedList entry walked.now kept.now from) → IfDamaged result (λ _. (F.told f.old).files ≡ None) }
+
+    ensures later { F.faults f.old ≤ F.faults f.new }
+    ensures device { IfDevice result (Rises (F.faults f.old) (F.faults f.new)) }
+{
+    let mut passed = 0;
+    for i in 0..walked.len() {
+        let node = walked[i];
+        if is_next(kept, passed, node) {
+            passed += 1;
+        } else {
+            remove(f, files, node)?;
+        }
+    }
+    Ok(())
+}
+
+// Whether a node is the one at a place among some.
+fn is_next(nodes: &[Addr], at: usize, node: Addr) -> bool
+    ensures { result ≡ is_first node (drop at nodes.now) }
+{
+    match nodes.get(at) {
+        Some(next) => node == *next,
+        None => false,
+    }
+}
