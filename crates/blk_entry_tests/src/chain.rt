@@ -9,6 +9,7 @@ use blk_disk::BlockFiles;
 use blk_index::bucket;
 use blk_io::{Damage, Failed, Fault, FileId, Folder, MemFolder, SilentFolder, StopFolder};
 use blk_record::{EntryMut, RecordMut, super_fast_hash};
+use blk_repair::mend_chain;
 use std::alloc::Global;
 use std::test::Fail;
 
@@ -463,4 +464,31 @@ fn stopped_linking(alloc: Global, steps: u64) -> Result<(bool, Three), Fault> {
 fn linking_takes_effect_at_one_word(rt: HostRuntime) {
     assert_eq!(rt; stopped_linking(rt.alloc(), 0), Ok((false, WITHOUT[2])));
     assert_eq!(rt; stopped_linking(rt.alloc(), 1), Ok((true, WHOLE)));
+}
+
+// Makes a bucket the chain of two records.
+fn mend(f: &mut Silent, number: u16, words: [u32; 2]) -> Result<(), Fault> {
+    let files = BlockFiles::load(f)?;
+    let Some(front) = files.entry(words[0]) else {
+        return Err(Fault::Device);
+    };
+    let Some(behind) = files.entry(words[1]) else {
+        return Err(Fault::Device);
+    };
+    mend_chain(f, &files, number, &[front, behind])
+}
+
+#[test]
+fn bucket_is_made_the_chain_of_its_kept_records(rt: HostRuntime) -> Result<(), Fail> {
+    let mut f = folder(rt.alloc())?;
+    for (word, key) in WORDS.iter().zip(KEYS) {
+        add(&mut f, *word, key, PLAIN)?;
+    }
+    let number = (super_fast_hash(KEYS[0]) % 65536) as u16;
+    assert_eq!(rt; mend(&mut f, number, [WORDS[2], WORDS[0]]), Ok(()));
+    assert_eq!(rt; bucket(&mut f, number), Ok(WORDS[2]));
+    assert!(rt; look(&mut f, KEYS[1], false)?.is_none());
+    assert!(rt; look(&mut f, KEYS[0], false)?.is_some());
+    assert!(rt; look(&mut f, KEYS[2], false)?.is_some());
+    Ok(())
 }

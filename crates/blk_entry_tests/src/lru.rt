@@ -12,6 +12,7 @@ use blk_io::{
 };
 use blk_lru::{after, before, complete, first, insert_front, last, pending, remove, touch};
 use blk_record::{IndexHead, NodeView, Record};
+use blk_repair::mend_list;
 use std::alloc::Global;
 use std::test::Fail;
 
@@ -653,5 +654,24 @@ fn each_call_on_a_folder_that_tells_its_files(rt: HostRuntime) -> Result<(), Fai
     let mut f = telling(rt.alloc())?;
     let words = [Some(zero), Some(one), Some(zero), Some(one)];
     assert_eq!(rt; each_call(&mut f), Ok(Some((words, 0))));
+    Ok(())
+}
+
+// Repairs the list of the three nodes, of which the first and the last are kept.
+fn mend(f: &mut Silent, files: &BlockFiles) -> Result<(), Fault> {
+    let Some((zero, one, two)) = three(files) else {
+        return Err(Fault::Device);
+    };
+    mend_list(f, files, &[two, one, zero], &[two, zero])
+}
+
+#[test]
+fn list_is_made_that_of_the_kept_nodes(rt: HostRuntime) -> Result<(), Fail> {
+    let [zero, _, two] = NODES;
+    let (mut f, files) = listing(rt.alloc(), &NODES)?;
+    write_word(&mut f, FileId::Index, IndexHead::TAILS, 0)?;
+    assert_eq!(rt; mend(&mut f, &files), Ok(()));
+    let mended = ([two, zero, 0, 2], [zero, 0, zero], [two, two, two]);
+    assert_eq!(rt; shown(&mut f), Ok(mended));
     Ok(())
 }
