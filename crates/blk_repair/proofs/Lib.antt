@@ -1,3 +1,4 @@
 pub mod Progress
 pub mod Choices
 pub mod ChainRuns
+pub mod SealRuns

@@ -1,2 +1,3 @@
 pub mod Damages
 pub mod Chains
+pub mod Seals
