@@ -2,3 +2,4 @@ pub mod Progress
 pub mod Choices
 pub mod ChainRuns
 pub mod SealRuns
+pub mod CounterRuns

@@ -1,3 +1,4 @@
 pub mod Damages
 pub mod Chains
 pub mod Seals
+pub mod Counters
