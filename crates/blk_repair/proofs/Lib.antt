@@ -3,3 +3,4 @@ pub mod Choices
 pub mod ChainRuns
 pub mod SealRuns
 pub mod CounterRuns
+pub mod MapRuns

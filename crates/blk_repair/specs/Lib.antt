@@ -2,3 +2,4 @@ pub mod Damages
 pub mod Chains
 pub mod Seals
 pub mod Counters
+pub mod Maps
