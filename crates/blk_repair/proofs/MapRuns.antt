@@ -1,5 +1,5 @@
 -- What is held while lengths, maps and counters are made those of what is kept, and in the end.
-use Rattle.std.proofs.Common.{◌≡◌, ℕ, ◌+◌, ◌*◌, ◌<◌, ◌≤◌, Bool, true, false, List, [], length, max, Option, Some, None, is_some, refl, sym, ◌∙◌, ap, subst, arith}
+use Rattle.std.proofs.Common.{◌≡◌, ℕ, ◌+◌, ◌*◌, ◌≤◌, Bool, true, false, List, [], length, max, Option, Some, None, is_some, refl, sym, ◌∙◌, ap, subst, arith}
 use Rattle.std.specs.Prelude.{All, ◌||◌, if◌then◌else◌}
 use Rattle.std.specs.List.{filter, flat_map}
 use Rattle.std.specs.Option.{ForSome, unwrap_or}
@@ -9,7 +9,7 @@ use Rattle.blk_image.specs.Told.{Told, Passes}
 use Rattle.blk_image.proofs.Footprints.{same_file_outside}
 use Rattle.blk_image.proofs.Runs.{passes_end, passes_weaker}
 use Rattle.blk_format.specs.Address.{block_place, block_size}
-use Rattle.blk_format.specs.BlockFiles.{is_among, kind_among, linked, linked_as, max_entries_in, stands_in}
+use Rattle.blk_format.specs.BlockFiles.{is_among, kind_among, linked_as, max_entries_in, stands_in}
 use Rattle.blk_format.specs.Claims.{is_in_file}
 use Rattle.blk_format.specs.Headers.{HasWholeIndex}
 use Rattle.blk_format.specs.Maps.{AreAllocations}
@@ -17,7 +17,6 @@ use Rattle.blk_format.proofs.LinkedHeads.{linked_head}
 use Rattle.blk_volume.specs.Found.{kept}
 use Rattle.blk_volume.specs.Loads.{Loaded}
 use Rattle.blk_volume.specs.Sound.{AreLongEnough, words_of}
-use Rattle.blk_addr.specs.Claims.{IsClaimsOf}
 use Rattle.blk_addr.specs.declared.claim_set.Claims.{Claims}
 use Rattle.blk_disk.specs.declared.tables.BlockFiles.{BlockFiles}
 use Rattle.blk_disk.specs.Growth.{size_as, whole_length}
@@ -25,7 +24,6 @@ use Rattle.blk_disk.specs.Tables.{Agrees, all_files, blocks_of, files_of, length
 use Rattle.blk_disk.proofs.Joined.{among_kinds}
 use Rattle.blk_alloc.specs.Mending.{PassesNeeded}
 use Rattle.blk_alloc.specs.Rebuilding.{AreFitted, AreItsAllocations, IsRebuilding, IsRebuilt, is_block_file, rebuilding_of, words_of_file}
-use Rattle.blk_repair_laws.specs.Mended.{HasMendedFiles}
 use Rattle.blk_repair_laws.specs.MendedChanges.{KeepsMendedLinks}
 use Rattle.blk_repair_laws.specs.MendedParts.{IsRebuiltFor}
 use Rattle.blk_repair_laws.proofs.MendedChanges.{links-grow, links-on}

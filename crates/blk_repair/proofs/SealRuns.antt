@@ -1,9 +1,9 @@
 -- How nodes and records of what is kept are sealed one after the other, and what is held on the way.
-use Rattle.std.proofs.Common.{◌≡◌, ℕ, ◌+◌, ◌<◌, ◌≤◌, Bool, true, false, List, [], ◌∷◌, length, drop, get_or, ◌⊎◌, inl, inr, refl, sym, ◌∙◌, ap, subst, arith}
-use Rattle.std.specs.Prelude.{All, map, if◌then◌else◌}
+use Rattle.std.proofs.Common.{◌≡◌, ℕ, ◌+◌, ◌<◌, ◌≤◌, Bool, true, false, List, [], ◌∷◌, length, drop, get_or, ◌⊎◌, ⊎_elim, inl, inr, refl, sym, ◌∙◌, ap, subst, arith}
+use Rattle.std.specs.Prelude.{All, Contains, map, if◌then◌else◌}
 use Rattle.std.specs.Option.{ForSome}
 use Rattle.std.proofs.lemmas.List.{drop_more, drop_all}
-use Rattle.std.proofs.lemmas.List.Elements.{All-cons, All-head, All-nil, All-tail, All-weaker}
+use Rattle.std.proofs.lemmas.List.Elements.{All-cons, All-contains, All-head, All-nil, All-tail, All-weaker}
 use Rattle.blk_image.specs.Bytes.{word_bytes}
 use Rattle.blk_image.specs.Image.{Image, Index, Block}
 use Rattle.blk_image.specs.Steps.{TrailStep, Word, after, applied, word_step}
@@ -29,13 +29,16 @@ use Rattle.blk_disk.specs.Open.{IsOpen}
 use Rattle.blk_disk.proofs.Agreeing.{agrees_still}
 use Rattle.blk_repair_laws.specs.ChainRepair.{is_kept_record}
 use Rattle.blk_repair_laws.specs.MendedChanges.{KeepsMendedLinks}
-use Rattle.blk_repair_laws.specs.RecordSeals.{IsSealedAt}
+use Rattle.blk_repair_laws.specs.RecordSeals.{IsSealedAt, KeepsRecordsSealed}
 use Rattle.blk_repair_laws.proofs.KeptRecords.{kept-nodes-check, kept-records-check}
 use Rattle.blk_repair_laws.proofs.MendedChanges.{links-on, nodes-sealed, records-sealed}
 use Rattle.blk_repair_laws.proofs.MendedParts.{files-mended}
 use Rattle.blk_repair_laws.proofs.RecordSeals.{keeps-more, keeps-none, record-fits, records-behind, seals-made, seals-stand}
 use Rattle.blk_repair.specs.Damages.{AllCheck}
-use Rattle.blk_repair.specs.Seals.{AreSealedNow, HasMendedLinksOf, IsNextSealed, IsOfKept, seals_steps}
+use Rattle.blk_volume.specs.Found.{kept}
+use Rattle.blk_repair_laws.specs.Mended.{AreKeptSealed}
+use Rattle.blk_repair_laws.proofs.Seals as laws
+use Rattle.blk_repair.specs.Seals.{AreOthersSealed, AreSealedNow, HasMendedLinksOf, IsNextSealed, IsOfKept, seals_steps}
 use Rattle.blk_repair.proofs.Progress.{Leads}
 
 -- an image of which a word is written can be written still
@@ -131,6 +134,20 @@ one-along entry image w holds may =
 one-holds : (entry image : Image) (w : ℕ) → HasMendedLinksOf entry image → MayBeSealed image w → (between : Image) → IsMidUpdate image w [] between × IsWritable between → HasMendedLinksOf entry between
 one-holds entry image w holds may between both = record { writable = both.1; keeps = links-on entry image between holds.keeps (may.keeps between both.0) }
 
+-- where each record of what is kept is sealed, what is kept is
+kept-sealed : (entry from image : Image) (words : List ℕ) → HasMendedLinksOf entry from → HasMendedLinksOf entry image → KeepsRecordsSealed from image → All (IsSealedAt image) words → AreOthersSealed entry words from → AreKeptSealed image
+kept-sealed entry from image words was is seals sealed others = laws.all-sealed image is.writable (λ node there. one node (inl (now node there))) (λ w there. one w (inr (now-record w there))) where
+  now : (node : ℕ) → is_among (map (λ k. k.node) (kept image)) node ≡ true → is_among (map (λ k. k.node) (kept entry)) node ≡ true
+  now node there = subst (λ (ks : List Loaded). is_among (map (λ k. k.node) ks) node ≡ true) is.keeps.kept_same there
+
+  now-record : (w : ℕ) → is_kept_record (kept image) w ≡ true → is_kept_record (kept entry) w ≡ true
+  now-record w there = subst (λ (ks : List Loaded). is_kept_record ks w ≡ true) is.keeps.kept_same there
+
+  one : (w : ℕ) → IsOfKept entry w → IsSealedAt image w
+  one w of =
+      let may : MayBeSealed from w = one-may entry from w was of in
+      ⊎_elim (λ (before : IsSealedAt from w). seals.sealed w may.stands may.begins before) (λ (among : Contains words w). All-contains (IsSealedAt image) words w sealed among) (others w of)
+
 -- it is sealed, and the links stay mended at each word
 one-sealed : (entry image : Image) (w : ℕ) → HasMendedLinksOf entry image → IsOfKept entry w → Along (HasMendedLinksOf entry) image (seal_steps image w) × AreSealedNow entry image (w ∷ []) (after (seal_steps image w) image)
 one-sealed entry image w holds of =
@@ -141,24 +158,27 @@ one-sealed entry image w holds of =
     let last : both (after steps image) = until_last both both steps image all in
     let done = sealed_after w image (record-fits image w may.stands may.begins) holds.writable.bytes in
     let outside : SameOutside (record_range w) image (after steps image) = last.0.outside in
+    let sealed : All (IsSealedAt (after steps image)) (w ∷ []) = All-cons (IsSealedAt (after steps image)) w [] (seals-made image (after steps image) w done) (All-nil (IsSealedAt (after steps image))) in
+    let seals : KeepsRecordsSealed image (after steps image) = record {
+      stands = (updates-inside image (after steps image) w [] may.stands may.begins last.0).stands;
+      sealed = λ u stands begins was. seals-stand image (after steps image) w u may.stands may.begins stands begins done outside was;
+    } in
     let files = files-mended (record_range w) image (after steps image) (records-behind w) outside holds.keeps.mended (may.keeps (after steps image) last.0) in (
       until_weaker2 both (HasMendedLinksOf entry) both (HasMendedLinksOf entry) steps image (one-holds entry image w holds may) (one-holds entry image w holds may) all,
       record {
         holds = one-holds entry image w holds may (after steps image) last;
-        sealed = All-cons (IsSealedAt (after steps image)) w [] (seals-made image (after steps image) w done) (All-nil (IsSealedAt (after steps image)));
-        seals = record {
-          stands = (updates-inside image (after steps image) w [] may.stands may.begins last.0).stands;
-          sealed = λ u stands begins was. seals-stand image (after steps image) w u may.stands may.begins stands begins done outside was;
-        };
+        sealed = sealed;
+        seals = seals;
         files = files.0;
         only = files.1;
+        all = kept-sealed entry image (after steps image) (w ∷ []) holds (one-holds entry image w holds may (after steps image) last) seals sealed;
       },
     )
 
 -- All of them.
 
 pub all-sealed : (entry image : Image) (words : List ℕ) → HasMendedLinksOf entry image → All (IsOfKept entry) words → Along (HasMendedLinksOf entry) image (seals_steps words image) × AreSealedNow entry image words (after (seals_steps words image) image)
-all-sealed entry image [] holds of = (holds, record { holds = holds; sealed = All-nil (IsSealedAt image); seals = keeps-none image; files = λ files. files; only = λ only. only })
+all-sealed entry image [] holds of = (holds, record { holds = holds; sealed = All-nil (IsSealedAt image); seals = keeps-none image; files = λ files. files; only = λ only. only; all = kept-sealed entry image image [] holds holds (keeps-none image) (All-nil (IsSealedAt image)) })
 all-sealed entry image (w ∷ words) holds of =
     let H : Image → Type 0 = HasMendedLinksOf entry in
     let first : List TrailStep = seal_steps image w in
@@ -166,16 +186,19 @@ all-sealed entry image (w ∷ words) holds of =
     let rest : List TrailStep = seals_steps words between in
     let one = one-sealed entry image w holds (All-head (IsOfKept entry) w words of) in
     let more = all-sealed entry between words one.1.holds (All-tail (IsOfKept entry) w words of) in
-    let may : MayBeSealed image w = one-may entry image w holds (All-head (IsOfKept entry) w words of) in (
+    let may : MayBeSealed image w = one-may entry image w holds (All-head (IsOfKept entry) w words of) in
+    let sealed : All (IsSealedAt (after rest between)) (w ∷ words) =
+    All-cons (IsSealedAt (after rest between)) w words (more.1.seals.sealed w (one.1.seals.stands w ∙ may.stands) may.begins (All-head (IsSealedAt between) w [] one.1.sealed)) more.1.sealed in
+    let seals : KeepsRecordsSealed image (after rest between) = keeps-more image between (after rest between) one.1.seals more.1.seals in (
       until-append H H first rest image one.0 more.0,
       subst (AreSealedNow entry image (w ∷ words)) (sym (after-append first rest image))
           (record {
             holds = more.1.holds;
-            sealed = All-cons (IsSealedAt (after rest between)) w words
-                (more.1.seals.sealed w (one.1.seals.stands w ∙ may.stands) may.begins (All-head (IsSealedAt between) w [] one.1.sealed)) more.1.sealed;
-            seals = keeps-more image between (after rest between) one.1.seals more.1.seals;
+            sealed = sealed;
+            seals = seals;
             files = λ files. more.1.files (one.1.files files);
             only = λ only. more.1.only (one.1.only only);
+            all = kept-sealed entry image (after rest between) (w ∷ words) holds more.1.holds seals sealed;
           }),
     )
 

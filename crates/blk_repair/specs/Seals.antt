@@ -1,5 +1,5 @@
 -- Nodes and records that are sealed, while the links stay mended.
-use Rattle.std.specs.Prelude.{ℕ, ◌≡◌, ◌⊎◌, List, [], ◌∷◌, ◌++◌, All, map, true}
+use Rattle.std.specs.Prelude.{ℕ, ◌≡◌, ◌⊎◌, List, [], ◌∷◌, ◌++◌, All, Contains, map, true}
 use Rattle.blk_image.specs.Image.{Image}
 use Rattle.blk_image.specs.Steps.{TrailStep, after}
 use Rattle.blk_image.specs.Told.{Told}
@@ -12,7 +12,7 @@ use Rattle.blk_disk.specs.declared.tables.BlockFiles.{BlockFiles}
 use Rattle.blk_disk.specs.Damages.{IsFailedRecord}
 use Rattle.blk_disk.specs.Tables.{stands_among}
 use Rattle.blk_repair_laws.specs.ChainRepair.{is_kept_record}
-use Rattle.blk_repair_laws.specs.Mended.{HasMendedFiles, HasOnlyKeptFiles}
+use Rattle.blk_repair_laws.specs.Mended.{AreKeptSealed, HasMendedFiles, HasOnlyKeptFiles}
 use Rattle.blk_repair_laws.specs.MendedChanges.{KeepsMendedLinks}
 use Rattle.blk_repair_laws.specs.RecordSeals.{IsSealedAt, KeepsRecordsSealed}
 
@@ -40,13 +40,18 @@ pub record IsNextSealed (entry : Image) (words : List ℕ) (image : Image) : Typ
   pub holds : HasMendedLinksOf entry image
   pub are_kept : All (IsOfKept entry) words
 
--- some nodes and records are sealed, what was sealed is so still, and files that were mended are mended still
+-- each node and each record of what is kept is sealed, or is one of these
+abbrev pub AreOthersSealed : Image → List ℕ → Image → Type 0
+AreOthersSealed entry words image = (w : ℕ) → IsOfKept entry w → IsSealedAt image w ⊎ Contains words w
+
+-- some nodes and records are sealed, so all are where the others were; what was sealed is so still, and files that were mended are mended still
 pub record AreSealedNow (entry from : Image) (words : List ℕ) (image : Image) : Type 0 where
   pub holds : HasMendedLinksOf entry image
   pub sealed : All (IsSealedAt image) words
   pub seals : KeepsRecordsSealed from image
   pub files : HasMendedFiles from → HasMendedFiles image
   pub only : HasOnlyKeptFiles from → HasOnlyKeptFiles image
+  pub all : AreOthersSealed entry words from → AreKeptSealed image
 
 -- a node or a record that stands was read whole: its bytes are too few, or it doesn't check
 pub record IsWrongSealed (files : BlockFiles) (told : Told) (damage : Damage) : Type 0 where

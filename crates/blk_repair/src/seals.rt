@@ -21,7 +21,7 @@ pub fn seal_records<F: Folder>(f: &mut F, files: &BlockFiles, records: &[Addr]) 
     ensures steps { OnOk result (ForSome (F.told f.old).files (λ from. Applies (F.told f.old) (F.told f.new) (seals_steps records.now from))) }
     ensures prefix { MakesPartOf (F.told f.old) (F.told f.new) (λ from. seals_steps records.now from) }
 
-    // Where the links are mended and these nodes and records are kept, the links stay so at each word, with the same kept and found; in the end these are sealed, and what was sealed or mended of the files is so still.
+    // Where the links are mended and these nodes and records are kept, the links stay so at each word, with the same kept and found; in the end these are sealed, so all that is kept is where the others were, and what was sealed or mended of the files is so still.
     ensures sealed { OnOk result (ForSome (F.told f.old).files (λ from. (entry : Image) → IsNextSealed entry records.now from → ForSome (F.told f.new).files (AreSealedNow entry from records.now))) }
     ensures stops { ForSome (F.told f.old).files (λ from. (entry : Image) → IsNextSealed entry records.now from → Passes (F.told f.old) (F.told f.new) (HasMendedLinksOf entry)) }
 

@@ -1,6 +1,3 @@
-use Rattle.std.proofs.Common.{◌≡◌, None, ap, sym, subst, ◌∙◌}
-use Rattle.std.specs.Option.{ForSome}
-use Rattle.blk_image.specs.Image.{Image}
 use Rattle.blk_format.specs.Headers.{HasWholeIndex}
 use Rattle.blk_io.proofs.Carried.{told_at_end}
 use Rattle.blk_disk.specs.Tables.{all_files}
