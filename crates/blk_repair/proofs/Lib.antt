@@ -3,3 +3,6 @@ pub mod Choices
 pub mod ChainRuns
 pub mod RemovalRuns
 pub mod ListRuns
+pub mod SealRuns
+pub mod CounterRuns
+pub mod MapRuns

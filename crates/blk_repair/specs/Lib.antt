@@ -1,3 +1,6 @@
 pub mod Damages
 pub mod Chains
 pub mod Removals
+pub mod Seals
+pub mod Counters
+pub mod Maps

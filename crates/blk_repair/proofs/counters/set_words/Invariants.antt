@@ -1,0 +1,13 @@
+use Rattle.std.proofs.Common.{drop, ◌≤◌}
+use Rattle.std.specs.Option.{ForSome}
+use Rattle.blk_format.specs.Headers.{HasWholeIndex}
+use Rattle.blk_repair.specs.Counters.{index_words_steps}
+use Rattle.blk_repair.proofs.Progress.{Progress}
+use Rattle.blk_repair.proofs.counters.set_words.Given as goal
+
+abbrev pub invariant-loop-word : goal.invariant-loop-word
+invariant-loop-word g l = record {
+  progress : Progress (g.F.Folder.told l.fn.f) (g.F.Folder.told l.f) (index_words_steps l.words) (index_words_steps (drop l.word-index l.words));
+  complete : ForSome (g.F.Folder.told l.f).files HasWholeIndex;
+  later : g.F.Folder.faults l.fn.f ≤ g.F.Folder.faults l.f;
+}

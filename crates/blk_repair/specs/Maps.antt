@@ -1,0 +1,21 @@
+-- The block files that are mended behind the links.
+use Rattle.std.specs.List.{flat_map}
+use Rattle.blk_image.specs.Image.{Image}
+use Rattle.blk_volume.specs.Found.{kept}
+use Rattle.blk_volume.specs.Sound.{words_of}
+use Rattle.blk_addr.specs.Claims.{IsClaimsOf}
+use Rattle.blk_addr.specs.declared.claim_set.Claims.{Claims}
+use Rattle.blk_repair_laws.specs.Mended.{HasMendedFiles}
+use Rattle.blk_repair_laws.specs.RecordSeals.{StaysSealed}
+use Rattle.blk_repair.specs.Seals.{HasMendedLinksOf}
+
+-- the links are mended, and the claims are those of the address words of what is kept
+pub record IsNextRebuilt (entry : Image) (claims : Claims) (image : Image) : Type 0 where
+  pub holds : HasMendedLinksOf entry image
+  pub claimed : IsClaimsOf claims (flat_map words_of (kept entry))
+
+-- the lengths, the maps and the counters are mended, and what was sealed is so still
+pub record AreFilesMended (entry from image : Image) : Type 0 where
+  pub holds : HasMendedLinksOf entry image
+  pub files : HasMendedFiles image
+  pub seals : StaysSealed from image

@@ -1,0 +1,49 @@
+// The lengths, the maps and the counters of the block files that are made those of what is kept.
+ghost use Rattle.std.specs.Prelude.{◌≡◌, ◌≤◌, ℕ, None, OnOk};
+ghost use Rattle.std.specs.Option.{ForSome};
+ghost use Rattle.blk_image.specs.Image.{Image};
+ghost use Rattle.blk_image.specs.Told.{Passes, Rises, Stays};
+ghost use Rattle.blk_io.specs.Faults.{IfDamaged, IfDevice};
+ghost use Rattle.blk_disk.specs.Open.{IsOpen};
+ghost use Rattle.blk_disk.specs.Tables.{all_files, files_of};
+ghost use Rattle.blk_alloc.specs.Extending.{KeepsStanding};
+ghost use Rattle.blk_alloc.specs.Rebuilding.{AreRight, IsShortReadOf};
+ghost use Rattle.blk_repair_laws.specs.MendedChanges.{KeepsMendedLinks};
+ghost use Rattle.blk_repair.specs.Maps.{AreFilesMended, IsNextRebuilt};
+
+use blk_addr::Claims;
+use blk_alloc::rebuild;
+use blk_disk::BlockFiles;
+use blk_io::{Fault, Folder};
+
+/// Makes the lengths, the maps and the counters of the linked block files those of what is kept, whose addresses were
+/// added to the claims.
+///
+/// A word is written only where it differs, and a length only where the file is too short. A damage is a read of a
+/// header that gave too few bytes, which needs a folder that tells nothing.
+pub fn mend_files<F: Folder>(
+    f: &mut F,
+    files: &mut BlockFiles,
+    claims: &Claims,
+) -> Result<(), Fault>
+    requires is_open { ForSome (F.told f.old).files (IsOpen files.old) }
+    // In any case the same files are linked, and what stood still does.
+    ensures all { (kind : ℕ) → files_of files.new kind ≡ files_of files.old kind }
+    ensures keeps { KeepsStanding files.old files.new }
+
+    // Where the links are mended they stay so at each word, with the same kept and found; where the claims are those of what is kept the files are mended in the end, and what was sealed is so still.
+    ensures mended { OnOk result (ForSome (F.told f.old).files (λ from. (entry : Image) → IsNextRebuilt entry claims.now from → ForSome (F.told f.new).files (AreFilesMended entry from))) }
+    ensures stops { ForSome (F.told f.old).files (λ from. (entry : Image) → KeepsMendedLinks entry from → Passes (F.told f.old) (F.told f.new) (KeepsMendedLinks entry)) }
+    ensures is_open { ForSome (F.told f.new).files (IsOpen files.new) }
+
+    // Where each file has all its blocks, and its map and its counters are right, no step is made.
+    ensures clean { ForSome (F.told f.old).files (λ from. AreRight claims.now files.old from → Stays (F.told f.old) (F.told f.new)) }
+    ensures damaged { IfDamaged result (IsShortReadOf (F.told f.new) (all_files files.old)) }
+    ensures untold { IfDamaged result (λ _. (F.told f.old).files ≡ None) }
+    ensures silent { (F.told f.old).files ≡ None → (F.told f.new).files ≡ None }
+    ensures later { F.faults f.old ≤ F.faults f.new }
+    ensures device { IfDevice result (Rises (F.faults f.old) (F.faults f.new)) }
+{
+    rebuild(f, files, claims)?;
+    Ok(())
+}

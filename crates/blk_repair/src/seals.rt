@@ -1,0 +1,41 @@
+// Nodes and records that are sealed.
+ghost use Rattle.std.specs.Prelude.{◌≡◌, ◌≤◌, None, OnOk, All};
+ghost use Rattle.std.specs.Option.{ForSome};
+ghost use Rattle.blk_image.specs.Image.{Image};
+ghost use Rattle.blk_image.specs.Told.{Applies, MakesPartOf, Passes, Rises};
+ghost use Rattle.blk_io.specs.Faults.{IfDamaged, IfDevice};
+ghost use Rattle.blk_disk.specs.Open.{IsOpen};
+ghost use Rattle.blk_repair.specs.Seals.{AreSealedNow, CanBeSealed, HasMendedLinksOf, IsNextSealed, IsWrongSealed, seals_steps};
+
+use blk_addr::Addr;
+use blk_disk::BlockFiles;
+use blk_io::{Fault, Folder};
+
+/// Seals some nodes and records: where the seal of one isn't the hash of the bytes before it, it becomes that hash.
+///
+/// A seal that is the hash already isn't written. One that is neither 0 nor the hash is a damage, and so are too few
+/// bytes. This takes at most two folder calls for each of them.
+pub fn seal_records<F: Folder>(f: &mut F, files: &BlockFiles, records: &[Addr]) -> Result<(), Fault>
+    requires stand { All (CanBeSealed files.now) records.now }
+    requires is_open { ForSome (F.told f.old).files (IsOpen files.now) }
+    ensures steps { OnOk result (ForSome (F.told f.old).files (λ from. Applies (F.told f.old) (F.told f.new) (seals_steps records.now from))) }
+    ensures prefix { MakesPartOf (F.told f.old) (F.told f.new) (λ from. seals_steps records.now from) }
+
+    // Where the links are mended and these nodes and records are kept, the links stay so at each word, with the same kept and found; in the end these are sealed, so all that is kept is where the others were, and what was sealed or mended of the files is so still.
+    ensures sealed { OnOk result (ForSome (F.told f.old).files (λ from. (entry : Image) → IsNextSealed entry records.now from → ForSome (F.told f.new).files (AreSealedNow entry from records.now))) }
+    ensures stops { ForSome (F.told f.old).files (λ from. (entry : Image) → IsNextSealed entry records.now from → Passes (F.told f.old) (F.told f.new) (HasMendedLinksOf entry)) }
+
+    ensures is_open { ForSome (F.told f.new).files (IsOpen files.now) }
+
+    // A folder that tells its files gives a damage only where not all of them are kept.
+    ensures damaged { IfDamaged result (IsWrongSealed files.now (F.told f.new)) }
+    ensures untold { ForSome (F.told f.old).files (λ from. (entry : Image) × IsNextSealed entry records.now from) → IfDamaged result (λ _. (F.told f.old).files ≡ None) }
+
+    ensures later { F.faults f.old ≤ F.faults f.new }
+    ensures device { IfDevice result (Rises (F.faults f.old) (F.faults f.new)) }
+{
+    for record in records {
+        files.seal(f, *record)?;
+    }
+    Ok(())
+}
