@@ -3,8 +3,8 @@
 
 ghost use Rattle.blk_kept_calls.specs.ExternalFiles.{CreationsAdd, CreationsFindTheSame, DeletionsFindTheSame, DeletionsRemove, KeptStatesHaveFreeNumbers};
 ghost use Rattle.blk_kept_calls.specs.Lists.{InsertsAreDone, InsertsArePartly, ListedNodesAreInTheList, NewNodesCanBeInserted, RemovalsAreDone, RemovalsArePartly, TouchesAreDone, TouchesArePartly};
-ghost use Rattle.blk_kept_calls.specs.Marks.{KeptNodesCheck, LinksAreInFront, LinksComeInFront, MarksAreBeingSet, MarksAreSet, NodesCheckAsRecords};
-ghost use Rattle.blk_kept_calls.specs.Entries.{NewEntriesChangeTheirOwn, WritingEntriesKeepsStates};
+ghost use Rattle.blk_kept_calls.specs.Marks.{KeptNodesCheck, LinksAreInFront, LinksComeInFront, MarksAreBeingSet, MarksAreSet, NewRecordsCanBeLinked, NodesCheckAsRecords};
+ghost use Rattle.blk_kept_calls.specs.Entries.{NewEntriesChangeTheirOwn, WritingEntriesKeepsStates, WrittenEntriesAreNew};
 ghost use Rattle.blk_kept_calls.specs.Chains.{KeptRecordsCanBeUnlinked, UnlinkedRecordsAreOut};
 ghost use Rattle.blk_kept_calls.specs.Blocks.{AllocationsAdd, AllocationsStayWhole, FreesRemove, FreesStayWhole, KeptFilesAreCounted, WholeFoldersFindTheSame};
 
@@ -59,16 +59,18 @@ pub fn dirty_words_are_set()
     ensures set { MarksAreSet }
 {}
 
-/// At each word of a link in front nothing has changed, or the record is linked, and in the end it is.
+/// Once its node is in the list, the record of a new entry can be linked, as `link_front` asks. At each word of a link in front nothing has changed, or the record is linked, and in the end it is.
 pub fn records_are_linked()
+    ensures asked { NewRecordsCanBeLinked }
     ensures each { LinksComeInFront }
     ensures linked { LinksAreInFront }
 {}
 
-/// At each word of the writing of a new entry nothing but what its words name changes, so each state that is kept with them unlinked is kept.
+/// At each word of the writing of a new entry nothing but what its words name changes, so each state that is kept with them unlinked is kept; once it is written, it is a new entry of that state.
 pub fn new_entries_are_written()
     ensures own { NewEntriesChangeTheirOwn }
     ensures kept { WritingEntriesKeepsStates }
+    ensures new { WrittenEntriesAreNew }
 {}
 
 /// The record of an item that is out of the list can be unlinked, as `unlink` asks; once it is, it is out of its chain, and all others are in theirs.
