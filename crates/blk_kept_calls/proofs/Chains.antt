@@ -32,11 +32,13 @@ use Rattle.blk_laws.proofs.claims.Covers.{out-range}
 use Rattle.blk_laws.proofs.claims.Inside.{record-changes}
 use Rattle.blk_chain.specs.Unlinking.{BeforeChecks, CanBeUnlinked, IsStillLinked, IsUnlinked, StandsBehind, next_record, without_record, words_to_unlink}
 use Rattle.blk_chain.proofs.Pairs.{chain-words}
+use Rattle.blk_kept.specs.Arranging.{LeavesFiles}
 use Rattle.blk_kept.specs.Keeping.{KeepsUncounted}
 use Rattle.blk_kept.specs.RemovalLaws.{IsRemovalDone, IsUnlinking, chains_without}
 use Rattle.blk_kept.proofs.GoingOut.{chain-same}
-use Rattle.blk_kept.proofs.Links.{table-links}
-use Rattle.blk_kept_calls.specs.Chains.{KeptRecordsCanBeUnlinked, UnlinkedRecordsAreOut, UnlinkingsChangeLinks}
+use Rattle.blk_kept.proofs.AtNodes.{updates-change}
+use Rattle.blk_kept.proofs.Links.{table-files, table-links}
+use Rattle.blk_kept_calls.specs.Chains.{KeptRecordsCanBeUnlinked, UnlinkedRecordsAreOut, UnlinkedRecordsLeaveFiles, UnlinkingsChangeLinks}
 
 -- ---- what a walk reaches where it ends at 0
 
@@ -236,6 +238,22 @@ records-out state layout unlinked from between image node was before prefix suff
 } where
   known : (v : ℕ) → before ≡ Some v → IsInBucket between (bucket_at between was.contents) v
   known v is = subst (λ (o : Option ℕ). IsInBucket between (bucket_at between was.contents) (in_front o was.contents)) is (first-in state layout unlinked from between node was before prefix suffix k done stands)
+
+-- ---- the files
+
+record-leaves : (from image : Image) (w : ℕ) (fields : RecordFields) → (store_of from).entry w ≡ Some fields → SameOutside (record_range w) from image → LeavesFiles from image
+record-leaves from image w fields here outside =
+    let st = standing-parts from blocks_256 w (core-standing from w fields here) in
+    let only = updates-change from image w st.0 (inr st.1) outside in
+    record { headers = only.headers; session = only.session; well_formed = only.well_formed }
+
+leaves-by : (from image : Image) (w : ℕ) (before : Option ℕ) → IsInBucket from (bucket_at from w) (in_front before w) → IsUnlinked from w before image → LeavesFiles from image
+unfolding in_front
+leaves-by from image w None i u = table-files from image (bucket_at from w) u.keeps.outside u.keeps.well_formed
+leaves-by from image w (Some v) i u = record-leaves from image v i.fields i.here u.keeps.outside
+
+pub records-leave : UnlinkedRecordsLeaveFiles
+records-leave state layout unlinked from between image node was before prefix suffix k done stands u = leaves-by between image was.contents before (first-in state layout unlinked from between node was before prefix suffix k done stands) u
 
 -- ---- what the call asks
 

@@ -8,6 +8,7 @@ use Rattle.blk_volume.specs.Chains.{bucket_at}
 use Rattle.blk_volume.specs.Layout.{Layout}
 use Rattle.blk_volume.specs.Loads.{Loaded}
 use Rattle.blk_chain.specs.Unlinking.{BeforeChecks, CanBeUnlinked, IsStillLinked, IsUnlinked, StandsBehind, words_to_unlink}
+use Rattle.blk_kept.specs.Arranging.{LeavesFiles}
 use Rattle.blk_kept.specs.Keeping.{KeepsUncounted}
 use Rattle.blk_kept.specs.RemovalLaws.{IsRemovalDone, IsUnlinking, chains_without}
 
@@ -27,6 +28,15 @@ UnlinkedRecordsAreOut =
     → StandsBehind (layout.chains (bucket_at between was.contents)) was.contents before prefix suffix
     → IsUnlinked between was.contents before image
     → IsUnlinking layout (chains_without layout was.contents) between image
+
+-- and the files are left as they stand
+abbrev pub UnlinkedRecordsLeaveFiles : Type 0
+UnlinkedRecordsLeaveFiles =
+    (state : State) (layout : Layout) (unlinked : List ℕ) (from between image : Image) (node : ℕ) (was : Loaded) (before : Option ℕ) (prefix suffix : List ℕ)
+    → KeepsUncounted state layout unlinked from → IsRemovalDone from node between
+    → StandsBehind (layout.chains (bucket_at between was.contents)) was.contents before prefix suffix
+    → IsUnlinked between was.contents before image
+    → LeavesFiles between image
 
 -- at each word of it, whatever the seal of the record before is, the record is in its chain or out of it, and all else is in its own
 abbrev pub UnlinkingsChangeLinks : Type 0

@@ -5,7 +5,7 @@ ghost use Rattle.blk_kept_calls.specs.ExternalFiles.{CreationsAdd, CreationsFind
 ghost use Rattle.blk_kept_calls.specs.Lists.{InsertsAreDone, InsertsArePartly, ListedNodesAreInTheList, NewNodesCanBeInserted, RemovalsAreDone, RemovalsArePartly, TouchesAreDone, TouchesArePartly};
 ghost use Rattle.blk_kept_calls.specs.Marks.{KeptNodesCheck, LinksAreInFront, LinksComeInFront, MarksAreBeingSet, MarksAreSet, NewRecordsCanBeLinked, NodesCheckAsRecords};
 ghost use Rattle.blk_kept_calls.specs.Entries.{NewEntriesChangeTheirOwn, WritingEntriesKeepsStates, WrittenEntriesAreNew};
-ghost use Rattle.blk_kept_calls.specs.Chains.{KeptRecordsCanBeUnlinked, UnlinkedRecordsAreOut, UnlinkingsChangeLinks};
+ghost use Rattle.blk_kept_calls.specs.Chains.{KeptRecordsCanBeUnlinked, UnlinkedRecordsAreOut, UnlinkedRecordsLeaveFiles, UnlinkingsChangeLinks};
 ghost use Rattle.blk_kept_calls.specs.Blocks.{AllocationsAdd, AllocationsStayWhole, FreesRemove, FreesStayWhole, KeptFilesAreCounted, WholeFoldersFindTheSame};
 
 /// A folder that stays whole at each word of a call, as in an allocation and a free, has what was at rest found at each, whatever is unlinked.
@@ -73,9 +73,10 @@ pub fn new_entries_are_written()
     ensures new { WrittenEntriesAreNew }
 {}
 
-/// The record of an item that is out of the list can be unlinked, as `unlink` asks. At each word of it the record is in its chain or out of it; once it is unlinked, it is out of its chain, and all others are in theirs.
+/// The record of an item that is out of the list can be unlinked, as `unlink` asks. At each word of it the record is in its chain or out of it; once it is unlinked, it is out of its chain, all others are in theirs, and the files are left.
 pub fn records_are_unlinked()
     ensures asked { KeptRecordsCanBeUnlinked }
     ensures each { UnlinkingsChangeLinks }
     ensures out { UnlinkedRecordsAreOut }
+    ensures leaves { UnlinkedRecordsLeaveFiles }
 {}
