@@ -1,4 +1,4 @@
-//! The tests of the crates of entries: records and keys, the use list, chains, the reading half of the audit.
+//! The tests of the crates of entries: records and keys, the use list, chains, streams, the reading half of the audit.
 #![tactic(auto)]
 
 #[cfg(test)]
@@ -11,3 +11,5 @@ mod chain_told;
 mod entry;
 #[cfg(test)]
 mod lru;
+#[cfg(test)]
+mod stream;

@@ -28,10 +28,10 @@ before true p n i below = grind (arith, nat_tests)
 before false p n i below = refl
 
 -- neither a header nor the index nor a length is touched
-record SparesAll (footprint : Footprint) : Type 0 where
-  headers : (m i : ℕ) → i < 8192 → footprint.bytes (Block m) i ≡ false
-  index : (i : ℕ) → footprint.bytes Index i ≡ false
-  sizes : (file : File) → footprint.sizes file ≡ false
+pub record SparesAll (footprint : Footprint) : Type 0 where
+  pub headers : (m i : ℕ) → i < 8192 → footprint.bytes (Block m) i ≡ false
+  pub index : (i : ℕ) → footprint.bytes Index i ≡ false
+  pub sizes : (file : File) → footprint.sizes file ≡ false
 
 both-spare : (one other : Footprint) → SparesAll one → SparesAll other → SparesAll (either one other)
 both-spare one other a b = record {
@@ -57,7 +57,7 @@ long-spares : (key : Option ℕ) (n : ℕ) → SparesAll (long_range key n)
 long-spares None n = record { headers = λ m i small. refl; index = λ i. refl; sizes = λ file. refl }
 long-spares (Some w) n = data-spares w (n + 1)
 
-places-spare : (new : NewEntry) (n : ℕ) → SparesAll (places_of new n)
+pub places-spare : (new : NewEntry) (n : ℕ) → SparesAll (places_of new n)
 unfolding places_of
 places-spare new n = both-spare (range (Block (file_selector new.entry)) (place new.entry) (byte_size new.entry)) (either (record_range new.node) (long_range new.long_key n)) (blocks-spare new.entry (byte_size new.entry))
     (both-spare (record_range new.node) (long_range new.long_key n) (blocks-spare new.node (record_size new.node)) (long-spares new.long_key n))

@@ -6,3 +6,4 @@ pub mod Lists
 pub mod Marks
 pub mod Entries
 pub mod Chains
+pub mod NewEntries

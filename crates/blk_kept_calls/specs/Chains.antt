@@ -1,11 +1,14 @@
 -- A record that goes out of its chain, as `unlink` promises it, and what the laws on a kept state ask of that.
-use Rattle.std.specs.Prelude.{◌≡◌, ℕ, List, Option, Some}
+use Rattle.std.specs.Prelude.{◌⊎◌, ℕ, List, Option}
+use Rattle.std.specs.Option.{ForSome}
 use Rattle.blk_image.specs.Image.{AreBytes, Image}
+use Rattle.blk_image.specs.Told.{Commits, Passes, Told}
 use Rattle.blk_model.specs.State.{State}
 use Rattle.blk_volume.specs.Chains.{bucket_at}
 use Rattle.blk_volume.specs.Layout.{Layout}
 use Rattle.blk_volume.specs.Loads.{Loaded}
-use Rattle.blk_chain.specs.Unlinking.{BeforeChecks, CanBeUnlinked, IsSealedAgain, IsUnlinked, StandsBehind}
+use Rattle.blk_chain.specs.Unlinking.{BeforeChecks, CanBeUnlinked, IsStillLinked, IsUnlinked, StandsBehind, words_to_unlink}
+use Rattle.blk_kept.specs.Arranging.{LeavesFiles}
 use Rattle.blk_kept.specs.Keeping.{KeepsUncounted}
 use Rattle.blk_kept.specs.RemovalLaws.{IsRemovalDone, IsUnlinking, chains_without}
 
@@ -21,7 +24,25 @@ KeptRecordsCanBeUnlinked =
 abbrev pub UnlinkedRecordsAreOut : Type 0
 UnlinkedRecordsAreOut =
     (state : State) (layout : Layout) (unlinked : List ℕ) (from between image : Image) (node : ℕ) (was : Loaded) (before : Option ℕ) (prefix suffix : List ℕ)
-    → KeepsUncounted state layout unlinked from → layout.at node ≡ Some was → IsRemovalDone from node between → AreBytes between
+    → KeepsUncounted state layout unlinked from → IsRemovalDone from node between
     → StandsBehind (layout.chains (bucket_at between was.contents)) was.contents before prefix suffix
-    → IsUnlinked between was.contents before image → IsSealedAgain between was.contents before image
+    → IsUnlinked between was.contents before image
     → IsUnlinking layout (chains_without layout was.contents) between image
+
+-- and the files are left as they stand
+abbrev pub UnlinkedRecordsLeaveFiles : Type 0
+UnlinkedRecordsLeaveFiles =
+    (state : State) (layout : Layout) (unlinked : List ℕ) (from between image : Image) (node : ℕ) (was : Loaded) (before : Option ℕ) (prefix suffix : List ℕ)
+    → KeepsUncounted state layout unlinked from → IsRemovalDone from node between
+    → StandsBehind (layout.chains (bucket_at between was.contents)) was.contents before prefix suffix
+    → IsUnlinked between was.contents before image
+    → LeavesFiles between image
+
+-- at each word of it, whatever the seal of the record before is, the record is in its chain or out of it, and all else is in its own
+abbrev pub UnlinkingsChangeLinks : Type 0
+UnlinkingsChangeLinks =
+    (state : State) (layout : Layout) (unlinked : List ℕ) (from : Image) (node : ℕ) (was : Loaded) (before : Option ℕ) (prefix suffix : List ℕ) (old new : Told)
+    → KeepsUncounted state layout unlinked from → ForSome old.files (IsRemovalDone from node)
+    → ForSome old.files (λ between. StandsBehind (layout.chains (bucket_at between was.contents)) was.contents before prefix suffix)
+    → ForSome old.files (λ between. CanBeUnlinked was.contents before between → Commits (words_to_unlink before) old new (IsStillLinked between was.contents before) (IsUnlinked between was.contents before))
+    → ForSome old.files (λ between. Passes old new (λ image. IsUnlinking layout layout.chains between image ⊎ IsUnlinking layout (chains_without layout was.contents) between image))

@@ -1,16 +1,27 @@
 -- A new entry that is written, as `write_entry` promises it, and what the laws on a kept state ask of that.
-use Rattle.std.specs.Prelude.{ℕ, List, length}
+use Rattle.std.specs.Prelude.{◌≡◌, ℕ, ◌<◌, List, ◌++◌, length, None, Ok}
 use Rattle.std.specs.Option.{ForSome}
-use Rattle.blk_image.specs.Image.{Image}
+use Rattle.blk_image.specs.Image.{Image, Index, byte}
 use Rattle.blk_image.specs.Told.{Passes, Told}
+use Rattle.blk_model.specs.Holding.{owner}
+use Rattle.blk_model.specs.Items.{main}
+use Rattle.blk_model.specs.State.{State}
 use Rattle.blk_disk.specs.declared.tables.BlockFiles.{BlockFiles}
 use Rattle.blk_disk.specs.Tables.{Agrees}
 use Rattle.blk_format.specs.Claims.{has_claim}
-use Rattle.blk_volume.specs.Loads.{all_claims}
+use Rattle.blk_format.specs.Headers.{this_id_of}
+use Rattle.blk_format.specs.Records.{entry_normal}
+use Rattle.blk_volume.specs.Layout.{Layout}
+use Rattle.blk_volume.specs.ListView.{most_nodes}
+use Rattle.blk_volume.specs.Loads.{all_claims, load, unchained_rule}
+use Rattle.blk_volume.specs.Searches.{bucket_of_key}
 use Rattle.blk_volume.specs.Sound.{words_of}
+use Rattle.blk_volume.specs.View.{store_of}
 use Rattle.blk_entry.specs.declared.writing.NewEntry.{NewEntry}
-use Rattle.blk_entry.specs.Writing.{AreWords, FitsKey, WritesEntryInProgress, loaded_new}
+use Rattle.blk_entry.specs.Writing.{AreWords, FitsKey, IsShownNew, IsWritten, WritesEntryInProgress, loaded_new}
 use Rattle.blk_kept.specs.Changes.{ChangesOnly, KeepsWith}
+use Rattle.blk_kept.specs.Keeping.{KeepsUncounted}
+use Rattle.blk_kept.specs.NewEntryLaws.{IsNewEntryOf}
 
 -- at each word of it nothing but what its words name changes
 abbrev pub NewEntriesChangeTheirOwn : Type 0
@@ -24,3 +35,13 @@ WritingEntriesKeepsStates =
     (files : BlockFiles) (new : NewEntry) (key : List ℕ) (old now : Told) → FitsKey files new key → AreWords new → ForSome old.files (Agrees files)
     → ForSome old.files (λ from. Passes old now (WritesEntryInProgress new (length key) from))
     → ForSome old.files (λ from. Passes old now (KeepsWith (words_of (loaded_new new key)) (words_of (loaded_new new key)) from))
+
+-- once a plain one is written, it is a new entry of each state that was kept with its words unlinked, whose list has room for it and in which no live object has its key: where its dirty word is the number of the session, and its next the word of its bucket
+abbrev pub WrittenEntriesAreNew : Type 0
+WrittenEntriesAreNew =
+    (files : BlockFiles) (new : NewEntry) (key : List ℕ) (moment : ℕ) (state : State) (layout : Layout) (unlinked : List ℕ) (old now : Told) → FitsKey files new key → AreWords new → ForSome old.files (Agrees files)
+    → ForSome old.files (KeepsUncounted state layout (words_of (loaded_new new key) ++ unlinked)) → length state.uses < most_nodes → owner state (main key) ≡ None
+    → ForSome old.files (λ from. new.dirty ≡ this_id_of (byte from Index)) → ForSome old.files (λ from. new.next ≡ (store_of from).table (bucket_of_key key))
+    → ForSome old.files (λ from. Passes old now (WritesEntryInProgress new (length key) from)) → ForSome now.files (IsWritten new key moment) → ForSome now.files (IsShownNew new key moment)
+    → ForSome now.files (λ image. load (store_of image) (unchained_rule entry_normal) new.node ≡ Ok (loaded_new new key))
+    → ForSome old.files (λ from. ForSome now.files (IsNewEntryOf state layout key (loaded_new new key)))

@@ -11,9 +11,9 @@ use Rattle.blk_volume.specs.Layout.{Layout}
 use Rattle.blk_volume.specs.Loads.{Loaded}
 use Rattle.blk_volume.specs.View.{list_of}
 use Rattle.blk_entry.specs.Marks.{SetsDirtyInProgress, mark_steps}
-use Rattle.blk_chain.specs.Linking.{IsLinkedInFront}
+use Rattle.blk_chain.specs.Linking.{CanBeLinked, IsLinkedInFront}
 use Rattle.blk_kept.specs.Keeping.{KeepsUncounted}
-use Rattle.blk_kept.specs.NewEntryLaws.{HasRecordInFront}
+use Rattle.blk_kept.specs.NewEntryLaws.{HasRecordInFront, IsInsertDone, IsNewEntryOf}
 use Rattle.blk_kept.specs.RecordLaws.{IsMarked, IsMarking}
 
 -- Dirty words.
@@ -39,6 +39,12 @@ MarksAreSet =
     → ForSome old.files (λ from. Applies old new (mark_steps from node mark)) → ForSome old.files (λ from. ForSome new.files (IsMarked from node mark))
 
 -- Links.
+
+-- once its node is in the list, the record of a new entry can be linked, as `link_front` asks
+abbrev pub NewRecordsCanBeLinked : Type 0
+NewRecordsCanBeLinked =
+    (state : State) (layout : Layout) (unlinked key : List ℕ) (loaded : Loaded) (from between : Image) → KeepsUncounted state layout unlinked from → IsNewEntryOf state layout key loaded from
+    → IsInsertDone from loaded.node between → CanBeLinked loaded.contents between
 
 -- at each word of a link nothing has changed, or the record is linked in front
 abbrev pub LinksComeInFront : Type 0

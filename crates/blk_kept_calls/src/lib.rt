@@ -3,9 +3,9 @@
 
 ghost use Rattle.blk_kept_calls.specs.ExternalFiles.{CreationsAdd, CreationsFindTheSame, DeletionsFindTheSame, DeletionsRemove, KeptStatesHaveFreeNumbers};
 ghost use Rattle.blk_kept_calls.specs.Lists.{InsertsAreDone, InsertsArePartly, ListedNodesAreInTheList, NewNodesCanBeInserted, RemovalsAreDone, RemovalsArePartly, TouchesAreDone, TouchesArePartly};
-ghost use Rattle.blk_kept_calls.specs.Marks.{KeptNodesCheck, LinksAreInFront, LinksComeInFront, MarksAreBeingSet, MarksAreSet, NodesCheckAsRecords};
-ghost use Rattle.blk_kept_calls.specs.Entries.{NewEntriesChangeTheirOwn, WritingEntriesKeepsStates};
-ghost use Rattle.blk_kept_calls.specs.Chains.{KeptRecordsCanBeUnlinked, UnlinkedRecordsAreOut};
+ghost use Rattle.blk_kept_calls.specs.Marks.{KeptNodesCheck, LinksAreInFront, LinksComeInFront, MarksAreBeingSet, MarksAreSet, NewRecordsCanBeLinked, NodesCheckAsRecords};
+ghost use Rattle.blk_kept_calls.specs.Entries.{NewEntriesChangeTheirOwn, WritingEntriesKeepsStates, WrittenEntriesAreNew};
+ghost use Rattle.blk_kept_calls.specs.Chains.{KeptRecordsCanBeUnlinked, UnlinkedRecordsAreOut, UnlinkedRecordsLeaveFiles, UnlinkingsChangeLinks};
 ghost use Rattle.blk_kept_calls.specs.Blocks.{AllocationsAdd, AllocationsStayWhole, FreesRemove, FreesStayWhole, KeptFilesAreCounted, WholeFoldersFindTheSame};
 
 /// A folder that stays whole at each word of a call, as in an allocation and a free, has what was at rest found at each, whatever is unlinked.
@@ -59,20 +59,24 @@ pub fn dirty_words_are_set()
     ensures set { MarksAreSet }
 {}
 
-/// At each word of a link in front nothing has changed, or the record is linked, and in the end it is.
+/// Once its node is in the list, the record of a new entry can be linked, as `link_front` asks. At each word of a link in front nothing has changed, or the record is linked, and in the end it is.
 pub fn records_are_linked()
+    ensures asked { NewRecordsCanBeLinked }
     ensures each { LinksComeInFront }
     ensures linked { LinksAreInFront }
 {}
 
-/// At each word of the writing of a new entry nothing but what its words name changes, so each state that is kept with them unlinked is kept.
+/// At each word of the writing of a new entry nothing but what its words name changes, so each state that is kept with them unlinked is kept; once it is written, it is a new entry of that state.
 pub fn new_entries_are_written()
     ensures own { NewEntriesChangeTheirOwn }
     ensures kept { WritingEntriesKeepsStates }
+    ensures new { WrittenEntriesAreNew }
 {}
 
-/// The record of an item that is out of the list can be unlinked, as `unlink` asks; once it is, it is out of its chain, and all others are in theirs.
+/// The record of an item that is out of the list can be unlinked, as `unlink` asks. At each word of it the record is in its chain or out of it; once it is unlinked, it is out of its chain, all others are in theirs, and the files are left.
 pub fn records_are_unlinked()
     ensures asked { KeptRecordsCanBeUnlinked }
+    ensures each { UnlinkingsChangeLinks }
     ensures out { UnlinkedRecordsAreOut }
+    ensures leaves { UnlinkedRecordsLeaveFiles }
 {}

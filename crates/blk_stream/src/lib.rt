@@ -18,6 +18,3 @@ pub use dropping::drop_streams;
 pub use laws::{drops_are_shown_inside, written_streams_load};
 pub use reading::read;
 pub use writing::write;
-
-#[cfg(test)]
-mod tests;
