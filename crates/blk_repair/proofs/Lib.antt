@@ -3,3 +3,5 @@ pub mod Choices
 pub mod ChainRuns
 pub mod RemovalRuns
 pub mod ListRuns
+pub mod WholeChains
+pub mod TableRuns
