@@ -6,3 +6,5 @@ pub mod ListRuns
 pub mod SealRuns
 pub mod CounterRuns
 pub mod MapRuns
+pub mod WholeChains
+pub mod TableRuns

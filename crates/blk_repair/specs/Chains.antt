@@ -1,7 +1,11 @@
--- The chain that is mended next.
-use Rattle.std.specs.Prelude.{ℕ, ◌≡◌, List}
+-- The chain that is mended next, and the kept records of all chains.
+use Rattle.std.specs.Prelude.{ℕ, zero, suc, ◌-◌, ◌<◌, ◌≤◌, ◌≡◌, Bool, true, false, List, length, take, drop, slice_index, slice_index_or}
 use Rattle.blk_image.specs.Image.{Image}
 use Rattle.blk_format.specs.BlockFiles.{IsWellFormed}
+use Rattle.blk_format.specs.Headers.{table_length}
+use Rattle.blk_volume.specs.Chains.{IsChain}
+use Rattle.blk_volume.specs.ListImages.{IsWritable}
+use Rattle.blk_volume.specs.View.{store_of}
 use Rattle.blk_repair_laws.specs.ChainRepair.{HasChainsUpTo, KeepsAllWalked, kept_records}
 
 -- the list was mended, the chains below this bucket are, and these are the kept records of the bucket
@@ -10,3 +14,31 @@ pub record IsNextChain (from : Image) (bucket : ℕ) (records : List ℕ) (image
   pub keeps_all : KeepsAllWalked from
   pub up_to : HasChainsUpTo from bucket image
   pub are_kept : records ≡ kept_records from bucket
+
+-- and if the bucket is told whole, it was the chain of these already
+pub record IsNextBucket (from : Image) (bucket : ℕ) (records : List ℕ) (whole : Bool) (image : Image) : Type 0 where
+  pub next : IsNextChain from bucket records image
+  pub is_whole : whole ≡ true → IsChain (store_of from) bucket records
+
+-- where the records of a bucket begin among those of all buckets, by where those of each end
+abbrev pub first_of : List ℕ → ℕ → ℕ
+first_of ends zero = 0
+first_of ends (suc before) = slice_index ends before
+
+-- the records of a bucket among those of all buckets
+abbrev pub records_of : (records ends : List ℕ) → ℕ → List ℕ
+records_of records ends bucket = take (slice_index ends bucket - first_of ends bucket) (drop (first_of ends bucket) records)
+
+-- each bucket has some of the records, those of one behind those of the one before
+pub record AreEnds (records ends : List ℕ) : Type 0 where
+  pub many : length ends ≡ table_length
+  pub rising : (bucket : ℕ) → bucket < table_length → first_of ends bucket ≤ slice_index ends bucket
+  pub inside : (bucket : ℕ) → bucket < table_length → slice_index ends bucket ≤ length records
+
+-- the list was mended, and these are the kept records of all buckets; each bucket that is told whole is the chain of its records
+pub record AreChainsScanned (records ends : List ℕ) (whole : List Bool) (image : Image) : Type 0 where
+  pub well_formed : IsWellFormed image
+  pub writable : IsWritable image
+  pub keeps_all : KeepsAllWalked image
+  pub are_kept : (bucket : ℕ) → bucket < table_length → records_of records ends bucket ≡ kept_records image bucket
+  pub are_whole : (bucket : ℕ) → bucket < table_length → slice_index_or whole bucket false ≡ true → IsChain (store_of image) bucket (records_of records ends bucket)

@@ -28,6 +28,11 @@ pub record IsWrongRecord (files : BlockFiles) (told : Told) (damage : Damage) : 
 abbrev pub IsChainDamage : ℕ → BlockFiles → Told → Damage → Type 0
 IsChainDamage bucket files told damage = IsShort told names.Index (place_of_bucket bucket) 4 damage ⊎ IsWrongRecord files told damage
 
+-- the chain of some bucket was damaged
+pub record IsChainsDamage (files : BlockFiles) (told : Told) (damage : Damage) : Type 0 where
+  pub bucket : ℕ
+  pub met : IsChainDamage bucket files told damage
+
 -- some node that stands was taken out of the list, from some files on, and that met a damage
 pub record IsRemovalsDamage (files : BlockFiles) (told : Told) (damage : Damage) : Type 0 where
   pub node : ℕ

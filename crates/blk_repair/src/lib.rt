@@ -1,9 +1,9 @@
 //! Repair of a folder, part by part.
 //!
 //! The call that repairs a whole folder is not there yet, but parts of it are: `list` repairs the use list, for which
-//! `removals` takes the nodes out that are not kept, and `chains` makes a bucket the chain of its kept records; behind
-//! them `maps` makes lengths, maps and counters of the block files right, `seals` seals what is kept, and `counters`
-//! makes the words of the index right. Nothing else calls them so far.
+//! `removals` takes the nodes out that are not kept, `chains` makes a bucket the chain of its kept records, and
+//! `tables` does so with every bucket; behind them `maps` makes lengths, maps and counters of the block files right,
+//! `seals` seals what is kept, and `counters` makes the words of the index right. Nothing else calls them so far.
 #![tactic(auto)]
 
 mod chains;
@@ -13,6 +13,7 @@ mod list;
 mod maps;
 mod removals;
 mod seals;
+mod tables;
 
 pub use chains::mend_chain;
 pub use counters::mend_index;
@@ -20,3 +21,4 @@ pub use list::mend_list;
 pub use maps::mend_files;
 pub use removals::remove_others;
 pub use seals::seal_records;
+pub use tables::mend_chains;

@@ -1,0 +1,12 @@
+use Rattle.std.proofs.Common.{◌≤◌}
+use Rattle.std.specs.Option.{ForSome}
+use Rattle.blk_disk.specs.Open.{IsOpen}
+use Rattle.blk_repair.proofs.TableRuns.{AreMendedTo}
+use Rattle.blk_repair.proofs.tables.mend_chains.Given as goal
+
+abbrev pub invariant-loop-i : goal.invariant-loop-i
+invariant-loop-i g l = record {
+  are : AreMendedTo (g.F.Folder.told l.fn.f) (g.F.Folder.told l.f) l.records l.ends l.whole l.i;
+  is_open : ForSome (g.F.Folder.told l.f).files (IsOpen l.files);
+  later : g.F.Folder.faults l.fn.f ≤ g.F.Folder.faults l.f;
+}

@@ -1,0 +1,95 @@
+// All buckets are made the chains of their kept records.
+ghost use Rattle.std.specs.Prelude.{◌≡◌, ◌+◌, ◌<◌, ◌≤◌, None, OnOk, All, true, length};
+ghost use Rattle.std.specs.Option.{ForSome};
+ghost use Rattle.blk_image.specs.Image.{Image};
+ghost use Rattle.blk_image.specs.Told.{Passes, Rises};
+ghost use Rattle.blk_format.specs.Headers.{table_length};
+ghost use Rattle.blk_io.specs.Faults.{IfDamaged, IfDevice};
+ghost use Rattle.blk_disk.specs.Open.{IsOpen};
+ghost use Rattle.blk_disk.specs.Tables.{is_record_among};
+ghost use Rattle.blk_repair_laws.specs.ChainRepair.{AreChainsMended, HasChainsUpTo};
+ghost use Rattle.blk_repair_laws.specs.ListRepair.{HoldsTheSame};
+ghost use Rattle.blk_repair.specs.Chains.{AreChainsScanned, AreEnds, IsNextBucket, records_of as records_among};
+ghost use Rattle.blk_repair.specs.Damages.{IsChainDamage, IsChainsDamage};
+
+use crate::chains::mend_chain;
+use blk_addr::Addr;
+use blk_disk::BlockFiles;
+use blk_io::{Fault, Folder};
+
+/// Makes each bucket the chain of its kept records, in rising order of the buckets.
+///
+/// `records` are the kept records of all buckets, bucket after bucket and each chain in its order. `ends` tells for each
+/// of the 65536 buckets where its records end among them, so they begin where those of the bucket before end. A bucket
+/// for which `whole` is true is the chain of its records already, and isn't read. A damage is one of `mend_chain`.
+pub fn mend_chains<F: Folder>(
+    f: &mut F,
+    files: &BlockFiles,
+    records: &[Addr],
+    ends: &[u32],
+    whole: &[bool],
+) -> Result<(), Fault>
+    requires stand { All (λ w. is_record_among files.now w ≡ true) records.now }
+    requires ends { AreEnds records.now ends.now }
+    requires told { length whole.now ≡ table_length }
+    requires is_open { ForSome (F.told f.old).files (IsOpen files.now) }
+
+    // With the kept records of the folder all chains are mended in the end, and the same is kept and found at each word.
+    ensures mended { OnOk result (ForSome (F.told f.old).files (λ from. AreChainsScanned records.now ends.now whole.now from → ForSome (F.told f.new).files (AreChainsMended from))) }
+    ensures stops { ForSome (F.told f.old).files (λ from. AreChainsScanned records.now ends.now whole.now from → Passes (F.told f.old) (F.told f.new) (HoldsTheSame from)) }
+
+    ensures is_open { ForSome (F.told f.new).files (IsOpen files.now) }
+    ensures silent { (F.told f.old).files ≡ None → (F.told f.new).files ≡ None }
+
+    // A folder that tells its files gives a damage only where these aren't its kept records.
+    ensures damaged { IfDamaged result (IsChainsDamage files.now (F.told f.new)) }
+    ensures untold { ForSome (F.told f.old).files (AreChainsScanned records.now ends.now whole.now) → IfDamaged result (λ _. (F.told f.old).files ≡ None) }
+
+    ensures later { F.faults f.old ≤ F.faults f.new }
+    ensures device { IfDevice result (Rises (F.faults f.old) (F.faults f.new)) }
+{
+    for i in 0..ends.len() {
+        let own = records_of(records, ends, i);
+        mend_bucket(f, files, i as u16, own, whole[i])?;
+    }
+    Ok(())
+}
+
+// Makes a bucket the chain of its kept records, unless it is told whole.
+fn mend_bucket<F: Folder>(
+    f: &mut F,
+    files: &BlockFiles,
+    bucket: u16,
+    records: &[Addr],
+    whole: bool,
+) -> Result<(), Fault>
+    requires stand { All (λ w. is_record_among files.now w ≡ true) records.now }
+    requires is_open { ForSome (F.told f.old).files (IsOpen files.now) }
+    ensures mended { OnOk result (ForSome (F.told f.old).files (λ from. (entry : Image) → IsNextBucket entry bucket records.now whole from → ForSome (F.told f.new).files (HasChainsUpTo entry (bucket + 1)))) }
+    ensures stops { ForSome (F.told f.old).files (λ from. (entry : Image) → IsNextBucket entry bucket records.now whole from → Passes (F.told f.old) (F.told f.new) (HoldsTheSame entry)) }
+    ensures is_open { ForSome (F.told f.new).files (IsOpen files.now) }
+    ensures silent { (F.told f.old).files ≡ None → (F.told f.new).files ≡ None }
+    ensures damaged { IfDamaged result (IsChainDamage bucket files.now (F.told f.new)) }
+    ensures untold { ForSome (F.told f.old).files (λ from. (entry : Image) × IsNextBucket entry bucket records.now whole from) → IfDamaged result (λ _. (F.told f.old).files ≡ None) }
+    ensures later { F.faults f.old ≤ F.faults f.new }
+    ensures device { IfDevice result (Rises (F.faults f.old) (F.faults f.new)) }
+{
+    if whole {
+        return Ok(());
+    }
+    mend_chain(f, files, bucket, records)
+}
+
+// The records of a bucket among those of all buckets.
+fn records_of<'a>(records: &'a [Addr], ends: &[u32], bucket: usize) -> &'a [Addr]
+    requires ends { AreEnds records.now ends.now }
+    requires bucket { bucket < table_length }
+    ensures { result.now ≡ records_among records.now ends.now bucket }
+{
+    let first = if bucket == 0 {
+        0
+    } else {
+        ends[bucket - 1] as usize
+    };
+    &records[first..ends[bucket] as usize]
+}
