@@ -1,7 +1,7 @@
 -- What is tried and kept, one node more.
-use Rattle.std.proofs.Common.{◌≡◌, ℕ, Bool, true, false, List, [], ◌∷◌, ◌++◌, ◌+◌, take, Some, Result, refl, sym, ap, subst, ◌∙◌}
+use Rattle.std.proofs.Common.{◌≡◌, ℕ, Bool, true, false, List, [], ◌∷◌, ◌++◌, ◌+◌, take, Some, Result, refl, sym, ap, subst, ◌∙◌, arith}
 use Rattle.std.specs.Prelude.{slice_get}
-use Rattle.std.specs.List.{AllZip, filter}
+use Rattle.std.specs.List.{AllZip}
 use Rattle.std.proofs.lemmas.List.{append-nil, append_assoc}
 use Rattle.blk_image.specs.Image.{Image}
 use Rattle.blk_volume.specs.Audit.{is_child, verdict, verdicts, with_verdict}
@@ -9,7 +9,7 @@ use Rattle.blk_volume.specs.Loads as shown
 use Rattle.blk_volume.specs.Loads.{Rule, held_rule}
 use Rattle.blk_volume.specs.Reasons as reasons
 use Rattle.blk_volume.specs.View.{StoreView, store_of}
-use Rattle.blk_scan.specs.Kept.{AreShown, IsAnswer}
+use Rattle.blk_scan.specs.Kept.{AreShown, HaveKeys, IsAnswer}
 use Rattle.blk_scan.specs.Passes.{AreTried, IsTried, is_of_pass, kept_after, of_pass}
 use Rattle.blk_scan.specs.declared.loading.Loaded.{Loaded}
 use Rattle.blk_scan.specs.declared.passes.Tried.{Tried}
@@ -61,3 +61,18 @@ pub next_of_pass : (store : StoreView) (children : Bool) (before nodes : List �
 next_of_pass store children before nodes i w at =
     append_assoc before (of_pass store children (take i nodes)) (of_pass store children (w ∷ []))
     ∙ ap (λ (more : List ℕ). before ++ more) (sym (one_more (λ node. is_of_pass children (is_child store node)) nodes i w at))
+
+-- Before any node is tried.
+
+pub none_tried : (image : Image) (walked : List ℕ) (kept : List Loaded) (tried : List Tried) → kept ≡ [] → tried ≡ [] → AreTried image walked [] kept tried
+unfolding kept_after verdicts
+none_tried image walked kept tried no_kept no_tried = record {
+  answers = subst (λ (ts : List Tried). AllZip (IsTried walked) [] ts) (sym no_tried) tt;
+  shown = subst (λ (k : List Loaded). AreShown image [] k) (sym no_kept) tt;
+}
+
+pub no_keys : (image : Image) (kept : List Loaded) → kept ≡ [] → HaveKeys image kept
+no_keys image kept none = subst (HaveKeys image) (sym none) all_none
+  where
+    all_none : HaveKeys image []
+    all_none k d less = absurd (omega (arith, less))

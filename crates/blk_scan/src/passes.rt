@@ -33,6 +33,38 @@ pub(crate) struct Tried {
     reason: Option<Reason>,
 }
 
+// The walked nodes in the order in which they were tried, and the records that are kept.
+#[derive(Drop)]
+pub(crate) struct Judged {
+    kept: KeptSoFar,
+    tried: Vec<Tried>,
+}
+
+// Judges the walked nodes in two passes: first those whose record is not a child, then the children.
+//
+// The folder calls are those of two passes. A damage is a read that gave too few bytes; a folder whose files are those
+// of `files`, and of which the lists were read, gives none.
+pub(crate) fn judge_nodes<F: Folder>(
+    alloc: Global,
+    f: &mut F,
+    files: &BlockFiles,
+    lists: &Lists,
+) -> Result<Judged, ScanFault>
+    ensures judged { IfOk result (λ judged. ForSome (F.told f.old).files (λ image. Agrees files.now image → AreListsOf image lists.now → AreTried image (completed_walk image) (audit.tried (store_of image) (completed_walk image)) judged.kept.kept.items judged.tried.items)) }
+    ensures order { IfOk result (λ judged. IsInOrder files.now judged.kept) }
+    ensures stays { Stays (F.told f.old) (F.told f.new) }
+    ensures short { IfScanDamaged result (IsCutRead files.now (F.told f.old)) }
+    ensures untold { ForSome (F.told f.old).files (Agrees files.now) → ForSome (F.told f.old).files (λ image. AreListsOf image lists.now) → IfScanDamaged result (λ _. (F.told f.old).files ≡ None) }
+    ensures later { F.faults f.old ≤ F.faults f.new }
+    ensures device { IfScanDevice result (Rises (F.faults f.old) (F.faults f.new)) }
+{
+    let mut kept = KeptSoFar::none(alloc);
+    let mut tried = Vec::new(alloc);
+    try_pass(f, files, lists, false, &mut kept, &mut tried)?;
+    try_pass(f, files, lists, true, &mut kept, &mut tried)?;
+    Ok(Judged { kept, tried })
+}
+
 // Tries the walked nodes of a pass in their order: the children, or the others.
 //
 // The folder calls are those of `is_child` for each walked node, and those of `judge_walked` for each of the pass. Where
