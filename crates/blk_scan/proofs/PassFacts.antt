@@ -1,16 +1,24 @@
 -- What is tried and kept, one node more.
-use Rattle.std.proofs.Common.{◌≡◌, ℕ, Bool, true, false, List, [], ◌∷◌, ◌++◌, ◌+◌, take, Some, Result, refl, sym, ap, subst, ◌∙◌, arith}
+use Rattle.std.proofs.Common.{◌≡◌, ℕ, Bool, true, false, List, [], ◌∷◌, ◌++◌, ◌+◌, take, Some, Result, suc, refl, sym, ap, subst, ◌∙◌, ⊎_elim, arith}
 use Rattle.std.specs.Prelude.{slice_get}
 use Rattle.std.specs.List.{AllZip}
 use Rattle.std.proofs.lemmas.List.{append-nil, append_assoc}
+use Rattle.std.proofs.lemmas.Bool.Decides.{eqb_tells}
+use Rattle.std.proofs.Math.Dec.{eqb}
 use Rattle.blk_image.specs.Image.{Image}
-use Rattle.blk_volume.specs.Audit.{is_child, verdict, verdicts, with_verdict}
+use Rattle.blk_format.specs.BlockFiles.{is_among}
+use Rattle.blk_volume.specs.ListImages.{completed_walk}
+use Rattle.blk_volume.specs.Completion.{completed_list}
+use Rattle.blk_laws.proofs.lists.Walked.{walk-once}
+use Rattle.blk_laws.proofs.walks.Kept.{tried-among}
+use Rattle.blk_volume.specs.Audit.{is_child, judged, verdict, verdict_on, verdicts, with_verdict}
+use Rattle.blk_volume.specs.Audit as audit
 use Rattle.blk_volume.specs.Loads as shown
 use Rattle.blk_volume.specs.Loads.{Rule, held_rule}
 use Rattle.blk_volume.specs.Reasons as reasons
-use Rattle.blk_volume.specs.View.{StoreView, store_of}
+use Rattle.blk_volume.specs.View.{StoreView, list_of, store_of}
 use Rattle.blk_scan.specs.Kept.{AreShown, HaveKeys, IsAnswer}
-use Rattle.blk_scan.specs.Passes.{AreTried, IsTried, is_of_pass, kept_after, of_pass}
+use Rattle.blk_scan.specs.Passes.{AreTried, IsAnswered, IsTried, is_of_pass, kept_after, of_pass}
 use Rattle.blk_scan.specs.declared.loading.Loaded.{Loaded}
 use Rattle.blk_scan.specs.declared.passes.Tried.{Tried}
 use Rattle.blk_scan.proofs.ListedFacts.{one_fails, one_more, one_passes}
@@ -76,3 +84,31 @@ no_keys image kept none = subst (HaveKeys image) (sym none) all_none
   where
     all_none : HaveKeys image []
     all_none k d less = absurd (omega (arith, less))
+
+-- The answer on each node.
+
+pub answered : (store : StoreView) (rule : Rule) (walked : List ℕ) (kept : List shown.Loaded) (nodes : List ℕ) (tried : List Tried) (node : ℕ) → AllZip (IsTried walked) (verdicts store rule kept nodes) tried → is_among nodes node ≡ true
+    → IsAnswered walked tried node (verdict_on (verdicts store rule kept nodes) node)
+unfolding verdicts
+answered store rule walked kept [] tried node all among = absurd (let c : false ≡ true = among in cc)
+answered store rule walked kept (first ∷ nodes) [] node all among = absurd all
+answered store rule walked kept (first ∷ nodes) (one ∷ tried) node all among = ⊎_elim
+    (λ (x : (eqb first node ≡ true) × (first ≡ node)). record {
+      turn = 0;
+      one = one;
+      at = refl;
+      here = subst (λ (n : ℕ). slice_get walked one.place ≡ Some n) x.1 all.0.node;
+      verdict_is = verdict store rule kept first;
+      is = rw x.0 refl;
+      answer = all.0.answer;
+    })
+    (λ (x : (eqb first node ≡ false) × _).
+    let more = answered store rule walked (with_verdict kept (verdict store rule kept first)) nodes tried node all.1 (rw x.0 at among) in
+    record { turn = suc more.turn; one = more.one; at = more.at; here = more.here; verdict_is = more.verdict_is; is = rw x.0 more.is; answer = more.answer })
+    (eqb_tells first node)
+
+pub walked_answered : (image : Image) (kept : List Loaded) (tried : List Tried) (node : ℕ) → AreTried image (completed_walk image) (audit.tried (store_of image) (completed_walk image)) kept tried → is_among (completed_walk image) node ≡ true
+    → IsAnswered (completed_walk image) tried node (verdict_on (judged (store_of image) held_rule (completed_walk image)) node)
+walked_answered image kept tried node are among =
+    answered (store_of image) held_rule (completed_walk image) [] (audit.tried (store_of image) (completed_walk image)) tried node are.answers
+    (tried-among (store_of image) (completed_walk image) (walk-once (completed_list (list_of image))) node ∙ among)

@@ -1,6 +1,7 @@
 -- The two passes over the walked nodes.
 use Rattle.std.specs.Prelude.{ℕ, ◌≡◌, List, [], ◌∷◌, Bool, true, false, not, slice_get}
 use Rattle.std.specs.List.{AllZip, filter}
+use Rattle.std.specs.declared.option.Option.{Option}
 use Rattle.std.specs.declared.option.Option.TheVariants.{Some}
 use Rattle.std.specs.declared.result.Result.{Result}
 use Rattle.blk_image.specs.Image.{Image}
@@ -46,3 +47,13 @@ pub record CanBeTried (files : BlockFiles) (lists : Lists) (kept : List Loaded) 
   pub agrees : Agrees files image
   pub are : AreListsOf image lists
   pub has_keys : HaveKeys image kept
+
+-- what was tried says of a node what its verdict is: one of it is at the node's place, and its answer is that verdict
+pub record IsAnswered (walked : List ℕ) (tried : List Tried) (node : ℕ) (given : Option (Result shown.Loaded reasons.Reason)) : Type 0 where
+  pub turn : ℕ
+  pub one : Tried
+  pub at : slice_get tried turn ≡ Some one
+  pub here : slice_get walked one.place ≡ Some node
+  pub verdict_is : Result shown.Loaded reasons.Reason
+  pub is : given ≡ Some verdict_is
+  pub answer : IsAnswer verdict_is one.reason

@@ -1,8 +1,10 @@
 // The two passes over the walked nodes.
-ghost use Rattle.std.specs.Prelude.{◌≡◌, ◌≤◌, ◌++◌, ◌∷◌, [], ℕ, List, IfOk, None, OnOk, Some, slice_get};
+ghost use Rattle.std.specs.Prelude.{◌≡◌, ◌≤◌, ◌++◌, ◌∷◌, [], ℕ, List, IfOk, None, OnOk, Some, slice_get, true};
 ghost use Rattle.std.specs.Option.{ForSome};
 ghost use Rattle.blk_image.specs.Told.{Rises, Stays};
 ghost use Rattle.blk_volume.specs.Audit as audit;
+ghost use Rattle.blk_format.specs.BlockFiles.{is_among};
+ghost use Rattle.blk_volume.specs.Loads.{held_rule};
 ghost use Rattle.blk_volume.specs.ListImages.{completed_walk};
 ghost use Rattle.blk_volume.specs.View.{store_of};
 ghost use Rattle.blk_disk.specs.Tables.{Agrees};
@@ -11,7 +13,7 @@ ghost use Rattle.blk_audit.specs.ReadLists.{AreListsOf};
 ghost use Rattle.blk_audit.specs.Walking.{nodes_walked};
 ghost use Rattle.blk_scan.specs.Kept.{HaveKeys, IsInOrder};
 ghost use Rattle.blk_scan.specs.Passes as passing;
-ghost use Rattle.blk_scan.specs.Passes.{AreTried, CanBeTried, of_pass};
+ghost use Rattle.blk_scan.specs.Passes.{AreTried, CanBeTried, IsAnswered, of_pass};
 ghost use Rattle.blk_scan.specs.Reads.{IsCutRead};
 
 use crate::judging::judge_walked;
@@ -51,6 +53,10 @@ pub(crate) fn judge_nodes<F: Folder>(
     lists: &Lists,
 ) -> Result<Judged, ScanFault>
     ensures judged { IfOk result (λ judged. ForSome (F.told f.old).files (λ image. Agrees files.now image → AreListsOf image lists.now → AreTried image (completed_walk image) (audit.tried (store_of image) (completed_walk image)) judged.kept.kept.items judged.tried.items)) }
+
+    // What came of each walked node is the verdict on it.
+    ensures answered { IfOk result (λ judged. ForSome (F.told f.old).files (λ image. Agrees files.now image → AreListsOf image lists.now → (node : ℕ) → is_among (completed_walk image) node ≡ true → IsAnswered (completed_walk image) judged.tried.items node (audit.verdict_on (audit.judged (store_of image) held_rule (completed_walk image)) node))) }
+
     ensures order { IfOk result (λ judged. IsInOrder files.now judged.kept) }
     ensures stays { Stays (F.told f.old) (F.told f.new) }
     ensures short { IfScanDamaged result (IsCutRead files.now (F.told f.old)) }

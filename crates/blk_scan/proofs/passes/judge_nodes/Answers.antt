@@ -6,7 +6,7 @@ use Rattle.blk_volume.specs.View.{store_of}
 use Rattle.blk_audit.specs.Walking.{nodes_walked}
 use Rattle.blk_audit.proofs.Carrying.{carried, weaker}
 use Rattle.blk_scan.specs.Passes.{AreTried, CanBeTried, of_pass}
-use Rattle.blk_scan.proofs.PassFacts.{no_keys, none_tried}
+use Rattle.blk_scan.proofs.PassFacts.{no_keys, none_tried, walked_answered}
 use Rattle.blk_scan.proofs.passes.judge_nodes.Goals as goal
 
 pub try_pass-requires : goal.try_pass-requires
@@ -35,3 +35,7 @@ returns-clause-judged g c image there agrees are =
     let first = c.in_ok-try_pass.ensures.tried image there agrees are [] (none_tried image nodes c.none-kept.result.kept.items c.new-tried.result.items c.none-kept.ensures.none c.new-tried.ensures.items) in
     let second = c.in_ok-try_pass-2.ensures.tried image (told_now image c.in_ok-try_pass.ensures.stays there) agrees are (of_pass (store_of image) false nodes) first in
     subst (λ (ns : List ℕ). AreTried image ns (audit.tried (store_of image) ns) c.try_pass-2.new.kept.kept.items c.try_pass-2.new.tried.items) are.walked second
+
+pub returns-clause-answered : goal.returns-clause-answered
+returns-clause-answered g c image there agrees are node among =
+    walked_answered image c.try_pass-2.new.kept.kept.items c.try_pass-2.new.tried.items node (returns-clause-judged g c image there agrees are) among
