@@ -38,8 +38,8 @@ pub(crate) struct Tried {
 // The walked nodes in the order in which they were tried, and the records that are kept.
 #[derive(Drop)]
 pub(crate) struct Judged {
-    kept: KeptSoFar,
-    tried: Vec<Tried>,
+    pub(crate) kept: KeptSoFar,
+    pub(crate) tried: Vec<Tried>,
 }
 
 // Judges the walked nodes in two passes: first those whose record is not a child, then the children.
