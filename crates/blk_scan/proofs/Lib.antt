@@ -15,3 +15,4 @@ pub mod PlacesOfHashes
 pub mod Searched
 pub mod ShownClaims
 pub mod SoughtFacts
+pub mod PassFacts

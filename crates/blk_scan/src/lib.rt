@@ -13,6 +13,7 @@ mod listing;
 mod loading;
 mod owning;
 mod parts;
+mod passes;
 mod reason;
 mod roles;
 mod same_keys;

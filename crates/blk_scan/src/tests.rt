@@ -4,6 +4,7 @@ ghost use Rattle.blk_scan.specs.Kept.{IsInOrder};
 
 use crate::judging::judge;
 use crate::kept::KeptSoFar;
+use crate::passes::judge_nodes;
 use crate::{Role, Verdict, has_part, is_child, load, load_walked, unlisted};
 use blk_addr::{Addr, Kind};
 use blk_audit::{Lists, ScanFault, read_lists};
@@ -285,6 +286,24 @@ fn plain_entries_are_judged_in_memory(rt: HostRuntime) -> Result<(), Fail> {
         Err(_) => panic!(rt; "they are judged"),
     }
     assert!(rt; f.calls().wrapping_sub(start) <= 120);
+    Ok(())
+}
+
+// How many walked nodes are judged, and how many of their records are kept.
+fn judged_all(alloc: Global, f: &mut Counted) -> Result<(usize, usize), ScanFault> {
+    let files = BlockFiles::load(f)?;
+    let lists = read_lists(alloc, f, &files)?;
+    let judged = judge_nodes(alloc, f, &files, &lists)?;
+    Ok((judged.tried.len(), judged.kept.count()))
+}
+
+#[test]
+fn one_of_the_entries_with_a_key_is_kept(rt: HostRuntime) -> Result<(), Fail> {
+    let mut f = many(rt.alloc())?;
+    match judged_all(rt.alloc(), &mut f) {
+        Ok(counts) => assert_eq!(rt; counts, (4000, 1)),
+        Err(_) => panic!(rt; "they are judged"),
+    }
     Ok(())
 }
 
