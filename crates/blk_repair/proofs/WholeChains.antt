@@ -1,19 +1,17 @@
 -- Chains that are whole, and stay so while others are mended.
-use Rattle.std.proofs.Common.{◌≡◌, ⊎_elim, ℕ, zero, suc, ◌+◌, ◌<◌, ◌^◌, List, [], ◌∷◌, map, refl, ap, sym, ◌∙◌, subst, arith, Bool, true, false}
+use Rattle.std.proofs.Common.{◌≡◌, ⊎_elim, ℕ, zero, suc, ◌^◌, List, [], ◌∷◌, map, refl, ap, sym, ◌∙◌, subst, arith, Bool, true, false}
 use Rattle.std.specs.Prelude.{◌==◌, if◌then◌else◌, not}
 use Rattle.std.proofs.lemmas.Bool.{and_parts, cases_Bool, eq-eqb, eqb-true, or_left, or_right}
 use Rattle.blk_image.specs.Image.{Image}
-use Rattle.blk_image.specs.Steps.{TrailStep, after}
 use Rattle.blk_format.specs.BlockFiles.{is_among}
 use Rattle.blk_volume.specs.Chains.{Chain, IsChain, Linked, chain, chain_from, file_and_block, is_of_bucket, is_reached}
 use Rattle.blk_volume.specs.ListView.{Distinct}
 use Rattle.blk_volume.specs.View.{StoreView, store_of}
 use Rattle.blk_laws.proofs.chains.Chains.{chain-is}
 use Rattle.blk_laws.proofs.states.Bare.{no-record}
-use Rattle.blk_repair_laws.specs.ChainRepair.{HasChainsUpTo, chain_steps}
+use Rattle.blk_repair_laws.specs.ChainRepair.{chain_steps}
 use Rattle.blk_repair_laws.proofs.ChainRepair.{none-to_link}
 use Rattle.blk_repair.specs.Chains.{IsNextBucket}
-use Rattle.blk_repair.proofs.ChainRuns.{mends-next}
 
 -- what a walk reaches where it ends at 0
 record IsWalked (v : StoreView) (b : ℕ) (met : List ℕ) (w : ℕ) (cs : List ℕ) : Type 0 where
@@ -56,8 +54,6 @@ chain-back v b cs e = let w = walked v b (2 ^ 24) [] (v.table b) cs e in record 
 whole-still : (from image : Image) (bucket : ℕ) (words : List ℕ) → chain (store_of image) bucket ≡ chain (store_of from) bucket → IsChain (store_of from) bucket words → IsChain (store_of image) bucket words
 whole-still from image bucket words same is = chain-back (store_of image) bucket words (same ∙ chain-is (store_of from) bucket words (no-record from) is)
 
--- so a bucket that is told whole is mended without a step
-pub whole-next : (from : Image) (bucket : ℕ) (words : List ℕ) (image : Image) → bucket < 65536 → IsNextBucket from bucket words true image → HasChainsUpTo from (bucket + 1) image
-whole-next from bucket words image inside is =
-    let none : chain_steps bucket words image ≡ [] = none-to_link image bucket words (whole-still from image bucket words (is.next.up_to.as_before bucket (omega arith)) (is.is_whole refl)) in
-    subst (λ (s : List TrailStep). HasChainsUpTo from (bucket + 1) (after s image)) none (mends-next from bucket words image inside is.next).1
+-- so a bucket that is told whole needs no step
+pub whole-steps : (from : Image) (bucket : ℕ) (words : List ℕ) (image : Image) → IsNextBucket from bucket words true image → chain_steps bucket words image ≡ []
+whole-steps from bucket words image is = none-to_link image bucket words (whole-still from image bucket words (is.next.up_to.as_before bucket (omega arith)) (is.is_whole refl))
