@@ -1,4 +1,5 @@
 -- The chains of the table: records linked and unlinked, searches, and how long a chain is.
+pub mod ChainEnds
 pub mod ChainLengths
 pub mod ChainLinks
 pub mod ChainSizes

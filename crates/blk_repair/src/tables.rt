@@ -1,13 +1,13 @@
 // All buckets are made the chains of their kept records.
-ghost use Rattle.std.specs.Prelude.{◌≡◌, ◌+◌, ◌<◌, ◌≤◌, None, OnOk, All, true, length};
+ghost use Rattle.std.specs.Prelude.{◌≡◌, ◌<◌, ◌≤◌, None, OnOk, All, true, length};
 ghost use Rattle.std.specs.Option.{ForSome};
 ghost use Rattle.blk_image.specs.Image.{Image};
-ghost use Rattle.blk_image.specs.Told.{Passes, Rises};
+ghost use Rattle.blk_image.specs.Told.{Applies, AppliesPrefix, Passes, Rises};
 ghost use Rattle.blk_format.specs.Headers.{table_length};
 ghost use Rattle.blk_io.specs.Faults.{IfDamaged, IfDevice};
 ghost use Rattle.blk_disk.specs.Open.{IsOpen};
 ghost use Rattle.blk_disk.specs.Tables.{is_record_among};
-ghost use Rattle.blk_repair_laws.specs.ChainRepair.{AreChainsMended, HasChainsUpTo};
+ghost use Rattle.blk_repair_laws.specs.ChainRepair.{AreChainsMended, chain_repair_steps, chain_steps};
 ghost use Rattle.blk_repair_laws.specs.ListRepair.{HoldsTheSame};
 ghost use Rattle.blk_repair.specs.Chains.{AreChainsScanned, AreEnds, IsNextBucket, records_of as records_among};
 ghost use Rattle.blk_repair.specs.Damages.{IsChainDamage, IsChainsDamage};
@@ -34,7 +34,10 @@ pub fn mend_chains<F: Folder>(
     requires told { length whole.now ≡ table_length }
     requires is_open { ForSome (F.told f.old).files (IsOpen files.now) }
 
-    // With the kept records of the folder all chains are mended in the end, and the same is kept and found at each word.
+    // With the kept records of the folder the steps are those of the repair of the chains, from the first on: all are mended
+    // in the end, and the same is kept and found at each word.
+    ensures steps { OnOk result (ForSome (F.told f.old).files (λ from. AreChainsScanned records.now ends.now whole.now from → Applies (F.told f.old) (F.told f.new) (chain_repair_steps from))) }
+    ensures prefix { ForSome (F.told f.old).files (λ from. AreChainsScanned records.now ends.now whole.now from → AppliesPrefix (F.told f.old) (F.told f.new) (chain_repair_steps from)) }
     ensures mended { OnOk result (ForSome (F.told f.old).files (λ from. AreChainsScanned records.now ends.now whole.now from → ForSome (F.told f.new).files (AreChainsMended from))) }
     ensures stops { ForSome (F.told f.old).files (λ from. AreChainsScanned records.now ends.now whole.now from → Passes (F.told f.old) (F.told f.new) (HoldsTheSame from)) }
 
@@ -65,8 +68,8 @@ fn mend_bucket<F: Folder>(
 ) -> Result<(), Fault>
     requires stand { All (λ w. is_record_among files.now w ≡ true) records.now }
     requires is_open { ForSome (F.told f.old).files (IsOpen files.now) }
-    ensures mended { OnOk result (ForSome (F.told f.old).files (λ from. (entry : Image) → IsNextBucket entry bucket records.now whole from → ForSome (F.told f.new).files (HasChainsUpTo entry (bucket + 1)))) }
-    ensures stops { ForSome (F.told f.old).files (λ from. (entry : Image) → IsNextBucket entry bucket records.now whole from → Passes (F.told f.old) (F.told f.new) (HoldsTheSame entry)) }
+    ensures steps { OnOk result (ForSome (F.told f.old).files (λ from. (entry : Image) → IsNextBucket entry bucket records.now whole from → Applies (F.told f.old) (F.told f.new) (chain_steps bucket records.now from))) }
+    ensures prefix { ForSome (F.told f.old).files (λ from. (entry : Image) → IsNextBucket entry bucket records.now whole from → AppliesPrefix (F.told f.old) (F.told f.new) (chain_steps bucket records.now from)) }
     ensures is_open { ForSome (F.told f.new).files (IsOpen files.now) }
     ensures silent { (F.told f.old).files ≡ None → (F.told f.new).files ≡ None }
     ensures damaged { IfDamaged result (IsChainDamage bucket files.now (F.told f.new)) }

@@ -1,15 +1,21 @@
-use Rattle.std.proofs.Common.{◌+◌, ◌∙◌, Bool, subst, sym}
+use Rattle.std.proofs.Common.{Bool, subst, sym, refl}
 use Rattle.std.proofs.lemmas.Result.{on_ok_weaker}
-use Rattle.blk_image.proofs.Runs.{some_inj}
-use Rattle.blk_repair_laws.specs.ChainRepair.{HasChainsUpTo}
+use Rattle.blk_image.specs.Told.{Applies}
+use Rattle.blk_image.proofs.Runs.{grows_none, part_whole}
 use Rattle.blk_repair.specs.Chains.{IsNextBucket}
-use Rattle.blk_repair.proofs.WholeChains.{whole-next}
+use Rattle.blk_repair.proofs.WholeChains.{whole-steps}
 use Rattle.blk_repair.proofs.tables.mend_bucket.Goals as goal
 
-pub returns-then-whole-clause-mended : goal.returns-then-whole-clause-mended
-returns-then-whole-clause-mended g c image there entry next other here =
-    subst (HasChainsUpTo entry (c.args.bucket + 1)) (some_inj (sym there ∙ here))
-    (whole-next entry c.args.bucket c.args.records.now image c.ranges.bucket.fits (subst (λ (b : Bool). IsNextBucket entry c.args.bucket c.args.records.now b image) c.if-whole.true next))
+pub returns-then-whole-clause-steps : goal.returns-then-whole-clause-steps
+returns-then-whole-clause-steps g c image there entry next =
+    subst (Applies (g.F.Folder.told c.args.f.now) (g.F.Folder.told c.args.f.now))
+    (sym (whole-steps entry c.args.bucket c.args.records.now image (subst (λ (b : Bool). IsNextBucket entry c.args.bucket c.args.records.now b image) c.if-whole.true next))) (grows_none refl)
 
-pub returns-clause-mended : goal.returns-clause-mended
-returns-clause-mended g c = on_ok_weaker c.mend_chain.result (λ ups image there entry is. ups image there entry is.next) c.mend_chain.ensures.mended
+pub returns-then-whole-clause-prefix : goal.returns-then-whole-clause-prefix
+returns-then-whole-clause-prefix g c image there entry next = part_whole (returns-then-whole-clause-steps g c image there entry next)
+
+pub returns-clause-steps : goal.returns-clause-steps
+returns-clause-steps g c = on_ok_weaker c.mend_chain.result (λ made image there entry is. made image there) c.mend_chain.ensures.steps
+
+pub returns-clause-prefix : goal.returns-clause-prefix
+returns-clause-prefix g c image there entry is = c.mend_chain.ensures.prefix.made image there

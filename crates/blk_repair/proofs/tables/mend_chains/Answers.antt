@@ -1,6 +1,7 @@
 use Rattle.std.proofs.Common.{◌≡◌, ◌<◌, ℕ, None, refl, arith}
+use Rattle.blk_image.proofs.Runs.{part_whole}
 use Rattle.blk_io.proofs.Carried.{carried, if_damaged_weaker}
-use Rattle.blk_repair.proofs.TableRuns.{all-mended, has-next, mended-none, mended-on, passes-on, were-untold}
+use Rattle.blk_repair.proofs.TableRuns.{has-next, mended-none, mended-on, part-on, repair-mends, repair-passes, repair-steps, were-untold}
 use Rattle.blk_repair.proofs.tables.mend_chains.Goals as goal
 
 pub loop-i-init : goal.loop-i-init
@@ -14,10 +15,13 @@ loop-i-init g c = record {
 below : (i n : ℕ) → i < n → n ≡ 65536 → i < 65536
 below i n less is = omega (arith, less, is)
 
+pub returns-in_err-mend_bucket-clause-prefix : goal.returns-in_err-mend_bucket-clause-prefix
+returns-in_err-mend_bucket-clause-prefix g c =
+    part-on (g.F.Folder.told c.args.f.now) (g.F.Folder.told c.loop-i.f) c.args.records.now c.args.ends.now c.args.whole.now c.loop-i.i c.records_of-own.result.now _ (below c.loop-i.i _ c.loop-i-test.true c.requires.ends.many) c.records_of-own.ensures refl
+    c.loop-i.invariant.are (g.F.Folder.told c.mend_bucket.new.f) c.mend_bucket.ensures.prefix
+
 pub returns-in_err-mend_bucket-clause-stops : goal.returns-in_err-mend_bucket-clause-stops
-returns-in_err-mend_bucket-clause-stops g c =
-    passes-on (g.F.Folder.told c.args.f.now) (g.F.Folder.told c.loop-i.f) c.args.records.now c.args.ends.now c.args.whole.now c.loop-i.i c.records_of-own.result.now _ (below c.loop-i.i _ c.loop-i-test.true c.requires.ends.many) c.records_of-own.ensures refl
-    c.loop-i.invariant.are (g.F.Folder.told c.mend_bucket.new.f) c.mend_bucket.ensures.stops
+returns-in_err-mend_bucket-clause-stops g c = repair-passes (g.F.Folder.told c.args.f.now) (g.F.Folder.told c.mend_bucket.new.f) c.args.records.now c.args.ends.now c.args.whole.now (returns-in_err-mend_bucket-clause-prefix g c)
 
 pub returns-in_err-mend_bucket-clause-untold : goal.returns-in_err-mend_bucket-clause-untold
 returns-in_err-mend_bucket-clause-untold g c scanned =
@@ -33,11 +37,20 @@ returns-in_err-mend_bucket-clause-untold g c scanned =
 pub loop-i-preserved : goal.loop-i-preserved
 loop-i-preserved g c = record {
   are = mended-on (g.F.Folder.told c.args.f.now) (g.F.Folder.told c.loop-i.f) c.args.records.now c.args.ends.now c.args.whole.now c.loop-i.i c.records_of-own.result.now _ (below c.loop-i.i _ c.loop-i-test.true c.requires.ends.many) c.records_of-own.ensures refl
-      c.loop-i.invariant.are (g.F.Folder.told c.mend_bucket.new.f) c.mend_bucket.ensures.stops c.in_ok-mend_bucket.ensures.mended c.mend_bucket.ensures.silent;
+      c.loop-i.invariant.are (g.F.Folder.told c.mend_bucket.new.f) c.in_ok-mend_bucket.ensures.steps c.mend_bucket.ensures.silent;
   is_open = c.mend_bucket.ensures.is_open;
   later = omega (arith, c.loop-i.invariant.later, c.mend_bucket.ensures.later);
 }
 
+pub returns-clause-steps : goal.returns-clause-steps
+returns-clause-steps g c =
+    repair-steps (g.F.Folder.told c.args.f.now) (g.F.Folder.told c.loop-i.f) c.args.records.now c.args.ends.now c.args.whole.now c.loop-i.i (let i = c.loop-i.auto.i-end in let n = c.requires.ends.many in omega (arith, i, n, c.loop-i-test.false)) c.loop-i.invariant.are
+
+pub returns-clause-prefix : goal.returns-clause-prefix
+returns-clause-prefix g c image there scanned = part_whole (returns-clause-steps g c image there scanned)
+
 pub returns-clause-mended : goal.returns-clause-mended
-returns-clause-mended g c =
-    all-mended (g.F.Folder.told c.args.f.now) (g.F.Folder.told c.loop-i.f) c.args.records.now c.args.ends.now c.args.whole.now c.loop-i.i (let i = c.loop-i.auto.i-end in let n = c.requires.ends.many in omega (arith, i, n, c.loop-i-test.false)) c.loop-i.invariant.are
+returns-clause-mended g c = repair-mends (g.F.Folder.told c.args.f.now) (g.F.Folder.told c.loop-i.f) c.args.records.now c.args.ends.now c.args.whole.now (returns-clause-steps g c)
+
+pub returns-clause-stops : goal.returns-clause-stops
+returns-clause-stops g c = repair-passes (g.F.Folder.told c.args.f.now) (g.F.Folder.told c.loop-i.f) c.args.records.now c.args.ends.now c.args.whole.now (returns-clause-prefix g c)
