@@ -17,7 +17,7 @@ use Rattle.blk_addr.specs.Bits.{has_bit}
 use Rattle.blk_addr.specs.Claims.{allocations_in}
 use Rattle.blk_addr.specs.declared.claim_set.Claims.{Claims}
 use Rattle.blk_alloc.specs.Changes.{map_of}
-use Rattle.blk_alloc.specs.Mending.{IsPartWritten, IsWritten}
+use Rattle.blk_alloc.specs.Mending.{IsFrontWritten, AreBytesWritten}
 use Rattle.blk_alloc.specs.Rebuilding.{counters_of, counts_of, is_block_claimed, is_updating_place, AreHeaderBytes, AreMarked, HasMarksOf, HasTheseCounters, IsCounting, IsMending, IsMendingToEnd, IsOldOrClaimed, IsRebuilt, KeepsBytes, RemakesInProgress}
 use Rattle.blk_alloc.proofs.Changing.{at_updating, within-trans}
 use Rattle.blk_alloc.proofs.Counted.{at_map, counts_within, updating_kept}
@@ -66,7 +66,7 @@ pub each_begin : (claims : Claims) (n : ℕ) (from : Image) → IsOldOrClaimed c
 each_begin claims n from = record { marks = λ b small. inl refl; allocations = inl refl; empty = λ i small. inl refl }
 
 -- updating that is written
-module _ (n : ℕ) (bytes : List ℕ) (from image : Image) (written : IsWritten (Block n) 56 bytes 4 from image) where
+module _ (n : ℕ) (bytes : List ℕ) (from image : Image) (written : AreBytesWritten (Block n) 56 bytes 4 from image) where
   pub only_updating : KeepsBytes n from image
   only_updating i beside = written.same.bytes (Block n) i (range_beside (Block n) 56 4 i (apart i beside))
     where
@@ -87,11 +87,11 @@ updating_bytes n a b same i small = same.bytes (Block n) (56 + i) (by_test (same
 -- The map.
 
 module _ (claims : Claims) (n : ℕ) (from : Image) (bytes : List ℕ) (long : length bytes ≡ 8112) (bits : (m : ℕ) → m < 64896 → has_bit bytes m ≡ is_block_claimed claims n m) where
-  map_mark : (k : ℕ) (image : Image) → IsWritten (Block n) 80 bytes k from image → (b : ℕ) → b < 64896 → b / 8 < k → is_block_marked image n b ≡ is_block_claimed claims n b
+  map_mark : (k : ℕ) (image : Image) → AreBytesWritten (Block n) 80 bytes k from image → (b : ℕ) → b < 64896 → b / 8 < k → is_block_marked image n b ≡ is_block_claimed claims n b
   unfolding has_bit
   map_mark k image written b small below = ap (λ (x : ℕ). bit_at x (b % 8) == 1) (written.there (b / 8) below) ∙ bits b small
 
-  pub mending_map : (image : Image) → IsPartWritten (Block n) 80 bytes from image → IsMending claims n from image
+  pub mending_map : (image : Image) → IsFrontWritten (Block n) 80 bytes from image → IsMending claims n from image
   mending_map image part = record {
     same = outside_wider (range (Block n) 80 (4 * part.words)) (counts_of n) from image
         (within-trans (range (Block n) 80 (4 * part.words)) (range (Block n) 80 8112) (counts_of n) (range_within (Block n) 80 (4 * part.words) 80 8112 (omega arith) (let most = part.most in omega (arith, most, long))) (at_map n)) part.written.same;
@@ -104,7 +104,7 @@ module _ (claims : Claims) (n : ℕ) (from : Image) (bytes : List ℕ) (long : l
     };
   }
 
-  pub map_marked : (image : Image) → IsWritten (Block n) 80 bytes (length bytes) from image → AreMarked claims image n
+  pub map_marked : (image : Image) → AreBytesWritten (Block n) 80 bytes (length bytes) from image → AreMarked claims image n
   map_marked image written b small = map_mark (length bytes) image written b small (omega (arith, small, long))
 
 -- The counters, behind the map.
@@ -161,7 +161,7 @@ pub rebuilt_by : (claims : Claims) (n : ℕ) (image : Image) → HasMarksOf clai
 rebuilt_by claims n image has zero_is = record { right = has; updating = zero_is }
 
 -- and updating is 0 once this is written
-pub end_rebuilt : (claims : Claims) (n : ℕ) (mid : Image) → HasMarksOf claims mid n → (bytes : List ℕ) → bytes ≡ word_bytes 0 → (image : Image) → IsWritten (Block n) 56 bytes 4 mid image → IsRebuilt claims image n
+pub end_rebuilt : (claims : Claims) (n : ℕ) (mid : Image) → HasMarksOf claims mid n → (bytes : List ℕ) → bytes ≡ word_bytes 0 → (image : Image) → AreBytesWritten (Block n) 56 bytes 4 mid image → IsRebuilt claims image n
 end_rebuilt claims n mid has bytes zeros image written =
     rebuilt_by claims n image (has_marks_kept n mid image (only_updating n bytes mid image written) claims has)
     (word_there (byte image (Block n)) 56 0 (omega arith) (λ i small. written.there i small ∙ ap (λ (l : List ℕ). content l i) zeros))
@@ -175,7 +175,7 @@ module _ (claims : Claims) (n : ℕ) (from : Image) (one : (i : ℕ) → i < 4 �
   }
 
   module _ (mid : Image) (mending : IsMending claims n from mid) (has : HasMarksOf claims mid n) (bytes : List ℕ) (zeros : bytes ≡ word_bytes 0) where
-    pub at_end : (image : Image) → (image ≡ mid) ⊎ IsWritten (Block n) 56 bytes 4 mid image → IsMendingToEnd claims n from image
+    pub at_end : (image : Image) → (image ≡ mid) ⊎ AreBytesWritten (Block n) 56 bytes 4 mid image → IsMendingToEnd claims n from image
     at_end image (inl is) = subst (IsMendingToEnd claims n from) (sym is) (to_end mid mending)
     at_end image (inr written) = record {
       same = outside-trans (map_of n) from mid image (to_end mid mending).same (in_map n bytes mid image written);
@@ -230,7 +230,7 @@ module _ (claims : Claims) (n : ℕ) (from : Image) where
 
   module _ (bytes : List ℕ) where
     -- where the map and the counters are right, updating alone is written
-    pub only_end : bytes ≡ word_bytes 0 → (image : Image) → (image ≡ from) ⊎ IsWritten (Block n) 56 bytes 4 from image → RemakesInProgress claims n from image
+    pub only_end : bytes ≡ word_bytes 0 → (image : Image) → (image ≡ from) ⊎ AreBytesWritten (Block n) 56 bytes 4 from image → RemakesInProgress claims n from image
     only_end zeros image (inl is) = subst (RemakesInProgress claims n from) (sym is) remakes_begin
     only_end zeros image (inr written) = record {
       same = in_map n bytes from image written;
@@ -255,7 +255,7 @@ module _ (claims : Claims) (n : ℕ) (from : Image) where
 
     -- where they aren't, updating becomes 1 first
     module _ (wrong : HasMarksOf claims from n → ⊥) where
-      pub first_step : (image : Image) → (image ≡ from) ⊎ IsWritten (Block n) 56 bytes 4 from image → RemakesInProgress claims n from image
+      pub first_step : (image : Image) → (image ≡ from) ⊎ AreBytesWritten (Block n) 56 bytes 4 from image → RemakesInProgress claims n from image
       first_step image (inl is) = subst (RemakesInProgress claims n from) (sym is) remakes_begin
       first_step image (inr written) = record {
         same = in_map n bytes from image written;
@@ -265,7 +265,7 @@ module _ (claims : Claims) (n : ℕ) (from : Image) where
       }
 
       -- and then all is written
-      pub then_all : (mid : Image) → IsWritten (Block n) 56 bytes 4 from mid → (image : Image) → IsMendingToEnd claims n mid image → RemakesInProgress claims n from image
+      pub then_all : (mid : Image) → AreBytesWritten (Block n) 56 bytes 4 from mid → (image : Image) → IsMendingToEnd claims n mid image → RemakesInProgress claims n from image
       then_all mid written image mending = record {
         same = outside-trans (map_of n) from mid image (in_map n bytes from mid written) mending.same;
         each = each_same claims n mid from image image (λ i beside. sym (only_updating n bytes from mid written i beside)) (λ i beside. refl) mending.each;

@@ -14,7 +14,7 @@ use Rattle.blk_image.proofs.Splices.{content-spliced_inside}
 use Rattle.blk_image.proofs.Footprints.{outside-refl, outside-trans, outside_wider, outside_write, range_within}
 use Rattle.blk_image.proofs.Words.{content-range, range-is}
 use Rattle.blk_image.proofs.Runs.{grows_none, grows_then, passes_end, quiet_front, quiet-append, some_inj, until_front, until-append, until_weaker2}
-use Rattle.blk_alloc.specs.Mending.{AreNeeded, IsPartWritten, IsWritten, PassesNeeded}
+use Rattle.blk_alloc.specs.Mending.{AreNeeded, IsFrontWritten, AreBytesWritten, PassesNeeded}
 
 needed_front : (s t : List TrailStep) (image : Image) → AreNeeded image (s ++ t) → AreNeeded image s
 needed_front [] t image all = tt
@@ -99,11 +99,11 @@ range_content (suc n) i f (b ∷ bytes) long same =
 
 module _ (f : File) (place : ℕ) (bytes : List ℕ) (n : ℕ) (long : length bytes ≡ n) (from : Image) where
   -- bytes that stand there are written
-  pub written_same : ((i : ℕ) → i < n → content bytes i ≡ byte from f (place + i)) → IsWritten f place bytes n from from
+  pub written_same : ((i : ℕ) → i < n → content bytes i ≡ byte from f (place + i)) → AreBytesWritten f place bytes n from from
   written_same same = record { same = outside-refl (range f place n) from; there = λ i small. sym (same i small) }
 
   -- and bytes of a step
-  pub written_step : place + n ≤ length_of from f → IsWritten f place bytes n from (applied (Word f place bytes) from)
+  pub written_step : place + n ≤ length_of from f → AreBytesWritten f place bytes n from (applied (Word f place bytes) from)
   written_step inside = record {
     same = subst (λ (k : ℕ). SameOutside (range f place k) from (applied (Word f place bytes) from)) long (outside_write f place bytes from);
     there = λ i small. ap (λ (l : List ℕ). content l (place + i)) (bytes_of-written from f place bytes) ∙ content-spliced_inside place bytes (bytes_of from f) i (place + i) refl (omega (arith, small, long)) (omega (arith, small, inside));
@@ -112,21 +112,21 @@ module _ (f : File) (place : ℕ) (bytes : List ℕ) (n : ℕ) (long : length by
 -- a word that differs is written by a step that is needed
 module _ (f : File) (place : ℕ) (old new : List ℕ) (four : length new ≡ 4) (differ : old ≡ new → ⊥) where
   pub word_needed : {a b : Told} (from : Image) → a.files ≡ Some from → length old ≡ 4 → place % 4 ≡ 0 → place + 4 ≤ length_of from f → ((i : ℕ) → i < 4 → content old i ≡ byte from f (place + i)) → AppliesPrefix a b (words f place new)
-      → PassesNeeded a b (λ image. (image ≡ from) ⊎ IsWritten f place new 4 from image)
+      → PassesNeeded a b (λ image. (image ≡ from) ⊎ AreBytesWritten f place new 4 from image)
   word_needed {a} {b} from there long aligned inside stands part =
-      needed_part (λ image. (image ≡ from) ⊎ IsWritten f place new 4 from image) from there (subst (AppliesPrefix a b) (one_step f place new four aligned) part) tt
+      needed_part (λ image. (image ≡ from) ⊎ AreBytesWritten f place new 4 from image) from there (subst (AppliesPrefix a b) (one_step f place new four aligned) part) tt
       (inl refl, inr (written_step f place new 4 four from inside))
       ((λ same. differ (sym (range_content 4 place (byte from f) old long stands) ∙ subst (λ (k : ℕ). range_at (byte from f) place k ≡ new) four same)), tt)
 
 -- Word after word.
 
 -- bytes that are written as far as a number of words are part written
-pub part_written : (f : File) (place : ℕ) (bytes : List ℕ) (k : ℕ) (from image : Image) → 4 * k ≤ length bytes → IsWritten f place bytes (4 * k) from image → IsPartWritten f place bytes from image
+pub part_written : (f : File) (place : ℕ) (bytes : List ℕ) (k : ℕ) (from image : Image) → 4 * k ≤ length bytes → AreBytesWritten f place bytes (4 * k) from image → IsFrontWritten f place bytes from image
 part_written f place bytes k from image most written = record { words = k; most = most; written = written }
 
 -- one word more
-module _ (f : File) (place : ℕ) (bytes new : List ℕ) (k : ℕ) (from mid : Image) (before : IsWritten f place bytes (4 * k) from mid) (same : (i : ℕ) → i < 4 → content new i ≡ content bytes (4 * k + i)) where
-  pub written_more : (image : Image) → IsWritten f (place + 4 * k) new 4 mid image → IsWritten f place bytes (4 * (k + 1)) from image
+module _ (f : File) (place : ℕ) (bytes new : List ℕ) (k : ℕ) (from mid : Image) (before : AreBytesWritten f place bytes (4 * k) from mid) (same : (i : ℕ) → i < 4 → content new i ≡ content bytes (4 * k + i)) where
+  pub written_more : (image : Image) → AreBytesWritten f (place + 4 * k) new 4 mid image → AreBytesWritten f place bytes (4 * (k + 1)) from image
   written_more image more = record {
     same =
         outside-trans (range f place (4 * (k + 1))) from mid image
@@ -151,8 +151,8 @@ module _ (f : File) (place : ℕ) (bytes new : List ℕ) (k : ℕ) (from mid : I
           let is : 4 * k + (i - 4 * k) ≡ i = omega (arith, high) in
           ap (byte image f) at ∙ more.there (i - 4 * k) (omega (arith, high, small)) ∙ same (i - 4 * k) (omega (arith, high, small)) ∙ ap (content bytes) is
 
-  pub part_more : 4 * (k + 1) ≤ length bytes → (image : Image) → (image ≡ mid) ⊎ IsWritten f (place + 4 * k) new 4 mid image → IsPartWritten f place bytes from image
-  part_more most image (inl is) = part_written f place bytes k from image (omega (arith, most)) (subst (IsWritten f place bytes (4 * k) from) (sym is) before)
+  pub part_more : 4 * (k + 1) ≤ length bytes → (image : Image) → (image ≡ mid) ⊎ AreBytesWritten f (place + 4 * k) new 4 mid image → IsFrontWritten f place bytes from image
+  part_more most image (inl is) = part_written f place bytes k from image (omega (arith, most)) (subst (AreBytesWritten f place bytes (4 * k) from) (sym is) before)
   part_more most image (inr more) = part_written f place bytes (k + 1) from image most (written_more image more)
 
 -- a byte of a part of some bytes
@@ -160,7 +160,7 @@ pub content_part : (bytes : List ℕ) (at n i : ℕ) → at + n ≤ length bytes
 content_part bytes at n i fits small = ap (λ (l : List ℕ). content l i) (sym (range-is n at bytes fits)) ∙ content-range n at (content bytes) i (at + i) small refl
 
 -- what stood behind the bytes that are written stands there still
-pub stands_behind : (f : File) (place : ℕ) (bytes : List ℕ) (n : ℕ) (from image : Image) → IsWritten f place bytes n from image → (i : ℕ) → n ≤ i → byte image f (place + i) ≡ byte from f (place + i)
+pub stands_behind : (f : File) (place : ℕ) (bytes : List ℕ) (n : ℕ) (from image : Image) → AreBytesWritten f place bytes n from image → (i : ℕ) → n ≤ i → byte image f (place + i) ≡ byte from f (place + i)
 stands_behind f place bytes n from image written i past = written.same.bytes f (place + i) (by_test (same_file f f))
   where
     by_test : (t : Bool) → (t && (nat_le place (place + i) && nat_lt (place + i) (place + n))) ≡ false

@@ -9,7 +9,7 @@ use Rattle.blk_image.specs.Footprint.{SameOutside, IsWithin, range}
 use Rattle.blk_image.proofs.Words.{word-written}
 use Rattle.blk_image.proofs.Footprints.{outside-refl, outside-trans, outside_wider, range_within, same_word_outside, within_left, within_right}
 use Rattle.blk_format.specs.Headers.{allocations_of, empty_of}
-use Rattle.blk_alloc.specs.Mending.{IsPartWritten, IsWritten}
+use Rattle.blk_alloc.specs.Mending.{IsFrontWritten, AreBytesWritten}
 use Rattle.blk_alloc.specs.Rebuilding.{counters_of, HasTheseCounters, IsCounting}
 use Rattle.blk_alloc.proofs.Changing.{within-trans}
 
@@ -79,7 +79,7 @@ module _ (n a : ℕ) (number : List ℕ) (bytes_of_number : number ≡ word_byte
   counting_none = record { same = outside-refl (counters_of n) from; allocations = inl refl; empty = λ i few. inl refl }
 
   -- the number is written
-  module _ (mid : Image) (first : IsWritten (Block n) 16 number 4 from mid) where
+  module _ (mid : Image) (first : AreBytesWritten (Block n) 16 number 4 from mid) where
     number_is : allocations_of (byte mid (Block n)) ≡ a
     number_is = word_there (byte mid (Block n)) 16 a small (λ i few. first.there i few ∙ ap (λ (l : List ℕ). content l i) bytes_of_number)
 
@@ -94,15 +94,15 @@ module _ (n a : ℕ) (number : List ℕ) (bytes_of_number : number ≡ word_byte
       long : length bytes ≡ 16
       long = ap length are
 
-      run_is : (w i : ℕ) → IsWritten (Block n) 24 bytes (4 * w) mid image → i < w → i < 4 → empty_of (byte image (Block n)) i ≡ slice_index e i
+      run_is : (w i : ℕ) → AreBytesWritten (Block n) 24 bytes (4 * w) mid image → i < w → i < 4 → empty_of (byte image (Block n)) i ≡ slice_index e i
       run_is w i written below few =
           word_there (byte image (Block n)) (24 + 4 * i) (slice_index e i) (fits i few)
           (λ j low. ap (byte image (Block n)) {x = 24 + 4 * i + j} {y = 24 + (4 * i + j)} (omega arith) ∙ written.there (4 * i + j) (omega (arith, below, low)) ∙ ap (λ (l : List ℕ). content l (4 * i + j)) are ∙ four_bytes e i j few low)
 
-      number_stays : (w : ℕ) → IsWritten (Block n) 24 bytes (4 * w) mid image → allocations_of (byte image (Block n)) ≡ a
+      number_stays : (w : ℕ) → AreBytesWritten (Block n) 24 bytes (4 * w) mid image → allocations_of (byte image (Block n)) ≡ a
       number_stays w written = word_beside_range (Block n) 24 (4 * w) 16 mid image (inl (omega arith)) written.same ∙ number_is
 
-      pub counting_runs : IsPartWritten (Block n) 24 bytes mid image → IsCounting n a e from image
+      pub counting_runs : IsFrontWritten (Block n) 24 bytes mid image → IsCounting n a e from image
       counting_runs part = record {
         same = outside-trans (counters_of n) from mid image counting_number.same (outside_wider (range (Block n) 24 (4 * part.words)) (counters_of n) mid image (at_runs (4 * part.words) (let most = part.most in omega (arith, most, long))) part.written.same);
         allocations = inr (number_stays part.words part.written);
@@ -112,11 +112,11 @@ module _ (n a : ℕ) (number : List ℕ) (bytes_of_number : number ≡ word_byte
       }
 
       -- all are written
-      pub counters_are : IsWritten (Block n) 24 bytes (length bytes) mid image → HasTheseCounters (byte image (Block n)) a e
+      pub counters_are : AreBytesWritten (Block n) 24 bytes (length bytes) mid image → HasTheseCounters (byte image (Block n)) a e
       counters_are written =
-          let all : IsWritten (Block n) 24 bytes (4 * 4) mid image = subst (λ (k : ℕ). IsWritten (Block n) 24 bytes k mid image) long written in
+          let all : AreBytesWritten (Block n) 24 bytes (4 * 4) mid image = subst (λ (k : ℕ). AreBytesWritten (Block n) 24 bytes k mid image) long written in
           record { allocations = number_stays 4 all; empty = λ i few. run_is 4 i all few few }
 
-  pub counting_first : (image : Image) → (image ≡ from) ⊎ IsWritten (Block n) 16 number 4 from image → IsCounting n a e from image
+  pub counting_first : (image : Image) → (image ≡ from) ⊎ AreBytesWritten (Block n) 16 number 4 from image → IsCounting n a e from image
   counting_first image (inl is) = subst (IsCounting n a e from) (sym is) counting_none
   counting_first image (inr first) = counting_number image first

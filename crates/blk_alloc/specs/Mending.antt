@@ -28,12 +28,12 @@ pub record PassesNeeded (old new : Told) (P : Image → Type 0) : Type 0 where
   pub needed : ForSome old.files (λ image. AreNeeded image steps)
 
 -- the first so many of some bytes stand at a place, and nothing else differs
-pub record IsWritten (file : File) (place : ℕ) (bytes : List ℕ) (count : ℕ) (from image : Image) : Type 0 where
+pub record AreBytesWritten (file : File) (place : ℕ) (bytes : List ℕ) (count : ℕ) (from image : Image) : Type 0 where
   pub same : SameOutside (range file place count) from image
   pub there : (i : ℕ) → i < count → byte image file (place + i) ≡ content bytes i
 
 -- the first words of some bytes stand at a place, and nothing else differs
-pub record IsPartWritten (file : File) (place : ℕ) (bytes : List ℕ) (from image : Image) : Type 0 where
+pub record IsFrontWritten (file : File) (place : ℕ) (bytes : List ℕ) (from image : Image) : Type 0 where
   pub words : ℕ
   pub most : 4 * words ≤ length bytes
-  pub written : IsWritten file place bytes (4 * words) from image
+  pub written : AreBytesWritten file place bytes (4 * words) from image

@@ -6,7 +6,7 @@ ghost use Rattle.blk_image.specs.Image.{Block as block, HasRange, byte, length_o
 ghost use Rattle.blk_image.specs.Told.{Rises, Stays};
 ghost use Rattle.blk_format.specs.Address.{header_size};
 ghost use Rattle.blk_format.specs.Headers.{block_fields_length};
-ghost use Rattle.blk_alloc.specs.Mending.{IsPartWritten, IsWritten, PassesNeeded};
+ghost use Rattle.blk_alloc.specs.Mending.{IsFrontWritten, AreBytesWritten, PassesNeeded};
 ghost use Rattle.blk_alloc.specs.Rebuilding.{HasTheseCounters, IsCounting};
 
 use crate::layout::{ALLOCATIONS, EMPTY};
@@ -26,8 +26,8 @@ pub(crate) fn mend_word<F: Folder>(
     requires new_word { length new.now ≡ 4 }
     requires inside { ForSome (F.told f.old).files (λ image. HasRange image (block file) at 4) }
     requires stands { ForSome (F.told f.old).files (λ image. (i : ℕ) → i < 4 → content old.now i ≡ byte image (block file) (at + i)) }
-    ensures done { OnOk result (ForSome (F.told f.old).files (λ from. ForSome (F.told f.new).files (IsWritten (block file) at new.now 4 from))) }
-    ensures stops { ForSome (F.told f.old).files (λ from. PassesNeeded (F.told f.old) (F.told f.new) (λ image. (image ≡ from) ⊎ IsWritten (block file) at new.now 4 from image)) }
+    ensures done { OnOk result (ForSome (F.told f.old).files (λ from. ForSome (F.told f.new).files (AreBytesWritten (block file) at new.now 4 from))) }
+    ensures stops { ForSome (F.told f.old).files (λ from. PassesNeeded (F.told f.old) (F.told f.new) (λ image. (image ≡ from) ⊎ AreBytesWritten (block file) at new.now 4 from image)) }
     ensures same { old.now ≡ new.now → Stays (F.told f.old) (F.told f.new) }
     ensures silent { (F.told f.old).files ≡ None → (F.told f.new).files ≡ None }
     ensures later { F.faults f.old ≤ F.faults f.new }
@@ -53,8 +53,8 @@ pub(crate) fn mend<F: Folder>(
     requires small { at + length new.now < 2 ^ 32 }
     requires inside { ForSome (F.told f.old).files (λ image. HasRange image (block file) at (length new.now)) }
     requires stands { ForSome (F.told f.old).files (λ image. (i : ℕ) → i < length old.now → content old.now i ≡ byte image (block file) (at + i)) }
-    ensures done { OnOk result (ForSome (F.told f.old).files (λ from. ForSome (F.told f.new).files (IsWritten (block file) at new.now (length new.now) from))) }
-    ensures stops { ForSome (F.told f.old).files (λ from. PassesNeeded (F.told f.old) (F.told f.new) (IsPartWritten (block file) at new.now from)) }
+    ensures done { OnOk result (ForSome (F.told f.old).files (λ from. ForSome (F.told f.new).files (AreBytesWritten (block file) at new.now (length new.now) from))) }
+    ensures stops { ForSome (F.told f.old).files (λ from. PassesNeeded (F.told f.old) (F.told f.new) (IsFrontWritten (block file) at new.now from)) }
     ensures silent { (F.told f.old).files ≡ None → (F.told f.new).files ≡ None }
     ensures later { F.faults f.old ≤ F.faults f.new }
     ensures failed { OnErr result (Rises (F.faults f.old) (F.faults f.new)) }

@@ -19,7 +19,7 @@ use Rattle.blk_disk.specs.Tables.{Agrees, stands_among}
 use Rattle.blk_disk.proofs.Ranges.{stands_range}
 use Rattle.blk_entry.proofs.KeyPlaces.{take-range, drop-range}
 use Rattle.blk_audit.specs.Chaining.{first_block_of}
-use Rattle.blk_audit.specs.Records.{AreRecordsOf, IsHashOfKey, IsSaidBy, fields_said, hash_in, record_in, words_in}
+use Rattle.blk_audit.specs.Records.{AreRecordsOf, IsHashOfKey, IsSaidBy, fields_said, hash_in, record_in, record_words_in}
 use Rattle.blk_audit.specs.declared.records.ReadRecord.{ReadRecord}
 use Rattle.blk_audit.specs.declared.record_words.RecordWords.{RecordWords}
 use Rattle.blk_audit.specs.declared.record_files.Placed.{Placed}
@@ -137,7 +137,7 @@ said_block image n b at bytes file block there long small inside is =
     let behind : (k : ℕ) → range_at (block_bytes image w) (place w + 96) k ≡ range_at (byte image (Block n)) (at + 96) k = λ k. ap₂ (λ (f p : ℕ). range_at (byte image (Block f)) (p + 96) k) sel (sym at_place) in
     record {
       words = are_words image w (take 96 bytes) small kind front;
-      key_hash = hash_is image w (words_in (take 96 bytes)) (byte image (Block n)) (at + 96) (length bytes - 96) (drop 96 bytes) rest (length-drop 96 bytes) behind;
+      key_hash = hash_is image w (record_words_in (take 96 bytes)) (byte image (Block n)) (at + 96) (length bytes - 96) (drop 96 bytes) rest (length-drop 96 bytes) behind;
       there = subst (λ (f : ℕ). HasRange image (Block f) (place w) 96) (sym sel) (subst (λ (p : ℕ). HasRange image (Block n) p 96) at_place (omega (arith, inside, long)));
     }
 

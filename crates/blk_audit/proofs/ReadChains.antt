@@ -11,7 +11,7 @@ use Rattle.blk_volume.specs.Chains.{file_and_block, most_records}
 use Rattle.blk_volume.specs.View.{entry_at}
 use Rattle.blk_disk.specs.declared.tables.BlockFiles.{BlockFiles}
 use Rattle.blk_disk.specs.Tables.{is_record_among, names_among, stands_among}
-use Rattle.blk_audit.specs.Chaining.{AreReachedThere, HasEntry, HasFirst, HasRecords, IsLookedAt, IsReachedThere, IsTaken, is_met}
+use Rattle.blk_audit.specs.Chaining.{AreReachedThere, HasEntry, HasFirst, HasRecords, IsLookedAt, IsReachedThere, IsStepTaken, is_met}
 use Rattle.blk_audit.proofs.FirstBlocks.{block_by, file_by}
 use Rattle.blk_audit.proofs.PiecesOfRecords.{record_place}
 use Rattle.blk_audit.proofs.Truths.{or_first, or_second}
@@ -62,7 +62,7 @@ module _ (files : BlockFiles) (image : Image) where
   settled : (word w : ℕ) → HasEntry files image word → HasEntry files image w ⊎ (w ≡ word) → HasEntry files image w
   settled word w here cases = ⊎_elim (λ (done : HasEntry files image w). done) (λ (e : w ≡ word). subst (HasEntry files image) (sym e) here) cases
 
-  pub way_goes_on : (before old new : List ℕ) (start word next i : ℕ) → IsOnWay before old start word i → HasEntry files image word → IsTaken files image old word new (Some next) → IsOnWay before new start next (i + 1)
+  pub way_goes_on : (before old new : List ℕ) (start word next i : ℕ) → IsOnWay before old start word i → HasEntry files image word → IsStepTaken files image old word new (Some next) → IsOnWay before new start next (i + 1)
   way_goes_on before old new start word next i on here taken =
       let size : length new ≡ length old + 1 = ap (λ (xs : List ℕ). length xs) taken.0 ∙ length_last old word in
       let many = on.many in

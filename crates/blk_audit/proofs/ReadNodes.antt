@@ -18,7 +18,7 @@ use Rattle.blk_volume.specs.ListImages.{completed_walk}
 use Rattle.blk_volume.specs.View.{NodeFields, checks_at, list_of, node_fields_at, stands_as, store_of}
 use Rattle.blk_audit.specs.Chaining.{first_block_of}
 use Rattle.blk_audit.specs.Nodes.{AreNodesOf, loaded_node, node_of, said_at}
-use Rattle.blk_audit.specs.ReadLists.{AreListsOf, AreNamed, AreNamedUpTo, IsMore, fields_by, fields_kept, is_claimed_first, is_listed, record_by, record_of}
+use Rattle.blk_audit.specs.ReadLists.{AreListsOf, AreNamed, AreNamedUpTo, IsMore, fields_by, fields_kept, is_claimed_first, is_named_by, record_by, record_of}
 use Rattle.blk_audit.specs.Walking.{IsNodeWord, nodes_walked}
 use Rattle.blk_audit.specs.declared.nodes.Node.{Node}
 use Rattle.blk_audit.specs.declared.nodes.Nodes.{Nodes}
@@ -78,13 +78,13 @@ module _ (image : Image) (lists : Lists) (are : AreListsOf image lists) where
           bad h = cc
 
   -- whether a node is walked and names a record
-  pub listed_by : (node entry : ℕ) (said : Node) → loaded_node lists.nodes node ≡ Some said → is_listed image node entry ≡ (is_among (nodes_walked lists.walked) node && (said.contents == entry))
+  pub listed_by : (node entry : ℕ) (said : Node) → loaded_node lists.nodes node ≡ Some said → is_named_by image node entry ≡ (is_among (nodes_walked lists.walked) node && (said.contents == entry))
   listed_by node entry said is =
       ap (λ (fields : Option NodeFields). is_among (completed_walk image) node && option_map_or (λ f. f.contents == entry) fields false)
       (fields_are image lists.nodes node are.nodes ∙ ap (option_map fields_by) is)
       ∙ ap (λ (nodes : List ℕ). is_among nodes node && (said.contents == entry)) (sym are.walked)
 
-  pub listed_none : (node entry : ℕ) → loaded_node lists.nodes node ≡ None → is_listed image node entry ≡ false
+  pub listed_none : (node entry : ℕ) → loaded_node lists.nodes node ≡ None → is_named_by image node entry ≡ false
   listed_none node entry is =
       ap (λ (fields : Option NodeFields). is_among (completed_walk image) node && option_map_or (λ f. f.contents == entry) fields false)
       (fields_are image lists.nodes node are.nodes ∙ ap (option_map fields_by) is)
@@ -128,7 +128,7 @@ unfolding is_claimed
 first_claimed claims w = ap (list_any (contains_claim claims)) (claims_first w) ∙ or_false (is_claimed_first claims w)
 
 -- where no walked node names a record with this first block, none names this record
-pub unnamed : (image : Image) (lists : Lists) (entry node : ℕ) → AreListsOf image lists → is_address entry ≡ true → kind_of entry ≡ blocks_256 → is_claimed lists.named (first_block_of entry) ≡ false → is_listed image node entry ≡ false
+pub unnamed : (image : Image) (lists : Lists) (entry node : ℕ) → AreListsOf image lists → is_address entry ≡ true → kind_of entry ≡ blocks_256 → is_claimed lists.named (first_block_of entry) ≡ false → is_named_by image node entry ≡ false
 unnamed image lists entry node are address kind free = by_node (loaded_node lists.nodes node) refl
   where
     none_first : is_claimed_first lists.named entry ≡ false
@@ -148,7 +148,7 @@ unnamed image lists entry node are address kind free = by_node (loaded_node list
         let named = are.named here.at entry (ap (record_of lists.nodes) here.is ∙ ap (option_and_then record_by) at ∙ names) in
         clash (sym none_first ∙ named)
 
-    by_node : (o : Option Node) → loaded_node lists.nodes node ≡ o → is_listed image node entry ≡ false
+    by_node : (o : Option Node) → loaded_node lists.nodes node ≡ o → is_named_by image node entry ≡ false
     by_node None is = listed_none image lists are node entry is
     by_node (Some said) is = listed_by image lists are node entry said is ∙ by_contents said (is_among (nodes_walked lists.walked) node) (said.contents == entry) is refl refl
 

@@ -82,11 +82,11 @@ pub record HasFirst (files : BlockFiles) (image : Image) (words : List ℕ) (n :
   pub first : (b : ℕ) → b < n → IsLookedAt files image words (bucket_of (byte image Index) b)
 
 -- what is read of all chains is there: the table, the records that it names, and those behind them
-pub record HasChains (files : BlockFiles) (image : Image) (words : List ℕ) : Type 0 where
+pub record AreChainsThere (files : BlockFiles) (image : Image) (words : List ℕ) : Type 0 where
   pub table : HasRange image Index (place_of_bucket 0) (4 * table_length)
   pub chains : HasFirst files image words table_length
 
 -- a step of a chain adds nothing, or the record of the word, and gives its next
-abbrev pub IsTaken : BlockFiles → Image → List ℕ → ℕ → List ℕ → Option ℕ → Type 0
-IsTaken files image old w new None = new ≡ old
-IsTaken files image old w new (Some next) = (new ≡ old ++ w ∷ []) × ((next ≡ (entry_at image w).next) × IsReachedThere files image w)
+abbrev pub IsStepTaken : BlockFiles → Image → List ℕ → ℕ → List ℕ → Option ℕ → Type 0
+IsStepTaken files image old w new None = new ≡ old
+IsStepTaken files image old w new (Some next) = (new ≡ old ++ w ∷ []) × ((next ≡ (entry_at image w).next) × IsReachedThere files image w)

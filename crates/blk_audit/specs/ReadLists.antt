@@ -75,5 +75,5 @@ pub record IsWalkedNode (image : Image) (walked : Walked) (i : ℕ) (said : Walk
   pub fields : IsSaidAt image said
 
 -- whether a node of an image is walked and names a record
-abbrev pub is_listed : Image → ℕ → ℕ → Bool
-is_listed image node entry = is_among (completed_walk image) node && option_map_or (λ node_fields. node_fields.contents == entry) ((store_of image).node_fields node) false
+abbrev pub is_named_by : Image → ℕ → ℕ → Bool
+is_named_by image node entry = is_among (completed_walk image) node && option_map_or (λ node_fields. node_fields.contents == entry) ((store_of image).node_fields node) false

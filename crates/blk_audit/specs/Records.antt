@@ -15,8 +15,8 @@ use Rattle.blk_audit.specs.declared.records.ReadRecord.{ReadRecord}
 use Rattle.blk_audit.specs.declared.record_files.Records.{Records}
 
 -- the words of a record with these bytes
-abbrev pub words_in : List ℕ → RecordWords
-words_in bytes = record {
+abbrev pub record_words_in : List ℕ → RecordWords
+record_words_in bytes = record {
   checks = checks 92 bytes;
   hash = word_at (content bytes) 0;
   next = word_at (content bytes) 4;
@@ -54,7 +54,7 @@ hash_in key_len bytes = if nat_le key_len longest_short_key && nat_le key_len (l
 
 -- what a record says whose bytes are these, or the first of these
 abbrev pub record_in : List ℕ → ReadRecord
-record_in bytes = record { words = words_in (take entry_size bytes); key_hash = hash_in (words_in (take entry_size bytes)).key_len (drop entry_size bytes) }
+record_in bytes = record { words = record_words_in (take entry_size bytes); key_hash = hash_in (record_words_in (take entry_size bytes)).key_len (drop entry_size bytes) }
 
 -- this is the hash of the key of a record with these words, where the key is stored
 abbrev pub IsHashOfKey : Image → ℕ → RecordWords → ℕ → Type 0

@@ -72,7 +72,7 @@ impl Lists {
 
     /// Whether the node of a word is walked and names a record.
     pub fn is_listed(&self, entry: Addr, node: u32) -> bool
-        ensures { (image : Image) → AreListsOf image self.now → result ≡ shown.is_listed image node entry }
+        ensures { (image : Image) → AreListsOf image self.now → result ≡ shown.is_named_by image node entry }
     {
         match node_named(&self.nodes, node) {
             Some(here) => self.walked.has(here.addr) && here.node.contents == entry.word(),
@@ -83,7 +83,7 @@ impl Lists {
     /// Whether some walked node names a record with the first block of this one. Where none does, none names this one.
     pub fn is_named(&self, entry: Addr) -> bool
         requires kind { kind_of entry ≡ blocks_256 }
-        ensures { (image : Image) → AreListsOf image self.now → result ≡ false → (node : ℕ) → shown.is_listed image node entry ≡ false }
+        ensures { (image : Image) → AreListsOf image self.now → result ≡ false → (node : ℕ) → shown.is_named_by image node entry ≡ false }
     {
         let _word = entry.word();
         self.named.has(first_of_record(entry))

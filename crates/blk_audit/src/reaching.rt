@@ -13,7 +13,7 @@ ghost use Rattle.blk_disk.specs.Tables.{Agrees};
 ghost use Rattle.blk_index.specs.Table.{AreBuckets};
 ghost use Rattle.blk_audit.specs.Faults.{IfScanDamaged, IfScanDevice, IsChainsDamage, IsRecordDamage};
 ghost use Rattle.blk_audit.specs.Records.{AreRecordsOf};
-ghost use Rattle.blk_audit.specs.Chaining.{AreOfFirst, AreReached, AreReachedThere, HasChains, HasEntry, HasFirst, HasRecords, IsLookedAt, IsReach, IsTaken, is_met, reached_by, words_reached};
+ghost use Rattle.blk_audit.specs.Chaining.{AreOfFirst, AreReached, AreReachedThere, AreChainsThere, HasEntry, HasFirst, HasRecords, IsLookedAt, IsReach, IsStepTaken, is_met, reached_by, words_reached};
 
 use crate::fault::ScanFault;
 use crate::record_files::{Records, read_records, record_of};
@@ -116,7 +116,7 @@ pub fn chains<F: Folder>(
 ) -> Result<Reached, ScanFault>
     ensures reached { IfOk result (λ reached. ForSome (F.told f.old).files (λ image. Agrees files.now image → words_reached reached ≡ reached_by (store_of image) table_length)) }
     ensures met { IfOk result AreReached }
-    ensures checked { IfOk result (λ reached. ForSome (F.told f.old).files (λ image. HasChains files.now image (words_reached reached))) }
+    ensures checked { IfOk result (λ reached. ForSome (F.told f.old).files (λ image. AreChainsThere files.now image (words_reached reached))) }
     ensures stays { Stays (F.told f.old) (F.told f.new) }
 
     // A folder that tells its files gives a damage only where its index is too short or the block files don't agree with it.
@@ -140,7 +140,7 @@ pub(crate) fn chains_over<F: Folder>(
     requires records { ForSome (F.told f.old).files (λ image. AreRecordsOf image records.now) }
     ensures reached { IfOk result (λ reached. ForSome (F.told f.old).files (λ image. Agrees files.now image → words_reached reached ≡ reached_by (store_of image) table_length)) }
     ensures met { IfOk result AreReached }
-    ensures checked { IfOk result (λ reached. ForSome (F.told f.old).files (λ image. HasChains files.now image (words_reached reached))) }
+    ensures checked { IfOk result (λ reached. ForSome (F.told f.old).files (λ image. AreChainsThere files.now image (words_reached reached))) }
     ensures stays { Stays (F.told f.old) (F.told f.new) }
     ensures damaged { IfScanDamaged result (IsChainsDamage files.now (F.told f.new)) }
     ensures untold { ForSome (F.told f.old).files (IsOpen files.now) → IfScanDamaged result (λ _. (F.told f.old).files ≡ None) }
@@ -267,7 +267,7 @@ fn reach<F: Folder>(
     requires there { ForSome (F.told f.old).files (λ image. AreReachedThere files.now image (words_reached reached.old)) }
     ensures met { OnOk result (AreReached reached.new) }
     ensures checked { OnOk result (ForSome (F.told f.old).files (λ image. HasEntry files.now image word)) }
-    ensures taken { IfOk result (λ next. ForSome (F.told f.old).files (λ image. IsTaken files.now image (words_reached reached.old) word (words_reached reached.new) next)) }
+    ensures taken { IfOk result (λ next. ForSome (F.told f.old).files (λ image. IsStepTaken files.now image (words_reached reached.old) word (words_reached reached.new) next)) }
     ensures step { IfOk result (λ next. ForSome (F.told f.old).files (λ image. Agrees files.now image → IsReach (store_of image) bucket (words_reached reached.old) word (words_reached reached.new) next)) }
     ensures stays { Stays (F.told f.old) (F.told f.new) }
     ensures damaged { IfScanDamaged result (IsRecordDamage files.now (F.told f.new)) }

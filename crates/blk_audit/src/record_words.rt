@@ -8,7 +8,7 @@ ghost use Rattle.blk_format.specs.Records.{entry_size};
 ghost use Rattle.blk_io.specs.declared.folder.FileId.TheVariants as FileId;
 ghost use Rattle.blk_io.specs.Faults.{IfDamaged, IfDevice, IsShort};
 ghost use Rattle.blk_disk.specs.Tables.{Agrees, stands_among};
-ghost use Rattle.blk_audit.specs.Records.{AreWordsOf, words_in};
+ghost use Rattle.blk_audit.specs.Records.{AreWordsOf, record_words_in};
 
 use blk_addr::Addr;
 use blk_disk::BlockFiles;
@@ -70,7 +70,7 @@ pub fn read_words<F: Folder>(
 // The words of a record with these bytes.
 pub(crate) fn words_of(window: &[u8]) -> RecordWords
     requires { length window.now ≡ 96 }
-    ensures { result ≡ words_in window.now }
+    ensures { result ≡ record_words_in window.now }
 {
     let view = EntryView::new(window);
     RecordWords {

@@ -7,7 +7,7 @@ ghost use Rattle.blk_volume.specs.ListImages.{completed_walk};
 ghost use Rattle.blk_volume.specs.View.{store_of};
 ghost use Rattle.blk_disk.specs.Open.{IsOpen};
 ghost use Rattle.blk_disk.specs.Tables.{Agrees};
-ghost use Rattle.blk_audit.specs.Chaining.{HasChains, reached_by, words_reached};
+ghost use Rattle.blk_audit.specs.Chaining.{AreChainsThere, reached_by, words_reached};
 ghost use Rattle.blk_audit.specs.Faults.{IfScanDamaged, IfScanDevice, IsListsDamage};
 ghost use Rattle.blk_audit.specs.ReadLists.{AreListsOf};
 ghost use Rattle.blk_audit.specs.Walking.{HasUseList, nodes_walked};
@@ -52,7 +52,7 @@ pub fn read_lists<F: Folder>(
 ) -> Result<Lists, ScanFault>
     ensures walked { IfOk result (λ lists. ForSome (F.told f.old).files (λ image. Agrees files.now image → nodes_walked lists.walked ≡ completed_walk image)) }
     ensures reached { IfOk result (λ lists. ForSome (F.told f.old).files (λ image. Agrees files.now image → words_reached lists.reached ≡ reached_by (store_of image) table_length)) }
-    ensures checked { IfOk result (λ lists. ForSome (F.told f.old).files (λ image. HasUseList files.now image × HasChains files.now image (words_reached lists.reached))) }
+    ensures checked { IfOk result (λ lists. ForSome (F.told f.old).files (λ image. HasUseList files.now image × AreChainsThere files.now image (words_reached lists.reached))) }
     ensures lists { IfOk result (λ lists. ForSome (F.told f.old).files (λ image. Agrees files.now image → AreListsOf image lists)) }
     ensures stays { Stays (F.told f.old) (F.told f.new) }
 

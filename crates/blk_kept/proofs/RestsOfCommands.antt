@@ -25,7 +25,7 @@ use Rattle.blk_model.proofs.Each.{any_has}
 use Rattle.blk_model.proofs.Evicted.{IsLoose, kept_parts, map_at, named_left, named_stays, evicted_are_loose}
 use Rattle.blk_model.proofs.EvictedFirst.{left_nobody, rests-of}
 use Rattle.blk_model.proofs.Steps.{NoneComes, none_comes, room_for_is_loose}
-use Rattle.blk_kept.specs.RestLaws.{GoesOn, RestsAreNotRefused, RestsEvictTheOthersOrNone, TrimsGoOn, RestsHaveTheLaterSteps, RestsEndAlike, StopsInRestsAreInTheWhole}
+use Rattle.blk_kept.specs.RestLaws.{EvictsTheRest, RestsAreNotRefused, RestsEvictTheOthersOrNone, TrimsGoOn, RestsHaveTheLaterSteps, RestsEndAlike, StopsInRestsAreInTheWhole}
 use Rattle.blk_kept.proofs.CommandEnding.{groups-turn}
 use Rattle.blk_kept.proofs.RestRoom.{others-go, room-left}
 use Rattle.blk_kept.proofs.RestGrowth.{kept, GrowsAlike, set-grows, push-grows, count-grows, charge-grows}
@@ -321,7 +321,7 @@ trims-go-on state moment bytes [] others valid is none = sym is.groups ∙ none
 trims-go-on state moment bytes (group ∷ groups) others valid is none = sym (trim-exact state valid moment group groups bytes others is) ∙ none
 
 -- where the rest goes on it evicts the others
-others-exact : (state : State) (moment : ℕ) (request : Request) (first others : List Group) → IsValidState state → EvictsFirst state moment request first others → GoesOn state moment request first others → evicted moment request (without first state) ≡ others
+others-exact : (state : State) (moment : ℕ) (request : Request) (first others : List Group) → IsValidState state → EvictsFirst state moment request first others → EvictsTheRest state moment request first others → evicted moment request (without first state) ≡ others
 others-exact state moment request first others valid is on =
     ⊎_elim (λ (e : evicted moment request (without first state) ≡ others). e) (λ (e : evicted moment request (without first state) ≡ []). e ∙ sym (on e)) (rests-evict state moment request first others valid is)
 

@@ -26,7 +26,7 @@ use Rattle.blk_laws.proofs.examples.WholeFolder.{whole_folder}
 use Rattle.blk_kept.specs.Changes.{Finds, StillFinds}
 use Rattle.blk_kept.specs.Commands.{IsStepped, MayStop}
 use Rattle.blk_kept.specs.Keeping.{Keeps}
-use Rattle.blk_kept.specs.StageLaws.{GoesOn, IsAtStage}
+use Rattle.blk_kept.specs.StageLaws.{MayStopBetween, IsAtStage}
 use Rattle.blk_kept.specs.WordStops.{IsMidRemoval, IsMidUse, IsOut}
 use Rattle.blk_kept.proofs.Examples.{doomed-keeps, opened, whole-keeps}
 use Rattle.blk_kept.proofs.Keeping.{kept-found, kept-stands}
@@ -98,7 +98,7 @@ still inner layout unlinked k = (k.well_formed, kept-found inner layout unlinked
 only-folder : (P : Image → Type 0) → P folder → ForSome told.files P
 only-folder P holds image is = subst P (some_inj is) holds
 
-list_goes_on : GoesOn (λ m image. Keeps m (one.layout 0) [] image × (m ≡ state)) told told told 100 to_list
+list_goes_on : MayStopBetween (λ m image. Keeps m (one.layout 0) [] image × (m ≡ state)) told told told 100 to_list
 list_goes_on = stages-stop (λ m image. Keeps m (one.layout 0) [] image × (m ≡ state)) told told told 100 to_list [] (λ image is m k. subst (λ (s : State). ForSome told.files (IsAtStage [] s 100 to_list)) (sym k.1) (only-folder (IsAtStage [] state 100 to_list) at_first))
     (passes_none (λ image. ForSome told.files (λ from. StillFinds [] from image)) refl (only-folder (λ image. ForSome told.files (λ from. StillFinds [] from image)) (only-folder (λ from. StillFinds [] from folder) still)))
 

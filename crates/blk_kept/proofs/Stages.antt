@@ -15,7 +15,7 @@ use Rattle.blk_volume.specs.StandsFor.{StandsFor}
 use Rattle.blk_kept.specs.Changes.{StillFinds}
 use Rattle.blk_kept.specs.Commands.{ForKept, MayStop}
 use Rattle.blk_kept.specs.Keeping.{Keeps}
-use Rattle.blk_kept.specs.StageLaws.{CallsFollow, EffectsAreDone, EndsAreKept, FindsLeft, GoesOn, IsAtStage, NotesEndSteps, StagesGoOn, StagesMayStop, WhatIsFoundMayStop}
+use Rattle.blk_kept.specs.StageLaws.{CallsFollow, EffectsAreDone, EndsAreKept, FindsLeft, MayStopBetween, IsAtStage, NotesEndSteps, StagesGoOn, StagesMayStop, WhatIsFoundMayStop}
 use Rattle.blk_kept.proofs.CommandEnding.{passed}
 use Rattle.blk_kept.proofs.Objects.{handles-uncounted}
 use Rattle.blk_kept.proofs.Orders.{left-stops}
@@ -46,8 +46,8 @@ pub calls-follow : (keeps : State → Image → Type 0) → CallsFollow keeps
 calls-follow keeps told now later last moment request first second image there state k = passes_then (first image there state k) (second image there state k)
 
 -- once a request goes on to where a folder tells its files, it goes on by a call whose clause is one of these files, if each of its moments may be stopped
-pub call-then : (keeps : State → Image → Type 0) (told now later : Told) (moment : ℕ) (request : Request) (P : Image → Image → Type 0) → GoesOn keeps told told now moment request → ForSome now.files (λ from. Passes now later (P from))
-    → ForKept keeps told (λ state. ForSome now.files (λ from. (image : Image) → P from image → MayStop state moment request image)) → GoesOn keeps told told later moment request
+pub call-then : (keeps : State → Image → Type 0) (told now later : Told) (moment : ℕ) (request : Request) (P : Image → Image → Type 0) → MayStopBetween keeps told told now moment request → ForSome now.files (λ from. Passes now later (P from))
+    → ForKept keeps told (λ state. ForSome now.files (λ from. (image : Image) → P from image → MayStop state moment request image)) → MayStopBetween keeps told told later moment request
 call-then keeps told now later moment request P first call stops image there state k =
     let begun = first image there state k in
     let from = after begun.steps image in

@@ -11,8 +11,8 @@ use Rattle.blk_model.specs.Stops.{StopOutcome}
 use Rattle.blk_model.specs.EvictionLaws.{EvictsFirst, later_steps}
 
 -- on the state without some groups a command still evicts something, where others are left: it isn't that all fits before they are out
-abbrev pub GoesOn : State → ℕ → Request → List Group → List Group → Type 0
-GoesOn state moment request first others = evicted moment request (without first state) ≡ [] → others ≡ []
+abbrev pub EvictsTheRest : State → ℕ → Request → List Group → List Group → Type 0
+EvictsTheRest state moment request first others = evicted moment request (without first state) ≡ [] → others ≡ []
 
 -- the rest of a command that isn't refused isn't refused
 abbrev pub RestsAreNotRefused : Type 0
@@ -25,21 +25,21 @@ RestsEvictTheOthersOrNone = (state : State) (moment : ℕ) (request : Request) (
 
 -- the rest of a Trim always goes on
 abbrev pub TrimsGoOn : Type 0
-TrimsGoOn = (state : State) (moment : ℕ) (bytes : ℕ) (first others : List Group) → IsValidState state → EvictsFirst state moment (to_trim bytes) first others → GoesOn state moment (to_trim bytes) first others
+TrimsGoOn = (state : State) (moment : ℕ) (bytes : ℕ) (first others : List Group) → IsValidState state → EvictsFirst state moment (to_trim bytes) first others → EvictsTheRest state moment (to_trim bytes) first others
 
 -- where it goes on, its list steps are the later ones of the whole command
 abbrev pub RestsHaveTheLaterSteps : Type 0
-RestsHaveTheLaterSteps = (state : State) (moment : ℕ) (request : Request) (first others : List Group) → IsValidState state → EvictsFirst state moment request first others → GoesOn state moment request first others
+RestsHaveTheLaterSteps = (state : State) (moment : ℕ) (request : Request) (first others : List Group) → IsValidState state → EvictsFirst state moment request first others → EvictsTheRest state moment request first others
     → list_steps (without first state) moment request ≡ later_steps state request others
 
 -- and it ends in the same state
 abbrev pub RestsEndAlike : Type 0
-RestsEndAlike = (state : State) (moment : ℕ) (request : Request) (first others : List Group) → IsValidState state → EvictsFirst state moment request first others → GoesOn state moment request first others
+RestsEndAlike = (state : State) (moment : ℕ) (request : Request) (first others : List Group) → IsValidState state → EvictsFirst state moment request first others → EvictsTheRest state moment request first others
     → (step (without first state) moment request).state ≡ (step state moment request).state
 
 -- so a stop in the rest of a command is one in the whole of it
 abbrev pub StopsInRestsAreInTheWhole : Type 0
-StopsInRestsAreInTheWhole = (state : State) (moment : ℕ) (request : Request) (first others : List Group) (held : List Row) → IsValidState state → EvictsFirst state moment request first others → GoesOn state moment request first others
+StopsInRestsAreInTheWhole = (state : State) (moment : ℕ) (request : Request) (first others : List Group) (held : List Row) → IsValidState state → EvictsFirst state moment request first others → EvictsTheRest state moment request first others
     → StopOutcome (without first state) moment request (step (without first state) moment request).state held → StopOutcome state moment request (step state moment request).state held
 
 -- a stop in the rest of a command that is none in the whole of it

@@ -37,8 +37,8 @@ pub record FindsLeft (state : State) (moment : ℕ) (request : Request) (image :
   pub finds : Finds held image
 
 -- from now to later the request may be stopped at each word, whatever state was kept before it began; where that was now, this is `MayStopAtEach`
-abbrev pub GoesOn : (State → Image → Type 0) → (told now later : Told) → ℕ → Request → Type 0
-GoesOn keeps told now later moment request = ForKept keeps told (λ state. Passes now later (MayStop state moment request))
+abbrev pub MayStopBetween : (State → Image → Type 0) → (told now later : Told) → ℕ → Request → Type 0
+MayStopBetween keeps told now later moment request = ForKept keeps told (λ state. Passes now later (MayStop state moment request))
 
 -- a call that keeps states leads from one stage to the next
 abbrev pub StagesGoOn : Type 0
@@ -47,15 +47,15 @@ StagesGoOn = (before after : List ℕ) (state : State) (moment : ℕ) (request :
 -- at a stage, a call after each of whose words what was at rest is found may be stopped at each
 abbrev pub StagesMayStop : (keeps : State → Image → Type 0) → Type 0
 StagesMayStop keeps = (told now later : Told) (moment : ℕ) (request : Request) (words : List ℕ) → ForKept keeps told (λ state. ForSome now.files (IsAtStage words state moment request))
-    → Passes now later (λ image. ForSome now.files (λ from. StillFinds words from image)) → GoesOn keeps told now later moment request
+    → Passes now later (λ image. ForSome now.files (λ from. StillFinds words from image)) → MayStopBetween keeps told now later moment request
 
 -- and so may one at each of whose words something that a stop may leave is found
 abbrev pub WhatIsFoundMayStop : (keeps : State → Image → Type 0) → Type 0
-WhatIsFoundMayStop keeps = (told now later : Told) (moment : ℕ) (request : Request) → ForKept keeps told (λ state. Passes now later (FindsLeft state moment request)) → GoesOn keeps told now later moment request
+WhatIsFoundMayStop keeps = (told now later : Told) (moment : ℕ) (request : Request) → ForKept keeps told (λ state. Passes now later (FindsLeft state moment request)) → MayStopBetween keeps told now later moment request
 
 -- two calls after each other, the second of which may have failed
 abbrev pub CallsFollow : (keeps : State → Image → Type 0) → Type 0
-CallsFollow keeps = (told now later last : Told) (moment : ℕ) (request : Request) → GoesOn keeps told now later moment request → GoesOn keeps told later last moment request → GoesOn keeps told now last moment request
+CallsFollow keeps = (told now later last : Told) (moment : ℕ) (request : Request) → MayStopBetween keeps told now later moment request → MayStopBetween keeps told later last moment request → MayStopBetween keeps told now last moment request
 
 -- Ends.
 

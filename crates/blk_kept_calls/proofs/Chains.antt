@@ -1,6 +1,6 @@
 -- A record that is unlinked is out of its chain.
-use Rattle.std.proofs.Common.{◌≡◌, ◌≢◌, ◌⊎◌, inl, inr, ⊎_elim, arith, ℕ, zero, suc, ◌+◌, ◌<◌, ◌^◌, List, [], ◌∷◌, ◌++◌, map, refl, ap, sym, ◌∙◌, subst, lit<, append_assoc, Bool, true, false, None, Option, Some}
-use Rattle.std.specs.Prelude.{◌&&◌, ◌==◌, if◌then◌else◌, filter, not}
+use Rattle.std.proofs.Common.{◌≡◌, ◌≢◌, ◌⊎◌, inl, inr, ⊎_elim, arith, ℕ, ◌+◌, ◌<◌, List, [], ◌∷◌, ◌++◌, refl, ap, sym, ◌∙◌, subst, lit<, append_assoc, true, false, None, Option, Some}
+use Rattle.std.specs.Prelude.{◌&&◌, ◌==◌, filter, not}
 use Rattle.std.specs.Option.{option_map_or}
 use Rattle.std.proofs.lemmas.Bool.{and_parts, cases_Bool, eq-eqb, eqb-true, or_left, or_right, or_parts}
 use Rattle.std.proofs.lemmas.Nat.{mod_below}
@@ -16,7 +16,7 @@ use Rattle.blk_format.specs.Address.{blocks_256, file_selector, kind_of, place, 
 use Rattle.blk_format.specs.BlockFiles.{is_among, stands_in}
 use Rattle.blk_format.specs.Sealed.{RecordChecks, record_range, record_size, size_by_kind}
 use Rattle.blk_format.specs.Records.{entry_size}
-use Rattle.blk_volume.specs.Chains.{Chain, IsChain, Linked, bucket_at, bucket_of_hash, chain, chain_from, file_and_block, is_of_bucket, is_reached}
+use Rattle.blk_volume.specs.Chains.{IsChain, Linked, bucket_at, bucket_of_hash, chain, file_and_block, is_of_bucket}
 use Rattle.blk_volume.specs.Footprint.{OnlyLinksChange}
 use Rattle.blk_volume.specs.Layout.{Layout}
 use Rattle.blk_volume.specs.ListView.{Distinct}

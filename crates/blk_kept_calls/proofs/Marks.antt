@@ -18,7 +18,7 @@ use Rattle.blk_kept.specs.NewEntryLaws.{HasRecordInFront}
 use Rattle.blk_kept.specs.RecordLaws.{IsMarked, IsMarking}
 use Rattle.blk_kept.proofs.Free.{standing-at}
 use Rattle.blk_kept.proofs.MarkSteps.{marks-done}
-use Rattle.blk_kept_calls.specs.Marks.{KeptNodesCheck, LinksAreInFront, LinksComeInFront, MarksAreBeingSet, MarksAreSet, NodesCheckAsRecords}
+use Rattle.blk_kept_calls.specs.Marks.{NodesOfStatesCheck, LinksAreInFront, LinksComeInFront, MarksAreBeingSet, MarksAreSet, NodesCheckAsRecords}
 use Rattle.blk_kept_calls.proofs.Lists.{told-after}
 
 -- ---- dirty words
@@ -27,7 +27,7 @@ or-true : (b : Bool) → (b || true) ≡ true
 or-true true = refl
 or-true false = refl
 
-pub nodes-check : KeptNodesCheck
+pub nodes-check : NodesOfStatesCheck
 unfolding list_of checks_at node_checks
 nodes-check state layout unlinked image node loaded k here =
     let named : loaded.node ≡ node = node-is (store_of image) (rule_of layout node) node loaded (k.represents.holds.shows.each node loaded here) in

@@ -19,8 +19,8 @@ use Rattle.blk_kept.specs.RecordLaws.{IsMarked, IsMarking}
 -- Dirty words.
 
 -- where a state is kept each node of it checks
-abbrev pub KeptNodesCheck : Type 0
-KeptNodesCheck = (state : State) (layout : Layout) (unlinked : List ℕ) (image : Image) (node : ℕ) (loaded : Loaded) → KeepsUncounted state layout unlinked image → layout.at node ≡ Some loaded → (list_of image).checks node ≡ true
+abbrev pub NodesOfStatesCheck : Type 0
+NodesOfStatesCheck = (state : State) (layout : Layout) (unlinked : List ℕ) (image : Image) (node : ℕ) (loaded : Loaded) → KeepsUncounted state layout unlinked image → layout.at node ≡ Some loaded → (list_of image).checks node ≡ true
 
 -- which is what the calls ask, of a folder of bytes
 abbrev pub NodesCheckAsRecords : Type 0

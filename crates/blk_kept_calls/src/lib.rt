@@ -3,7 +3,7 @@
 
 ghost use Rattle.blk_kept_calls.specs.ExternalFiles.{CreationsAdd, CreationsFindTheSame, DeletionsFindTheSame, DeletionsRemove, KeptStatesHaveFreeNumbers};
 ghost use Rattle.blk_kept_calls.specs.Lists.{InsertsAreDone, InsertsArePartly, ListedNodesAreInTheList, NewNodesCanBeInserted, RemovalsAreDone, RemovalsArePartly, TouchesAreDone, TouchesArePartly};
-ghost use Rattle.blk_kept_calls.specs.Marks.{KeptNodesCheck, LinksAreInFront, LinksComeInFront, MarksAreBeingSet, MarksAreSet, NewRecordsCanBeLinked, NodesCheckAsRecords};
+ghost use Rattle.blk_kept_calls.specs.Marks.{NodesOfStatesCheck, LinksAreInFront, LinksComeInFront, MarksAreBeingSet, MarksAreSet, NewRecordsCanBeLinked, NodesCheckAsRecords};
 ghost use Rattle.blk_kept_calls.specs.Entries.{NewEntriesChangeTheirOwn, WritingEntriesKeepsStates, WrittenEntriesAreNew};
 ghost use Rattle.blk_kept_calls.specs.Chains.{KeptRecordsCanBeUnlinked, UnlinkedRecordsAreOut, UnlinkedRecordsLeaveFiles, UnlinkingsChangeLinks};
 ghost use Rattle.blk_kept_calls.specs.Blocks.{AllocationsAdd, AllocationsStayWhole, FreesRemove, FreesStayWhole, KeptFilesAreCounted, WholeFoldersFindTheSame};
@@ -53,7 +53,7 @@ pub fn nodes_are_listed()
 
 /// Where a state is kept each node of it checks, as `set_dirty` and `set_clean` ask. At each word of them the dirty word is being set, and in the end it is set.
 pub fn dirty_words_are_set()
-    ensures kept { KeptNodesCheck }
+    ensures kept { NodesOfStatesCheck }
     ensures checks { NodesCheckAsRecords }
     ensures each { MarksAreBeingSet }
     ensures set { MarksAreSet }

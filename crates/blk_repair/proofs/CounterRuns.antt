@@ -26,7 +26,7 @@ use Rattle.blk_repair_laws.specs.MendedChanges.{KeepsMendedLinks}
 use Rattle.blk_repair_laws.proofs.MendedChanges.{hidden-change, links-on}
 use Rattle.blk_repair_laws.proofs.MendedParts.{files-mended, words-leave}
 use Rattle.blk_repair_laws.proofs.RecordSeals.{words-behind}
-use Rattle.blk_repair.specs.Counters.{HasIndexWords, IsHiddenWord, IsIndexMended, IsNextCounted, counter_words, crash_place, index_steps, index_word_steps, index_words_steps}
+use Rattle.blk_repair.specs.Counters.{HasIndexWords, IsHiddenWord, IsIndexMended, IsNextCounted, counted_words, crash_place, index_steps, index_word_steps, index_words_steps}
 use Rattle.blk_repair.specs.Seals.{HasMendedLinksOf}
 use Rattle.blk_repair.proofs.Progress.{Leads}
 
@@ -71,7 +71,7 @@ whole-words (w ∷ words) image is =
 
 pub whole-index : (items bytes id : ℕ) (image : Image) → HasWholeIndex image → Along HasWholeIndex image (index_steps items bytes id image)
 whole-index items bytes id image is =
-    let words : List (ℕ × ℕ) = counter_words items bytes id in
+    let words : List (ℕ × ℕ) = counted_words items bytes id in
     let first : List TrailStep = index_words_steps words image in
     let all : Along HasWholeIndex image first = whole-words words image is in
     until-append HasWholeIndex HasWholeIndex first (word_step Index crash_place 1) image all (whole-word (after first image) crash_place 1 (until_last HasWholeIndex HasWholeIndex first image all))
@@ -143,13 +143,13 @@ hidden-id = record { aligned = refl; inside = omega arith; unshown = refl; unche
 pub hidden-crash : IsHiddenWord 32
 hidden-crash = record { aligned = refl; inside = omega arith; unshown = refl; unchecked = refl }
 
-pub counters-hidden : (items bytes id : ℕ) → AreHidden (counter_words items bytes id)
+pub counters-hidden : (items bytes id : ℕ) → AreHidden (counted_words items bytes id)
 counters-hidden items bytes id =
     let H : ℕ × ℕ → Type 0 = (λ (w : ℕ × ℕ). IsHiddenWord w.0) in
     All-cons H (268, items) ((8, items) ∷ (12, bytes) ∷ (20, id) ∷ []) hidden-sizes
     (All-cons H (8, items) ((12, bytes) ∷ (20, id) ∷ []) hidden-entries (All-cons H (12, bytes) ((20, id) ∷ []) hidden-bytes (All-cons H (20, id) [] hidden-id (All-nil H))))
 
-counters-small : (items bytes id : ℕ) → items < 2 ^ 32 → bytes < 2 ^ 32 → id < 2 ^ 32 → All (λ (w : ℕ × ℕ). w.1 < 2 ^ 32) (counter_words items bytes id)
+counters-small : (items bytes id : ℕ) → items < 2 ^ 32 → bytes < 2 ^ 32 → id < 2 ^ 32 → All (λ (w : ℕ × ℕ). w.1 < 2 ^ 32) (counted_words items bytes id)
 counters-small items bytes id i b d =
     let S : ℕ × ℕ → Type 0 = (λ (w : ℕ × ℕ). w.1 < 2 ^ 32) in
     All-cons S (268, items) ((8, items) ∷ (12, bytes) ∷ (20, id) ∷ []) i (All-cons S (8, items) ((12, bytes) ∷ (20, id) ∷ []) i (All-cons S (12, bytes) ((20, id) ∷ []) b (All-cons S (20, id) [] d (All-nil S))))
@@ -157,7 +157,7 @@ counters-small items bytes id i b d =
 unlike : (p q : ℕ) → (p == q) ≡ false → p ≢ q
 unlike p q e is = let c : true ≡ false = sym (eq-eqb p q is) ∙ e in cc
 
-counters-different : (items bytes id : ℕ) → AreDifferent (counter_words items bytes id)
+counters-different : (items bytes id : ℕ) → AreDifferent (counted_words items bytes id)
 counters-different items bytes id =
     let D : ℕ → ℕ × ℕ → Type 0 = (λ (at : ℕ) (w : ℕ × ℕ). w.0 ≢ at) in (
       All-cons (D 268) (8, items) ((12, bytes) ∷ (20, id) ∷ []) (unlike 8 268 refl) (All-cons (D 268) (12, bytes) ((20, id) ∷ []) (unlike 12 268 refl) (All-cons (D 268) (20, id) [] (unlike 20 268 refl) (All-nil (D 268)))),
@@ -170,7 +170,7 @@ counters-different items bytes id =
 -- the words of the index are these in the end
 pub counted : (items bytes id : ℕ) (image : Image) → items < 2 ^ 32 → bytes < 2 ^ 32 → id < 2 ^ 32 → HasWholeIndex image → HasIndexWords items bytes id (after (index_steps items bytes id image) image)
 counted items bytes id image i b d whole =
-    let words : List (ℕ × ℕ) = counter_words items bytes id in
+    let words : List (ℕ × ℕ) = counted_words items bytes id in
     let first : List TrailStep = index_words_steps words image in
     let between : Image = after first image in
     let last : List TrailStep = word_step Index 32 1 in
@@ -232,7 +232,7 @@ stays-words entry start image (w ∷ words) hidden is =
 
 stays-index : (entry image : Image) (items bytes id : ℕ) → HasMendedLinksOf entry image → Along (StaysMended entry image) image (index_steps items bytes id image)
 stays-index entry image items bytes id holds =
-    let words : List (ℕ × ℕ) = counter_words items bytes id in
+    let words : List (ℕ × ℕ) = counted_words items bytes id in
     let S : Image → Type 0 = StaysMended entry image in
     let first : List TrailStep = index_words_steps words image in
     let all : Along S image first = stays-words entry image image words (counters-hidden items bytes id) (record { holds = holds; files = λ h. h; only = λ h. h; sealed = λ h. h }) in
@@ -273,14 +273,14 @@ words-lead words i d inside image = ap (λ (l : List (ℕ × ℕ)). index_words_
 pub words-end : (words : List (ℕ × ℕ)) (i : ℕ) → length words ≤ i → (image : Image) → index_words_steps (drop i words) image ≡ []
 words-end words i past image = ap (λ (l : List (ℕ × ℕ)). index_words_steps l image) (drop_all i words past)
 
-pub index-leads : (items bytes id : ℕ) → Leads (index_steps items bytes id) (index_words_steps (counter_words items bytes id)) (λ _. word_step Index crash_place 1)
+pub index-leads : (items bytes id : ℕ) → Leads (index_steps items bytes id) (index_words_steps (counted_words items bytes id)) (λ _. word_step Index crash_place 1)
 index-leads items bytes id image = refl
 
 pub crash-leads : Leads (λ _. word_step Index crash_place 1) (λ _. word_step Index crash_place 1) (λ _. [])
 crash-leads image = sym (append-nil (word_step Index crash_place 1))
 
 index-quiet : (items bytes id : ℕ) (image : Image) → IsQuiet (index_steps items bytes id image)
-index-quiet items bytes id image = quiet-append (index_words_steps (counter_words items bytes id) image) (word_step Index crash_place 1) (words-quiet (counter_words items bytes id) image) (quiet-word_step Index crash_place 1)
+index-quiet items bytes id image = quiet-append (index_words_steps (counted_words items bytes id) image) (word_step Index crash_place 1) (words-quiet (counted_words items bytes id) image) (quiet-word_step Index crash_place 1)
 
 -- what a front of the steps passes, and where all of them lead
 pub index-passes : (a b : Told) (items bytes id : ℕ) → ForSome a.files (λ image. AppliesPrefix a b (index_steps items bytes id image)) → ForSome a.files (λ image. (entry : Image) → HasMendedLinksOf entry image → Passes a b (HasMendedLinksOf entry))

@@ -21,18 +21,18 @@ pub record IsNextBucket (from : Image) (bucket : ℕ) (records : List ℕ) (whol
   pub is_whole : whole ≡ true → IsChain (store_of from) bucket records
 
 -- where the records of a bucket begin among those of all buckets, by where those of each end
-abbrev pub first_of : List ℕ → ℕ → ℕ
-first_of ends zero = 0
-first_of ends (suc before) = slice_index ends before
+abbrev pub begin_of : List ℕ → ℕ → ℕ
+begin_of ends zero = 0
+begin_of ends (suc before) = slice_index ends before
 
 -- the records of a bucket among those of all buckets
 abbrev pub records_of : (records ends : List ℕ) → ℕ → List ℕ
-records_of records ends bucket = take (slice_index ends bucket - first_of ends bucket) (drop (first_of ends bucket) records)
+records_of records ends bucket = take (slice_index ends bucket - begin_of ends bucket) (drop (begin_of ends bucket) records)
 
 -- each bucket has some of the records, those of one behind those of the one before
 pub record AreEnds (records ends : List ℕ) : Type 0 where
   pub many : length ends ≡ table_length
-  pub rising : (bucket : ℕ) → bucket < table_length → first_of ends bucket ≤ slice_index ends bucket
+  pub rising : (bucket : ℕ) → bucket < table_length → begin_of ends bucket ≤ slice_index ends bucket
   pub inside : (bucket : ℕ) → bucket < table_length → slice_index ends bucket ≤ length records
 
 -- the list was mended, and these are the kept records of all buckets; each bucket that is told whole is the chain of its records

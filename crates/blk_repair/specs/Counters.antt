@@ -38,12 +38,12 @@ index_words_steps [] image = []
 index_words_steps (w ∷ words) image = index_word_steps w.0 w.1 image ++ index_words_steps words (after (index_word_steps w.0 w.1 image) image)
 
 -- the counters and the number of the session, in their order
-abbrev pub counter_words : (items bytes this_id : ℕ) → List (ℕ × ℕ)
-counter_words items bytes this_id = (sizes_place, items) ∷ (num_entries_place, items) ∷ (num_bytes_place, bytes) ∷ (this_id_place, this_id) ∷ []
+abbrev pub counted_words : (items bytes this_id : ℕ) → List (ℕ × ℕ)
+counted_words items bytes this_id = (sizes_place, items) ∷ (num_entries_place, items) ∷ (num_bytes_place, bytes) ∷ (this_id_place, this_id) ∷ []
 
 -- they become these where they differ, and the crash word becomes 1 in any case
 abbrev pub index_steps : (items bytes this_id : ℕ) → Image → List TrailStep
-index_steps items bytes this_id image = index_words_steps (counter_words items bytes this_id) image ++ word_step Index crash_place 1
+index_steps items bytes this_id image = index_words_steps (counted_words items bytes this_id) image ++ word_step Index crash_place 1
 
 -- the index says so many items and bytes, and this number of the session, which is open
 pub record HasIndexWords (items bytes this_id : ℕ) (image : Image) : Type 0 where

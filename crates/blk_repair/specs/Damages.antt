@@ -19,19 +19,19 @@ abbrev pub AllCheck : List ℕ → Image → Type 0
 AllCheck words image = All (λ w. RecordChecks w image) words
 
 -- a record that stands was read, its next or the whole of it: its bytes are too few, or it doesn't check
-pub record IsWrongRecord (files : BlockFiles) (told : Told) (damage : Damage) : Type 0 where
+pub record IsFailedLink (files : BlockFiles) (told : Told) (damage : Damage) : Type 0 where
   pub entry : ℕ
   pub stands : is_record_among files entry ≡ true
   pub failed : IsShort told (names.Block (file_selector entry)) (place entry + entry_next_place) 4 damage ⊎ (IsShort told (names.Block (file_selector entry)) (place entry) (record_size entry) damage ⊎ IsUnsealed told entry damage)
 
 -- a chain was damaged at the word of its bucket, or at a record
-abbrev pub IsChainDamage : ℕ → BlockFiles → Told → Damage → Type 0
-IsChainDamage bucket files told damage = IsShort told names.Index (place_of_bucket bucket) 4 damage ⊎ IsWrongRecord files told damage
+abbrev pub IsChainRepairDamage : ℕ → BlockFiles → Told → Damage → Type 0
+IsChainRepairDamage bucket files told damage = IsShort told names.Index (place_of_bucket bucket) 4 damage ⊎ IsFailedLink files told damage
 
 -- the chain of some bucket was damaged
-pub record IsChainsDamage (files : BlockFiles) (told : Told) (damage : Damage) : Type 0 where
+pub record IsChainsRepairDamage (files : BlockFiles) (told : Told) (damage : Damage) : Type 0 where
   pub bucket : ℕ
-  pub met : IsChainDamage bucket files told damage
+  pub met : IsChainRepairDamage bucket files told damage
 
 -- some node that stands was taken out of the list, from some files on, and that met a damage
 pub record IsRemovalsDamage (files : BlockFiles) (told : Told) (damage : Damage) : Type 0 where

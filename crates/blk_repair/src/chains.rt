@@ -9,7 +9,7 @@ ghost use Rattle.blk_disk.specs.Tables.{is_record_among};
 ghost use Rattle.blk_disk.specs.Open.{IsOpen};
 ghost use Rattle.blk_repair_laws.specs.ListRepair.{HoldsTheSame};
 ghost use Rattle.blk_repair_laws.specs.ChainRepair.{HasChainsUpTo, chain_steps, next_words_steps};
-ghost use Rattle.blk_repair.specs.Damages.{AllCheck, IsChainDamage, IsWrongRecord};
+ghost use Rattle.blk_repair.specs.Damages.{AllCheck, IsChainRepairDamage, IsFailedLink};
 ghost use Rattle.blk_repair.specs.Chains.{IsNextChain};
 
 use crate::links::{first_word, set_front, set_next};
@@ -40,7 +40,7 @@ pub fn mend_chain<F: Folder>(
     ensures is_open { ForSome (F.told f.new).files (IsOpen files.now) }
 
     // A folder that tells its files gives a damage only where the records aren't those that are kept.
-    ensures damaged { IfDamaged result (IsChainDamage bucket files.now (F.told f.new)) }
+    ensures damaged { IfDamaged result (IsChainRepairDamage bucket files.now (F.told f.new)) }
     ensures untold { ForSome (F.told f.old).files (λ from. (entry : Image) × IsNextChain entry bucket records.now from) → IfDamaged result (λ _. (F.told f.old).files ≡ None) }
 
     ensures later { F.faults f.old ≤ F.faults f.new }
@@ -56,7 +56,7 @@ fn link<F: Folder>(f: &mut F, files: &BlockFiles, records: &[Addr]) -> Result<()
     requires is_open { ForSome (F.told f.old).files (IsOpen files.now) }
     ensures steps { OnOk result (ForSome (F.told f.old).files (λ from. Applies (F.told f.old) (F.told f.new) (next_words_steps records.now from))) }
     ensures prefix { MakesPartOf (F.told f.old) (F.told f.new) (λ from. next_words_steps records.now from) }
-    ensures damaged { IfDamaged result (IsWrongRecord files.now (F.told f.new)) }
+    ensures damaged { IfDamaged result (IsFailedLink files.now (F.told f.new)) }
 
     // A folder that tells its files gives a damage only where not all of them check at each word.
     ensures untold { ForSome (F.told f.old).files (λ from. Along (AllCheck records.now) from (next_words_steps records.now from)) → IfDamaged result (λ _. (F.told f.old).files ≡ None) }

@@ -11,7 +11,7 @@ ghost use Rattle.blk_io.specs.Faults.{IfDamaged, IfDevice, IsShort};
 ghost use Rattle.blk_disk.specs.Tables.{is_record_among};
 ghost use Rattle.blk_disk.specs.Open.{IsOpen};
 ghost use Rattle.blk_repair_laws.specs.ChainRepair.{bucket_steps, next_steps};
-ghost use Rattle.blk_repair.specs.Damages.{IsWrongRecord};
+ghost use Rattle.blk_repair.specs.Damages.{IsFailedLink};
 
 use blk_addr::Addr;
 use blk_disk::BlockFiles;
@@ -60,7 +60,7 @@ pub(crate) fn set_next<F: Folder>(
     ensures checked { OnOk result (ForSome (F.told f.old).files (λ image. ((store_of image).chain_next entry ≡ word) ⊎ RecordChecks entry image)) }
     ensures steps { OnOk result (ForSome (F.told f.old).files (λ from. Applies (F.told f.old) (F.told f.new) (next_steps entry word from))) }
     ensures prefix { MakesPartOf (F.told f.old) (F.told f.new) (λ from. next_steps entry word from) }
-    ensures damaged { IfDamaged result (IsWrongRecord files.now (F.told f.new)) }
+    ensures damaged { IfDamaged result (IsFailedLink files.now (F.told f.new)) }
     ensures untold { ForSome (F.told f.old).files (RecordChecks entry) → IfDamaged result (λ _. (F.told f.old).files ≡ None) }
     ensures later { F.faults f.old ≤ F.faults f.new }
     ensures device { IfDevice result (Rises (F.faults f.old) (F.faults f.new)) }

@@ -10,7 +10,7 @@ ghost use Rattle.blk_disk.specs.Tables.{is_record_among};
 ghost use Rattle.blk_repair_laws.specs.ChainRepair.{AreChainsMended, chain_repair_steps, chain_steps};
 ghost use Rattle.blk_repair_laws.specs.ListRepair.{HoldsTheSame};
 ghost use Rattle.blk_repair.specs.Chains.{AreChainsScanned, AreEnds, IsNextBucket, records_of as records_among};
-ghost use Rattle.blk_repair.specs.Damages.{IsChainDamage, IsChainsDamage};
+ghost use Rattle.blk_repair.specs.Damages.{IsChainRepairDamage, IsChainsRepairDamage};
 
 use crate::chains::mend_chain;
 use blk_addr::Addr;
@@ -45,7 +45,7 @@ pub fn mend_chains<F: Folder>(
     ensures silent { (F.told f.old).files ≡ None → (F.told f.new).files ≡ None }
 
     // A folder that tells its files gives a damage only where these aren't its kept records.
-    ensures damaged { IfDamaged result (IsChainsDamage files.now (F.told f.new)) }
+    ensures damaged { IfDamaged result (IsChainsRepairDamage files.now (F.told f.new)) }
     ensures untold { ForSome (F.told f.old).files (AreChainsScanned records.now ends.now whole.now) → IfDamaged result (λ _. (F.told f.old).files ≡ None) }
 
     ensures later { F.faults f.old ≤ F.faults f.new }
@@ -72,7 +72,7 @@ fn mend_bucket<F: Folder>(
     ensures prefix { ForSome (F.told f.old).files (λ from. (entry : Image) → IsNextBucket entry bucket records.now whole from → AppliesPrefix (F.told f.old) (F.told f.new) (chain_steps bucket records.now from)) }
     ensures is_open { ForSome (F.told f.new).files (IsOpen files.now) }
     ensures silent { (F.told f.old).files ≡ None → (F.told f.new).files ≡ None }
-    ensures damaged { IfDamaged result (IsChainDamage bucket files.now (F.told f.new)) }
+    ensures damaged { IfDamaged result (IsChainRepairDamage bucket files.now (F.told f.new)) }
     ensures untold { ForSome (F.told f.old).files (λ from. (entry : Image) × IsNextBucket entry bucket records.now whole from) → IfDamaged result (λ _. (F.told f.old).files ≡ None) }
     ensures later { F.faults f.old ≤ F.faults f.new }
     ensures device { IfDevice result (Rises (F.faults f.old) (F.faults f.new)) }

@@ -18,7 +18,7 @@ use Rattle.blk_volume.specs.View.{store_of}
 use Rattle.blk_laws.proofs.walks.Loads.{load-then}
 use Rattle.blk_ranges.specs.ChildNames.{name_within}
 use Rattle.blk_ranges.specs.declared.names.ChildName.{ChildName}
-use Rattle.blk_scan.specs.Kept.{AreShown, IsAnswer, IsShown, is_sought, kept_with}
+use Rattle.blk_scan.specs.Kept.{AreShown, IsSameAnswer, IsLoadedFrom, is_sought, kept_with}
 use Rattle.blk_scan.specs.declared.fitting.Sought.TheVariants.{ParentOf as parent_of}
 use Rattle.blk_scan.specs.declared.loading.Loaded.{Loaded}
 use Rattle.blk_scan.specs.declared.reason.Reason.{Reason}
@@ -38,44 +38,44 @@ admit_by kept loaded c s o ec es eo = rw (ec, es, eo) (by_tests c s o)
     by_tests false false false = refl
 
 module _ (kept : List shown.Loaded) (loaded : shown.Loaded) where
-  answer_by : (r : Result shown.Loaded reasons.Reason) (said : Option Reason) → admit kept loaded ≡ r → IsAnswer r said → IsAnswer (admit kept loaded) said
-  answer_by r said e is = subst (λ (x : Result shown.Loaded reasons.Reason). IsAnswer x said) (sym e) is
+  answer_by : (r : Result shown.Loaded reasons.Reason) (said : Option Reason) → admit kept loaded ≡ r → IsSameAnswer r said → IsSameAnswer (admit kept loaded) said
+  answer_by r said e is = subst (λ (x : Result shown.Loaded reasons.Reason). IsSameAnswer x said) (sym e) is
 
-  pub answer_claimed : collides kept loaded ≡ true → IsAnswer (admit kept loaded) (Some reason.Claimed)
+  pub answer_claimed : collides kept loaded ≡ true → IsSameAnswer (admit kept loaded) (Some reason.Claimed)
   answer_claimed c = answer_by (Err reasons.Claimed) (Some reason.Claimed) (admit_by kept loaded true (shares_key kept loaded) (is_orphan kept loaded) c refl refl) refl
 
-  pub answer_name : collides kept loaded ≡ false → shares_key kept loaded ≡ true → IsAnswer (admit kept loaded) (Some reason.Name)
+  pub answer_name : collides kept loaded ≡ false → shares_key kept loaded ≡ true → IsSameAnswer (admit kept loaded) (Some reason.Name)
   answer_name c s = answer_by (Err reasons.Name) (Some reason.Name) (admit_by kept loaded false true (is_orphan kept loaded) c s refl) refl
 
-  pub answer_parent : collides kept loaded ≡ false → shares_key kept loaded ≡ false → is_orphan kept loaded ≡ true → IsAnswer (admit kept loaded) (Some reason.Parent)
+  pub answer_parent : collides kept loaded ≡ false → shares_key kept loaded ≡ false → is_orphan kept loaded ≡ true → IsSameAnswer (admit kept loaded) (Some reason.Parent)
   answer_parent c s o = answer_by (Err reasons.Parent) (Some reason.Parent) (admit_by kept loaded false false true c s o) refl
 
-  pub answer_none : collides kept loaded ≡ false → shares_key kept loaded ≡ false → is_orphan kept loaded ≡ false → IsAnswer (admit kept loaded) None
+  pub answer_none : collides kept loaded ≡ false → shares_key kept loaded ≡ false → is_orphan kept loaded ≡ false → IsSameAnswer (admit kept loaded) None
   answer_none c s o = answer_by (Ok loaded) None (admit_by kept loaded false false false c s o) tt
 
 -- What is kept.
 
-shown_push : (image : Image) (kept : List shown.Loaded) (said : List Loaded) (loaded : shown.Loaded) (one : Loaded) → AreShown image kept said → IsShown image loaded one → AreShown image (kept ++ loaded ∷ []) (said ++ one ∷ [])
+shown_push : (image : Image) (kept : List shown.Loaded) (said : List Loaded) (loaded : shown.Loaded) (one : Loaded) → AreShown image kept said → IsLoadedFrom image loaded one → AreShown image (kept ++ loaded ∷ []) (said ++ one ∷ [])
 shown_push image [] [] loaded one are is = (is, tt)
 shown_push image [] (other ∷ said) loaded one are is = absurd are
 shown_push image (other ∷ kept) [] loaded one are is = absurd are
 shown_push image (other ∷ kept) (of_other ∷ said) loaded one are is = (are.0, shown_push image kept said loaded one are.1 is)
 
-pub shown_with : (image : Image) (kept : List shown.Loaded) (said : List Loaded) (loaded : shown.Loaded) (one : Loaded) (given : Option Reason) → AreShown image kept said → IsShown image loaded one → IsAnswer (admit kept loaded) given
+pub shown_with : (image : Image) (kept : List shown.Loaded) (said : List Loaded) (loaded : shown.Loaded) (one : Loaded) (given : Option Reason) → AreShown image kept said → IsLoadedFrom image loaded one → IsSameAnswer (admit kept loaded) given
     → AreShown image (with_verdict kept (admit kept loaded)) (kept_with said one given)
 shown_with image kept said loaded one given are is answer =
     by_result (collides kept loaded) (shares_key kept loaded) (is_orphan kept loaded) (admit_by kept loaded (collides kept loaded) (shares_key kept loaded) (is_orphan kept loaded) refl refl refl)
   where
-    kept_one : (given : Option Reason) → IsAnswer (Ok loaded) given → AreShown image (kept ++ loaded ∷ []) (kept_with said one given)
+    kept_one : (given : Option Reason) → IsSameAnswer (Ok loaded) given → AreShown image (kept ++ loaded ∷ []) (kept_with said one given)
     kept_one None ok = shown_push image kept said loaded one are is
     kept_one (Some why) ok = absurd ok
 
-    dropped_one : (why : reasons.Reason) (given : Option Reason) → IsAnswer (Err why) given → AreShown image kept (kept_with said one given)
+    dropped_one : (why : reasons.Reason) (given : Option Reason) → IsSameAnswer (Err why) given → AreShown image kept (kept_with said one given)
     dropped_one why None ok = absurd ok
     dropped_one why (Some other) ok = are
 
-    on : (r : Result shown.Loaded reasons.Reason) → admit kept loaded ≡ r → (IsAnswer r given → AreShown image (with_verdict kept r) (kept_with said one given)) → AreShown image (with_verdict kept (admit kept loaded)) (kept_with said one given)
-    on r e goes = subst (λ (x : Result shown.Loaded reasons.Reason). AreShown image (with_verdict kept x) (kept_with said one given)) (sym e) (goes (subst (λ (x : Result shown.Loaded reasons.Reason). IsAnswer x given) e answer))
+    on : (r : Result shown.Loaded reasons.Reason) → admit kept loaded ≡ r → (IsSameAnswer r given → AreShown image (with_verdict kept r) (kept_with said one given)) → AreShown image (with_verdict kept (admit kept loaded)) (kept_with said one given)
+    on r e goes = subst (λ (x : Result shown.Loaded reasons.Reason). AreShown image (with_verdict kept x) (kept_with said one given)) (sym e) (goes (subst (λ (x : Result shown.Loaded reasons.Reason). IsSameAnswer x given) e answer))
 
     by_result : (c s o : Bool) → admit kept loaded ≡ (if c then Err reasons.Claimed else if s then Err reasons.Name else if o then Err reasons.Parent else Ok loaded) → AreShown image (with_verdict kept (admit kept loaded)) (kept_with said one given)
     by_result true s o e = on (Err reasons.Claimed) e (dropped_one reasons.Claimed given)

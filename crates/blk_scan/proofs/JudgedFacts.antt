@@ -9,8 +9,8 @@ use Rattle.blk_volume.specs.Loads.{held_rule}
 use Rattle.blk_volume.specs.Reasons as reasons
 use Rattle.blk_volume.specs.Reasons.{◌>>=◌}
 use Rattle.blk_volume.specs.View.{store_of}
-use Rattle.blk_scan.specs.Keyed.{HasKey}
-use Rattle.blk_scan.specs.Kept.{HaveKeys, IsShown, kept_with}
+use Rattle.blk_scan.specs.Keyed.{HasItsKey}
+use Rattle.blk_scan.specs.Kept.{HaveKeys, IsLoadedFrom, kept_with}
 use Rattle.blk_scan.specs.Verdicts.{IsVerdict}
 use Rattle.blk_scan.specs.declared.loading.Loaded.{Loaded}
 use Rattle.blk_scan.specs.declared.loading.Verdict.TheVariants as found
@@ -20,7 +20,7 @@ use Rattle.blk_scan.proofs.KeptKeysFound.{keys-found}
 -- the record of a node that is loaded
 pub record IsJudged (image : Image) (kept : List shown.Loaded) (node : ℕ) (said : Loaded) : Type 0 where
   pub loaded : shown.Loaded
-  pub known : IsShown image loaded said
+  pub known : IsLoadedFrom image loaded said
   pub is : verdict (store_of image) held_rule kept node ≡ admit kept loaded
 
 module _ (image : Image) (kept : List shown.Loaded) (node : ℕ) where
@@ -35,11 +35,11 @@ module _ (image : Image) (kept : List shown.Loaded) (node : ℕ) where
   judged said is = by_loaded said (shown.load (store_of image) held_rule node) refl is
 
 -- the keys of those that are kept
-pub has_key : (image : Image) (loaded : shown.Loaded) (said : Loaded) → IsShown image loaded said → HasKey image said
+pub has_key : (image : Image) (loaded : shown.Loaded) (said : Loaded) → IsLoadedFrom image loaded said → HasItsKey image said
 has_key image loaded said known = record { key = loaded.key; is = keys-found image known.node loaded said known.loads known.is }
 
-pub keys_with : (image : Image) (said : List Loaded) (one : Loaded) (given : Option Reason) → HasKey image one → HaveKeys image said → HaveKeys image (kept_with said one given)
-keys_with image said one None key keys = All-push (HasKey image) said one keys key
+pub keys_with : (image : Image) (said : List Loaded) (one : Loaded) (given : Option Reason) → HasItsKey image one → HaveKeys image said → HaveKeys image (kept_with said one given)
+keys_with image said one None key keys = All-push (HasItsKey image) said one keys key
 keys_with image said one (Some reason) key keys = keys
 
 pub all_of : {A : Type 0} (P : A → Type 0) (x : A) (xs : List A) → P x → All P xs → All P (x ∷ xs)

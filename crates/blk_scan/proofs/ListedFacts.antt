@@ -22,7 +22,7 @@ use Rattle.blk_volume.specs.ListImages.{completed_walk}
 use Rattle.blk_volume.specs.View.{RecordFields, StoreView, entry_at, fields_at, fields_of, stands_as, store_of, view_of}
 use Rattle.blk_disk.specs.declared.tables.BlockFiles.{BlockFiles}
 use Rattle.blk_disk.specs.Tables.{Agrees, is_record_among}
-use Rattle.blk_audit.specs.ReadLists.{is_listed}
+use Rattle.blk_audit.specs.ReadLists.{is_named_by}
 use Rattle.blk_audit.proofs.Shown.{names_stand, record_fits}
 use Rattle.blk_scan.specs.Reads.{IsCutRead}
 use Rattle.blk_scan.proofs.Joined.{entry_none}
@@ -35,7 +35,7 @@ entry_shown files image w agrees among =
     rw st refl
 
 -- a record is unlisted where its node isn't walked or doesn't name it
-pub listed_is : (image : Image) (w : ℕ) (fields : RecordFields) → (store_of image).entry w ≡ Some fields → is_unlisted (completed (view_of image)) w ≡ not (is_listed image fields.rankings_node w)
+pub listed_is : (image : Image) (w : ℕ) (fields : RecordFields) → (store_of image).entry w ≡ Some fields → is_unlisted (completed (view_of image)) w ≡ not (is_named_by image fields.rankings_node w)
 unfolding is_unlisted
 listed_is image w fields is =
     ap (λ o. option_map_or (λ (f : RecordFields). not (is_among (completed_walk image) f.rankings_node && option_map_or (λ node_fields. node_fields.contents == w) ((store_of image).node_fields f.rankings_node) false)) o false) is

@@ -17,7 +17,7 @@ use Rattle.blk_volume.specs.Loads as shown
 use Rattle.blk_volume.specs.Loads.{Rule, held_rule}
 use Rattle.blk_volume.specs.Reasons as reasons
 use Rattle.blk_volume.specs.View.{StoreView, list_of, store_of}
-use Rattle.blk_scan.specs.Kept.{AreShown, HaveKeys, IsAnswer}
+use Rattle.blk_scan.specs.Kept.{AreShown, HaveKeys, IsSameAnswer}
 use Rattle.blk_scan.specs.Passes.{AreTried, IsAnswered, IsTried, is_of_pass, kept_after, of_pass}
 use Rattle.blk_scan.specs.declared.loading.Loaded.{Loaded}
 use Rattle.blk_scan.specs.declared.passes.Tried.{Tried}
@@ -45,7 +45,7 @@ module _ (store : StoreView) (rule : Rule) where
 module _ (image : Image) (walked before : List ℕ) (kept : List Loaded) (tried : List Tried) where
   -- one node more
   pub tried_more : (w : ℕ) (more : List Loaded) (one : Tried) → AreTried image walked before kept tried → slice_get walked one.place ≡ Some w
-      → IsAnswer (verdict (store_of image) held_rule (kept_after (store_of image) held_rule [] before) w) one.reason
+      → IsSameAnswer (verdict (store_of image) held_rule (kept_after (store_of image) held_rule [] before) w) one.reason
       → AreShown image (with_verdict (kept_after (store_of image) held_rule [] before) (verdict (store_of image) held_rule (kept_after (store_of image) held_rule [] before) w)) more
       → AreTried image walked (before ++ w ∷ []) more (tried ++ one ∷ [])
   tried_more w more one are at answer shown_more = record {

@@ -7,7 +7,7 @@ use Rattle.std.proofs.lemmas.Bool.{cases_Bool, eqb-true, eq-eqb}
 use Rattle.std.proofs.lemmas.List.{get_or_append_left, get_or_push}
 use Rattle.std.proofs.lemmas.Option.{slice_get_within}
 use Rattle.blk_addr.proofs.ClaimLemmas.{is_at-nat_cmp}
-use Rattle.blk_scan.specs.ByHash.{IsByHash, IsLast}
+use Rattle.blk_scan.specs.ByHash.{IsByHash, IsLastWithHash}
 use Rattle.blk_scan.specs.declared.by_hash.ByHash.{ByHash}
 
 -- an element before the end of a list is that of the longer one
@@ -29,7 +29,7 @@ module _ (hashes : List ℕ) (h : ℕ) where
   same i less = get_or_append_left hashes (h ∷ []) 0 i less
 
   -- the last place before an end stays
-  last_stays : (hash end : ℕ) (o : Option ℕ) → end ≤ length hashes → IsLast hashes hash end o → IsLast (hashes ++ h ∷ []) hash end o
+  last_stays : (hash end : ℕ) (o : Option ℕ) → end ≤ length hashes → IsLastWithHash hashes hash end o → IsLastWithHash (hashes ++ h ∷ []) hash end o
   last_stays hash end None inside is = λ i less at. is i less (sym (same i (omega (arith, less, inside))) ∙ at)
   last_stays hash end (Some place) inside is =
       let before = is.inside in
@@ -40,7 +40,7 @@ module _ (hashes : List ℕ) (h : ℕ) where
       }
 
   -- and is the last one of the longer list, where the hash is another
-  last_other : (hash : ℕ) (o : Option ℕ) → h ≢ hash → IsLast hashes hash (length hashes) o → IsLast (hashes ++ h ∷ []) hash (length hashes + 1) o
+  last_other : (hash : ℕ) (o : Option ℕ) → h ≢ hash → IsLastWithHash hashes hash (length hashes) o → IsLastWithHash (hashes ++ h ∷ []) hash (length hashes + 1) o
   last_other hash None other is = λ i less at. by_place i less at
     where
       by_place : (i : ℕ) → i < length hashes + 1 → slice_index (hashes ++ h ∷ []) i ≡ hash → ⊥
@@ -69,7 +69,7 @@ module _ (hashes : List ℕ) (h : ℕ) where
           clash c = cc
 
   -- the added place is the last one of its hash
-  last_added : IsLast (hashes ++ h ∷ []) h (length hashes + 1) (Some (length hashes))
+  last_added : IsLastWithHash (hashes ++ h ∷ []) h (length hashes + 1) (Some (length hashes))
   last_added = record {
     inside = omega arith;
     is = get_or_push hashes h 0 (length hashes) refl;
@@ -80,7 +80,7 @@ module _ (hashes : List ℕ) (h : ℕ) where
 pub places_none : (places : ByHash) → places.befores.items ≡ [] → ((hash : ℕ) → get nat_cmp places.lasts hash ≡ None) → IsByHash places []
 places_none places befores lasts = record {
   many = ap length befores;
-  last = λ hash. subst (IsLast [] hash 0) (sym (lasts hash)) (λ i less at. absurd (omega (arith, less)));
+  last = λ hash. subst (IsLastWithHash [] hash 0) (sym (lasts hash)) (λ i less at. absurd (omega (arith, less)));
   before = λ i before e. absurd (clash before (sym (ap (λ (l : List (Option ℕ)). slice_get l i) befores) ∙ e));
 }
   where
@@ -88,19 +88,19 @@ places_none places befores lasts = record {
     clash before c = cc
 
 -- a hash more
-pub places_more : (old new : ByHash) (hashes : List ℕ) (h place : ℕ) (before : Option ℕ) → IsByHash old hashes → place ≡ length hashes → IsLast hashes h (length hashes) before → new.befores.items ≡ old.befores.items ++ before ∷ []
+pub places_more : (old new : ByHash) (hashes : List ℕ) (h place : ℕ) (before : Option ℕ) → IsByHash old hashes → place ≡ length hashes → IsLastWithHash hashes h (length hashes) before → new.befores.items ≡ old.befores.items ++ before ∷ []
     → ((hash : ℕ) → get nat_cmp new.lasts hash ≡ cond (is_at (nat_cmp h) hash) (Some place) (get nat_cmp old.lasts hash)) → IsByHash new (hashes ++ h ∷ [])
 places_more old new hashes h place before is at last befores lasts = record {
   many = ap length befores ∙ (let sum = length-append old.befores.items (before ∷ []) in let many = is.many in let e : length (old.befores.items ++ before ∷ []) ≡ length hashes + 1 = omega (arith, sum, many) in e) ∙ sym (longer hashes h);
-  last = λ hash. subst (λ (end : ℕ). IsLast (hashes ++ h ∷ []) hash end (get nat_cmp new.lasts hash)) (sym (longer hashes h)) (subst (IsLast (hashes ++ h ∷ []) hash (length hashes + 1)) (sym (lasts hash)) (by_hash hash));
+  last = λ hash. subst (λ (end : ℕ). IsLastWithHash (hashes ++ h ∷ []) hash end (get nat_cmp new.lasts hash)) (sym (longer hashes h)) (subst (IsLastWithHash (hashes ++ h ∷ []) hash (length hashes + 1)) (sym (lasts hash)) (by_hash hash));
   before = λ i o e. by_place i o (sym (ap (λ (l : List (Option ℕ)). slice_get l i) befores) ∙ e);
 }
   where
-    by_hash : (hash : ℕ) → IsLast (hashes ++ h ∷ []) hash (length hashes + 1) (cond (is_at (nat_cmp h) hash) (Some place) (get nat_cmp old.lasts hash))
+    by_hash : (hash : ℕ) → IsLastWithHash (hashes ++ h ∷ []) hash (length hashes + 1) (cond (is_at (nat_cmp h) hash) (Some place) (get nat_cmp old.lasts hash))
     by_hash hash = ⊎_elim
         (λ (e : (hash == h) ≡ true).
         let t : is_at (nat_cmp h) hash ≡ true = is_at-nat_cmp h hash ∙ e in
-        rw t (subst (λ (x : ℕ). IsLast (hashes ++ h ∷ []) x (length hashes + 1) (Some place)) (sym (eqb-true _ _ e)) (subst (λ (p : ℕ). IsLast (hashes ++ h ∷ []) h (length hashes + 1) (Some p)) (sym at) (last_added hashes h))))
+        rw t (subst (λ (x : ℕ). IsLastWithHash (hashes ++ h ∷ []) x (length hashes + 1) (Some place)) (sym (eqb-true _ _ e)) (subst (λ (p : ℕ). IsLastWithHash (hashes ++ h ∷ []) h (length hashes + 1) (Some p)) (sym at) (last_added hashes h))))
         (λ (e : (hash == h) ≡ false).
         let t : is_at (nat_cmp h) hash ≡ false = is_at-nat_cmp h hash ∙ e in
         rw t (last_other hashes h hash (get nat_cmp old.lasts hash) (λ s. clash (sym (eq-eqb _ _ (sym s)) ∙ e)) (is.last hash)))
@@ -109,15 +109,15 @@ places_more old new hashes h place before is at last befores lasts = record {
         clash : true ≡ false → ⊥
         clash c = cc
 
-    by_place : (i : ℕ) (o : Option ℕ) → slice_get (old.befores.items ++ before ∷ []) i ≡ Some o → IsLast (hashes ++ h ∷ []) (slice_index (hashes ++ h ∷ []) i) i o
+    by_place : (i : ℕ) (o : Option ℕ) → slice_get (old.befores.items ++ before ∷ []) i ≡ Some o → IsLastWithHash (hashes ++ h ∷ []) (slice_index (hashes ++ h ∷ []) i) i o
     by_place i o e = ⊎_elim
         (λ (s : (i == length hashes) ≡ true).
         let many = is.many in
         let end : i ≡ length hashes = eqb-true _ _ s in
         let same_before : before ≡ o = some_same (sym (slice_last old.befores.items before i (end ∙ sym many)) ∙ e) in
         let h_is : h ≡ slice_index (hashes ++ h ∷ []) i = sym (get_or_push hashes h 0 i (sym end)) in
-        subst (λ (x : ℕ). IsLast (hashes ++ h ∷ []) x i o) h_is
-        (subst (IsLast (hashes ++ h ∷ []) h i) same_before (last_stays hashes h h i before (omega (arith, end)) (subst (λ (n : ℕ). IsLast hashes h n before) (sym end) last))))
+        subst (λ (x : ℕ). IsLastWithHash (hashes ++ h ∷ []) x i o) h_is
+        (subst (IsLastWithHash (hashes ++ h ∷ []) h i) same_before (last_stays hashes h h i before (omega (arith, end)) (subst (λ (n : ℕ). IsLastWithHash hashes h n before) (sym end) last))))
         (λ (s : (i == length hashes) ≡ false).
         let many = is.many in
         let apart : i ≢ length hashes = λ q. clash (sym (eq-eqb _ _ q) ∙ s) in
@@ -125,7 +125,7 @@ places_more old new hashes h place before is at last befores lasts = record {
         let within = slice_get_within (old.befores.items ++ before ∷ []) i o e in
         let inside : i < length hashes = omega (arith, many, sum, within, apart) in
         let inside_old : i < length old.befores.items = omega (arith, many, inside) in
-        subst (λ (x : ℕ). IsLast (hashes ++ h ∷ []) x i o) (sym (same hashes h i inside))
+        subst (λ (x : ℕ). IsLastWithHash (hashes ++ h ∷ []) x i o) (sym (same hashes h i inside))
         (last_stays hashes h (slice_index hashes i) i o (omega (arith, inside)) (is.before i o (sym (slice_before old.befores.items before i inside_old) ∙ e))))
         (cases_Bool (i == length hashes))
       where

@@ -6,7 +6,7 @@ use Rattle.std.specs.Option.{option_map}
 use Rattle.std.proofs.lemmas.Bool.{cases_Bool, cases_lt, eqb-true, eq-eqb, or_from, or_left, or_right}
 use Rattle.std.proofs.lemmas.List.{length-map}
 use Rattle.std.proofs.lemmas.Option.{get_or_from_slice_get, slice_get-map, slice_get_within}
-use Rattle.blk_scan.specs.ByHash.{IsLast}
+use Rattle.blk_scan.specs.ByHash.{IsLastWithHash}
 use Rattle.blk_scan.specs.declared.loading.Loaded.{Loaded}
 
 -- what holds of each element holds of one at a place
@@ -79,27 +79,27 @@ places_left None = 0
 places_left (Some place) = place + 1
 
 module _ (said : List Loaded) (hash : ℕ) where
-  pub search_begins : (place : Option ℕ) → IsLast (map (λ (k : Loaded). k.hash) said) hash (length (map (λ (k : Loaded). k.hash) said)) place → StandsAt (map (λ (k : Loaded). k.hash) said) hash place
+  pub search_begins : (place : Option ℕ) → IsLastWithHash (map (λ (k : Loaded). k.hash) said) hash (length (map (λ (k : Loaded). k.hash) said)) place → StandsAt (map (λ (k : Loaded). k.hash) said) hash place
   search_begins None last = tt
   search_begins (Some place) last = (last.inside, last.is)
 
   inside : (i : ℕ) (one : Loaded) → slice_get said i ≡ Some one → i < length (map (λ (k : Loaded). k.hash) said)
   inside i one e = let within = slice_get_within said i one e in omega (arith, within, length-map said (λ (k : Loaded). k.hash))
 
-  pub nothing_behind : (P : Loaded → Type 0) (place : Option ℕ) → IsLast (map (λ (k : Loaded). k.hash) said) hash (length (map (λ (k : Loaded). k.hash) said)) place → HoldsBehind said hash place P
+  pub nothing_behind : (P : Loaded → Type 0) (place : Option ℕ) → IsLastWithHash (map (λ (k : Loaded). k.hash) said) hash (length (map (λ (k : Loaded). k.hash) said)) place → HoldsBehind said hash place P
   nothing_behind P None last i one behind e same = absurd (last i (inside i one e) (hash_at said i one e ∙ same))
   nothing_behind P (Some place) last i one behind e same = absurd (last.behind i behind (inside i one e) (hash_at said i one e ∙ same))
 
   module _ (place : ℕ) (here : StandsAt (map (λ (k : Loaded). k.hash) said) hash (Some place)) where
-    pub search_goes_on : (next : Option ℕ) → IsLast (map (λ (k : Loaded). k.hash) said) (slice_index (map (λ (k : Loaded). k.hash) said) place) place next → StandsAt (map (λ (k : Loaded). k.hash) said) hash next
+    pub search_goes_on : (next : Option ℕ) → IsLastWithHash (map (λ (k : Loaded). k.hash) said) (slice_index (map (λ (k : Loaded). k.hash) said) place) place next → StandsAt (map (λ (k : Loaded). k.hash) said) hash next
     search_goes_on None last = tt
     search_goes_on (Some next) last = let less = last.inside in let first = here.0 in (omega (arith, less, first), last.is ∙ here.1)
 
-    none_between : (next : Option ℕ) (i : ℕ) → IsLast (map (λ (k : Loaded). k.hash) said) (slice_index (map (λ (k : Loaded). k.hash) said) place) place next → IsBehind next i → i < place → slice_index (map (λ (k : Loaded). k.hash) said) i ≡ hash → ⊥
+    none_between : (next : Option ℕ) (i : ℕ) → IsLastWithHash (map (λ (k : Loaded). k.hash) said) (slice_index (map (λ (k : Loaded). k.hash) said) place) place next → IsBehind next i → i < place → slice_index (map (λ (k : Loaded). k.hash) said) i ≡ hash → ⊥
     none_between None i last behind less same = last i less (same ∙ sym here.1)
     none_between (Some next) i last behind less same = last.behind i behind less (same ∙ sym here.1)
 
-    pub more_behind : (P : Loaded → Type 0) (next : Option ℕ) (one : Loaded) → IsLast (map (λ (k : Loaded). k.hash) said) (slice_index (map (λ (k : Loaded). k.hash) said) place) place next → slice_get said place ≡ Some one → P one → HoldsBehind said hash (Some place) P
+    pub more_behind : (P : Loaded → Type 0) (next : Option ℕ) (one : Loaded) → IsLastWithHash (map (λ (k : Loaded). k.hash) said) (slice_index (map (λ (k : Loaded). k.hash) said) place) place next → slice_get said place ≡ Some one → P one → HoldsBehind said hash (Some place) P
         → HoldsBehind said hash next P
     more_behind P next one last at_place holds before i other behind e same = ⊎_elim
         (λ (q : (i == place) ≡ true).
@@ -118,6 +118,6 @@ module _ (said : List Loaded) (hash : ℕ) where
         clash : true ≡ false → ⊥
         clash c = cc
 
-    pub fewer_left : (next : Option ℕ) → IsLast (map (λ (k : Loaded). k.hash) said) (slice_index (map (λ (k : Loaded). k.hash) said) place) place next → places_left next < place + 1
+    pub fewer_left : (next : Option ℕ) → IsLastWithHash (map (λ (k : Loaded). k.hash) said) (slice_index (map (λ (k : Loaded). k.hash) said) place) place next → places_left next < place + 1
     fewer_left None last = omega arith
     fewer_left (Some next) last = let less = last.inside in omega (arith, less)

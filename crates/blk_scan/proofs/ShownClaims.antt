@@ -24,7 +24,7 @@ use Rattle.blk_laws.proofs.claims.ByteChanges.{stands-address, stands-linked, st
 use Rattle.blk_laws.proofs.claims.ClaimLists.{no-claim}
 use Rattle.blk_laws.proofs.claims.NodeWords.{IsNode, is-node, node_apart}
 use Rattle.blk_laws.proofs.walks.Loads.{load-then}
-use Rattle.blk_scan.specs.Kept.{AreShown, IsShown, addresses_of, addresses_of_all}
+use Rattle.blk_scan.specs.Kept.{AreShown, IsLoadedFrom, addresses_of, addresses_of_all}
 use Rattle.blk_scan.specs.declared.loading.Loaded.{Loaded}
 use Rattle.blk_scan.proofs.OwnedClaims.{repeats-both}
 use Rattle.blk_scan.proofs.StreamFacts.{are_stored, no_fourth_addr}
@@ -242,7 +242,7 @@ same_words image (w ∷ words) stand = by_zero (w == 0) refl (λ all. same_words
     by_zero true z later rest = let none : is_address w ≡ false = ap is_address (eqb-true w 0 z) ∙ no_zero in rw (none, z) (later rest)
     by_zero false z later rest = let some : is_address w ≡ true = stands-address image w rest.0 in rw (some, z) (ap (λ (l : List ℕ). w ∷ l) (later rest.1))
 
-addresses_shown : (image : Image) (loaded : shown.Loaded) (said : Loaded) → IsShown image loaded said → addresses_of said ≡ words_of loaded
+addresses_shown : (image : Image) (loaded : shown.Loaded) (said : Loaded) → IsLoadedFrom image loaded said → addresses_of said ≡ words_of loaded
 addresses_shown image loaded said is =
     ap (filter is_address) (ap₂ (λ (w : ℕ) (l : List ℕ). w ∷ l) is.is.node (ap₂ (λ (w : ℕ) (l : List ℕ). w ∷ l) is.is.entry is.is.others))
     ∙ same_words image (loaded.node ∷ loaded.contents ∷ loaded.others) (words-stand image loaded (held_rule, is.node, is.loads))
@@ -253,7 +253,7 @@ all_addresses_shown image [] (said ∷ others) are = absurd are
 all_addresses_shown image (loaded ∷ kept) [] are = absurd are
 all_addresses_shown image (loaded ∷ kept) (said ∷ others) are = ap₂ (λ (a b : List ℕ). a ++ b) (addresses_shown image loaded said are.0) (all_addresses_shown image kept others are.1)
 
-pub collides_is : (image : Image) (kept : List shown.Loaded) (loaded : shown.Loaded) (said : List Loaded) (one : Loaded) → AreShown image kept said → IsShown image loaded one
+pub collides_is : (image : Image) (kept : List shown.Loaded) (loaded : shown.Loaded) (said : List Loaded) (one : Loaded) → AreShown image kept said → IsLoadedFrom image loaded one
     → (repeats (claims_of_all (addresses_of one)) || overlap (claims_of_all (addresses_of_all said)) (claims_of_all (addresses_of one))) ≡ collides kept loaded
 collides_is image kept loaded said one are is =
     let mine : claims_of_all (addresses_of one) ≡ all_claims loaded = ap claims_of_all (addresses_shown image loaded one is) ∙ words-claims loaded in

@@ -19,7 +19,7 @@ use Rattle.blk_disk.specs.declared.tables.BlockFiles.{BlockFiles}
 use Rattle.blk_entry.specs.Keys.{stores}
 use Rattle.blk_ranges.specs.ParentMaps.{head_fields, head_signature}
 use Rattle.blk_ranges.specs.declared.parent_map.ParentHead.{ParentHead}
-use Rattle.blk_scan.specs.Kept.{HasPartNumber, IsShown, is_parent_said, is_part_said, is_role_sought, is_sought}
+use Rattle.blk_scan.specs.Kept.{HasPartNumber, IsLoadedFrom, is_parent_said, is_part_said, is_role_sought, is_sought}
 use Rattle.blk_scan.specs.Readable.{HasIndex}
 use Rattle.blk_scan.specs.Roles.{IsRole}
 use Rattle.blk_scan.specs.declared.fitting.Sought.{Sought}
@@ -64,7 +64,7 @@ no_parent_said name key (entries.IsParent index) (Part said) is none = absurd is
 no_parent_said name key (entries.IsPart other index) said is none = refl
 
 -- a record of another role isn't sought
-pub other_role : (image : Image) (sought : Sought) (key : List ℕ) (loaded : shown.Loaded) (said : Loaded) → IsShown image loaded said → is_role_sought sought said.role ≡ false → is_sought sought key loaded ≡ false
+pub other_role : (image : Image) (sought : Sought) (key : List ℕ) (loaded : shown.Loaded) (said : Loaded) → IsLoadedFrom image loaded said → is_role_sought sought said.role ≡ false → is_sought sought key loaded ≡ false
 other_role image part key loaded said is none = let p : is_part loaded ≡ false = part_said loaded.key loaded.role said.role is.is.role ∙ none in rw p refl
 other_role image whole key loaded said is none =
     let p : not (is_part loaded) ≡ false = ap not (part_said loaded.key loaded.role said.role is.is.role) ∙ none in rw p refl
@@ -92,7 +92,7 @@ pub other_length : (sought : Sought) (key : List ℕ) (loaded : shown.Loaded) �
 other_length sought key loaded other = other_key sought key loaded (bytes_differ loaded.key key other)
 
 -- a record with another hash isn't, and so none is where it isn't with this one
-pub none_by_hash : (image : Image) (sought : Sought) (key : List ℕ) (hash : ℕ) (loaded : shown.Loaded) (said : Loaded) → hash ≡ hash_of key → IsShown image loaded said → (said.hash ≡ hash → is_sought sought key loaded ≡ false) → is_sought sought key loaded ≡ false
+pub none_by_hash : (image : Image) (sought : Sought) (key : List ℕ) (hash : ℕ) (loaded : shown.Loaded) (said : Loaded) → hash ≡ hash_of key → IsLoadedFrom image loaded said → (said.hash ≡ hash → is_sought sought key loaded ≡ false) → is_sought sought key loaded ≡ false
 none_by_hash image sought key hash loaded said is known same = by_test (said.hash == hash) refl
   where
     clash : true ≡ false → ⊥
@@ -103,7 +103,7 @@ none_by_hash image sought key hash loaded said is known same = by_test (said.has
     by_test false e = other_hash sought key loaded hash is (λ h. clash (sym (eq-eqb _ _ (known.is.hash ∙ h)) ∙ e))
 
 -- the same with the length of the key
-pub none_alike : (image : Image) (sought : Sought) (given loaded : shown.Loaded) (said one : Loaded) → IsShown image given said → IsShown image loaded one → (one.hash ≡ said.hash → one.key_len ≡ said.key_len → is_role_sought sought one.role ≡ false) → is_sought sought given.key loaded ≡ false
+pub none_alike : (image : Image) (sought : Sought) (given loaded : shown.Loaded) (said one : Loaded) → IsLoadedFrom image given said → IsLoadedFrom image loaded one → (one.hash ≡ said.hash → one.key_len ≡ said.key_len → is_role_sought sought one.role ≡ false) → is_sought sought given.key loaded ≡ false
 none_alike image sought given loaded said one known is none = none_by_hash image sought given.key said.hash loaded one known.is.hash is by_length
   where
     clash : true ≡ false → ⊥
@@ -131,13 +131,13 @@ index_stored files sizes addrs signature (Part name) is has = absurd (clash is)
     clash c = cc
 
 -- a part, or a record that is none, has nothing but its key to be compared
-pub part_found : (image : Image) (key : List ℕ) (loaded : shown.Loaded) (said : Loaded) → IsShown image loaded said → loaded.key ≡ key → is_role_sought part said.role ≡ true → is_sought part key loaded ≡ true
+pub part_found : (image : Image) (key : List ℕ) (loaded : shown.Loaded) (said : Loaded) → IsLoadedFrom image loaded said → loaded.key ≡ key → is_role_sought part said.role ≡ true → is_sought part key loaded ≡ true
 part_found image key loaded said is same holds =
     let p : is_part loaded ≡ true = part_said loaded.key loaded.role said.role is.is.role ∙ holds in
     let k : bytes_eq loaded.key key ≡ true = ap (bytes_eq loaded.key) (sym same) ∙ bytes_eq_self loaded.key in
     rw (p, k) refl
 
-pub whole_found : (image : Image) (key : List ℕ) (loaded : shown.Loaded) (said : Loaded) → IsShown image loaded said → loaded.key ≡ key → is_role_sought whole said.role ≡ true → is_sought whole key loaded ≡ true
+pub whole_found : (image : Image) (key : List ℕ) (loaded : shown.Loaded) (said : Loaded) → IsLoadedFrom image loaded said → loaded.key ≡ key → is_role_sought whole said.role ≡ true → is_sought whole key loaded ≡ true
 whole_found image key loaded said is same holds =
     let p : not (is_part loaded) ≡ true = ap not (part_said loaded.key loaded.role said.role is.is.role) ∙ holds in
     let k : bytes_eq loaded.key key ≡ true = ap (bytes_eq loaded.key) (sym same) ∙ bytes_eq_self loaded.key in

@@ -13,12 +13,12 @@ pub record IsLastPlace (hashes : List ℕ) (hash end place : ℕ) : Type 0 where
   pub behind : (i : ℕ) → place < i → i < end → slice_index hashes i ≢ hash
 
 -- the last place before an end with a hash, if there is one
-abbrev pub IsLast : List ℕ → ℕ → ℕ → Option ℕ → Type 0
-IsLast hashes hash end None = (i : ℕ) → i < end → slice_index hashes i ≢ hash
-IsLast hashes hash end (Some place) = IsLastPlace hashes hash end place
+abbrev pub IsLastWithHash : List ℕ → ℕ → ℕ → Option ℕ → Type 0
+IsLastWithHash hashes hash end None = (i : ℕ) → i < end → slice_index hashes i ≢ hash
+IsLastWithHash hashes hash end (Some place) = IsLastPlace hashes hash end place
 
 -- the places are those of a list of hashes: the last one of each hash, and before each place the last one of the same
 pub record IsByHash (places : ByHash) (hashes : List ℕ) : Type 0 where
   pub many : length places.befores.items ≡ length hashes
-  pub last : (hash : ℕ) → IsLast hashes hash (length hashes) (get nat_cmp places.lasts hash)
-  pub before : (i : ℕ) (before : Option ℕ) → slice_get places.befores.items i ≡ Some before → IsLast hashes (slice_index hashes i) i before
+  pub last : (hash : ℕ) → IsLastWithHash hashes hash (length hashes) (get nat_cmp places.lasts hash)
+  pub before : (i : ℕ) (before : Option ℕ) → slice_get places.befores.items i ≡ Some before → IsLastWithHash hashes (slice_index hashes i) i before

@@ -22,7 +22,7 @@ use Rattle.blk_disk.specs.declared.tables.BlockFiles.{BlockFiles}
 use Rattle.blk_audit.specs.Chaining.{reached_by}
 use Rattle.blk_ranges.specs.ParentMaps.{head_signature}
 use Rattle.blk_scan.specs.ByHash.{IsByHash}
-use Rattle.blk_scan.specs.Keyed.{HasKey}
+use Rattle.blk_scan.specs.Keyed.{HasItsKey}
 use Rattle.blk_scan.specs.Readable.{IsReadable}
 use Rattle.blk_scan.specs.Reasons.{reason_of}
 use Rattle.blk_scan.specs.Verdicts.{IsLoaded}
@@ -37,18 +37,18 @@ use Rattle.blk_scan.specs.declared.fitting.Sought.TheVariants as sought
 -- The records in memory and those of an image.
 
 -- a record in memory is one that a node of an image loads
-pub record IsShown (image : Image) (loaded : shown.Loaded) (said : Loaded) : Type 0 where
+pub record IsLoadedFrom (image : Image) (loaded : shown.Loaded) (said : Loaded) : Type 0 where
   pub node : ℕ
   pub loads : shown.load (store_of image) held_rule node ≡ Ok loaded
   pub is : IsLoaded loaded said
 
 -- so are several, in their order
 abbrev pub AreShown : Image → List shown.Loaded → List Loaded → Type 0
-AreShown image kept said = AllZip (IsShown image) kept said
+AreShown image kept said = AllZip (IsLoadedFrom image) kept said
 
 -- an image has the keys of several
 abbrev pub HaveKeys : Image → List Loaded → Type 0
-HaveKeys image said = All (HasKey image) said
+HaveKeys image said = All (HasItsKey image) said
 
 -- What is kept so far.
 
@@ -66,13 +66,13 @@ pub record IsIndexed (so_far : KeptSoFar) : Type 0 where
   pub by_hash : IsByHash so_far.by_hash (map (λ said. said.hash) so_far.kept.items)
 
 -- so it is, and the kept records can be read
-pub record IsInOrder (files : BlockFiles) (so_far : KeptSoFar) : Type 0 where
+pub record IsKeptInOrder (files : BlockFiles) (so_far : KeptSoFar) : Type 0 where
   pub readable : All (IsReadable files) so_far.kept.items
   pub indexed : IsIndexed so_far
 
 -- whatever the block files are
 abbrev pub IsAlwaysInOrder : KeptSoFar → Type 0
-IsAlwaysInOrder so_far = (files : BlockFiles) → IsInOrder files so_far
+IsAlwaysInOrder so_far = (files : BlockFiles) → IsKeptInOrder files so_far
 
 -- the kept records, with one more where no reason holds
 abbrev pub kept_with : List Loaded → Loaded → Option Reason → List Loaded
@@ -128,8 +128,8 @@ pub record IsWalked (image : Image) (node contents dirty : ℕ) (reached : Bool)
   pub chained : reached ≡ is_among (reached_by (store_of image) table_length) contents
 
 -- it is the one of a folder: no reason, or the same
-abbrev pub IsAnswer : Result shown.Loaded reasons.Reason → Option Reason → Type 0
-IsAnswer (Ok loaded) None = Unit {0}
-IsAnswer (Ok loaded) (Some reason) = ⊥
-IsAnswer (Err reason) None = ⊥
-IsAnswer (Err reason) (Some given) = reason_of given ≡ reason
+abbrev pub IsSameAnswer : Result shown.Loaded reasons.Reason → Option Reason → Type 0
+IsSameAnswer (Ok loaded) None = Unit {0}
+IsSameAnswer (Ok loaded) (Some reason) = ⊥
+IsSameAnswer (Err reason) None = ⊥
+IsSameAnswer (Err reason) (Some given) = reason_of given ≡ reason

@@ -30,6 +30,6 @@ pub record IsKeyOf (image : Image) (loaded : Loaded) (key : List ℕ) : Type 0 w
   pub stored : stored_key (store_of image) loaded.entry fields ≡ Some key
 
 -- an image has some key of it
-pub record HasKey (image : Image) (loaded : Loaded) : Type 0 where
+pub record HasItsKey (image : Image) (loaded : Loaded) : Type 0 where
   pub key : List ℕ
   pub is : IsKeyOf image loaded key

@@ -14,7 +14,7 @@ use Rattle.blk_disk.specs.declared.tables.BlockFiles.{BlockFiles}
 use Rattle.blk_disk.specs.Tables.{Agrees}
 use Rattle.blk_audit.specs.ReadLists.{AreListsOf}
 use Rattle.blk_audit.specs.declared.scanning.Lists.{Lists}
-use Rattle.blk_scan.specs.Kept.{AreShown, HaveKeys, IsAnswer}
+use Rattle.blk_scan.specs.Kept.{AreShown, HaveKeys, IsSameAnswer}
 use Rattle.blk_scan.specs.declared.loading.Loaded.{Loaded}
 use Rattle.blk_scan.specs.declared.passes.Tried.{Tried}
 
@@ -35,7 +35,7 @@ kept_after store rule kept (node ∷ nodes) = kept_after store rule (with_verdic
 -- what was tried is the node of a verdict, by its place among the walked ones, and the answer is that verdict
 pub record IsTried (walked : List ℕ) (given : ℕ × Result shown.Loaded reasons.Reason) (tried : Tried) : Type 0 where
   pub node : slice_get walked tried.place ≡ Some given.0
-  pub answer : IsAnswer given.1 tried.reason
+  pub answer : IsSameAnswer given.1 tried.reason
 
 -- nodes were tried in order: these are the answers on them, and those that are kept
 pub record AreTried (image : Image) (walked nodes : List ℕ) (kept : List Loaded) (tried : List Tried) : Type 0 where
@@ -56,4 +56,4 @@ pub record IsAnswered (walked : List ℕ) (tried : List Tried) (node : ℕ) (giv
   pub here : slice_get walked one.place ≡ Some node
   pub verdict_is : Result shown.Loaded reasons.Reason
   pub is : given ≡ Some verdict_is
-  pub answer : IsAnswer verdict_is one.reason
+  pub answer : IsSameAnswer verdict_is one.reason

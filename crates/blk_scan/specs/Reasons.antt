@@ -24,20 +24,20 @@ reason_of reason.Parent = shown.Parent
 reason_of reason.Unlisted = shown.Unlisted
 
 -- the number of a reason
-abbrev pub number_of : Reason → ℕ
-number_of reason.Contents = 1
-number_of reason.Seal = 2
-number_of reason.State = 3
-number_of reason.Back = 4
-number_of reason.Flags = 5
-number_of reason.Dirty = 6
-number_of reason.KeyLength = 7
-number_of reason.KeyPlace = 8
-number_of reason.Hash = 9
-number_of reason.Chain = 10
-number_of reason.Streams = 11
-number_of reason.Sparse = 12
-number_of reason.Claimed = 13
-number_of reason.Name = 14
-number_of reason.Parent = 15
-number_of reason.Unlisted = 16
+abbrev pub reason_number : Reason → ℕ
+reason_number reason.Contents = 1
+reason_number reason.Seal = 2
+reason_number reason.State = 3
+reason_number reason.Back = 4
+reason_number reason.Flags = 5
+reason_number reason.Dirty = 6
+reason_number reason.KeyLength = 7
+reason_number reason.KeyPlace = 8
+reason_number reason.Hash = 9
+reason_number reason.Chain = 10
+reason_number reason.Streams = 11
+reason_number reason.Sparse = 12
+reason_number reason.Claimed = 13
+reason_number reason.Name = 14
+reason_number reason.Parent = 15
+reason_number reason.Unlisted = 16

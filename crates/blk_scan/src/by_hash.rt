@@ -1,6 +1,6 @@
 // The places in a list by hashes.
 ghost use Rattle.std.specs.Prelude.{◌≡◌, ◌<◌, ℕ, ◌++◌, [], ◌∷◌, List, OnOk, length, slice_index};
-ghost use Rattle.blk_scan.specs.ByHash.{IsByHash, IsLast};
+ghost use Rattle.blk_scan.specs.ByHash.{IsByHash, IsLastWithHash};
 
 use blk_addr::NoMemory;
 use std::alloc::Global;
@@ -28,14 +28,14 @@ impl ByHash {
 
     // The last place with a hash.
     pub(crate) fn last(&self, hash: u32) -> Option<usize>
-        ensures { (hashes : List ℕ) → IsByHash self.now hashes → IsLast hashes hash (length hashes) result }
+        ensures { (hashes : List ℕ) → IsByHash self.now hashes → IsLastWithHash hashes hash (length hashes) result }
     {
         self.lasts.get(&hash).copied()
     }
 
     // The last place before one with the same hash.
     pub(crate) fn before(&self, place: usize) -> Option<usize>
-        ensures { (hashes : List ℕ) → IsByHash self.now hashes → place < length hashes → IsLast hashes (slice_index hashes place) place result }
+        ensures { (hashes : List ℕ) → IsByHash self.now hashes → place < length hashes → IsLastWithHash hashes (slice_index hashes place) place result }
     {
         match self.befores.get(place) {
             Some(before) => *before,

@@ -6,8 +6,8 @@ ghost use Rattle.blk_image.specs.Told.{Rises, Stays};
 ghost use Rattle.blk_volume.specs.Loads as shown;
 ghost use Rattle.blk_io.specs.Faults.{IfDamaged, IfDevice};
 ghost use Rattle.blk_disk.specs.Tables.{Agrees};
-ghost use Rattle.blk_scan.specs.Keyed.{HasKey};
-ghost use Rattle.blk_scan.specs.Kept.{HasPartNumber, IsShown, is_parent_said, is_part_said, is_role_sought, is_sought};
+ghost use Rattle.blk_scan.specs.Keyed.{HasItsKey};
+ghost use Rattle.blk_scan.specs.Kept.{HasPartNumber, IsLoadedFrom, is_parent_said, is_part_said, is_role_sought, is_sought};
 ghost use Rattle.blk_scan.specs.Readable.{HasIndex, IsReadable};
 ghost use Rattle.blk_scan.specs.Reads.{IsCutRead};
 ghost use Rattle.blk_scan.specs.declared.fitting.Sought.TheVariants as variant;
@@ -89,10 +89,10 @@ pub(crate) fn fits<F: Folder>(
 ) -> Result<bool, Fault>
     requires readable { IsReadable files.now kept.now }
     requires part { HasPartNumber sought }
-    ensures fits { IfOk result (λ fits. ForSome (F.told f.old).files (λ image. Agrees files.now image → (loaded : shown.Loaded) → IsShown image loaded kept.now → fits ≡ is_sought sought key.now loaded)) }
+    ensures fits { IfOk result (λ fits. ForSome (F.told f.old).files (λ image. Agrees files.now image → (loaded : shown.Loaded) → IsLoadedFrom image loaded kept.now → fits ≡ is_sought sought key.now loaded)) }
     ensures stays { Stays (F.told f.old) (F.told f.new) }
     ensures short { IfDamaged result (IsCutRead files.now (F.told f.old)) }
-    ensures untold { ForSome (F.told f.old).files (Agrees files.now) → ForSome (F.told f.old).files (λ image. HasKey image kept.now) → IfDamaged result (λ _. (F.told f.old).files ≡ None) }
+    ensures untold { ForSome (F.told f.old).files (Agrees files.now) → ForSome (F.told f.old).files (λ image. HasItsKey image kept.now) → IfDamaged result (λ _. (F.told f.old).files ≡ None) }
     ensures later { F.faults f.old ≤ F.faults f.new }
     ensures device { IfDevice result (Rises (F.faults f.old) (F.faults f.new)) }
 {
@@ -115,7 +115,7 @@ fn has_bit<F: Folder>(
     requires index { HasIndex files.now kept.now.sizes kept.now.addrs kept.now.role }
     requires role { is_role_sought sought kept.now.role ≡ true }
     requires part { HasPartNumber sought }
-    ensures fits { IfOk result (λ has. ForSome (F.told f.old).files (λ image. (key : List ℕ) (loaded : shown.Loaded) → IsShown image loaded kept.now → loaded.key ≡ key → has ≡ is_sought sought key loaded)) }
+    ensures fits { IfOk result (λ has. ForSome (F.told f.old).files (λ image. (key : List ℕ) (loaded : shown.Loaded) → IsLoadedFrom image loaded kept.now → loaded.key ≡ key → has ≡ is_sought sought key loaded)) }
     ensures stays { Stays (F.told f.old) (F.told f.new) }
     ensures short { IfDamaged result (IsCutRead files.now (F.told f.old)) }
     ensures untold { ForSome (F.told f.old).files (Agrees files.now) → IfDamaged result (λ _. (F.told f.old).files ≡ None) }

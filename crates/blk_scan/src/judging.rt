@@ -8,7 +8,7 @@ ghost use Rattle.blk_volume.specs.View.{store_of};
 ghost use Rattle.blk_disk.specs.Tables.{Agrees};
 ghost use Rattle.blk_audit.specs.Faults.{IfScanDamaged, IfScanDevice};
 ghost use Rattle.blk_audit.specs.ReadLists.{AreListsOf, IsSaidAt};
-ghost use Rattle.blk_scan.specs.Kept.{AreShown, HaveKeys, IsAnswer, IsInOrder, IsWalked, KeepsAtMostOne};
+ghost use Rattle.blk_scan.specs.Kept.{AreShown, HaveKeys, IsSameAnswer, IsKeptInOrder, IsWalked, KeepsAtMostOne};
 ghost use Rattle.blk_scan.specs.Reads.{IsCutRead};
 
 use crate::kept::KeptSoFar;
@@ -33,12 +33,12 @@ pub(crate) fn judge<F: Folder>(
     dirty: u32,
     reached: bool,
 ) -> Result<Option<Reason>, ScanFault>
-    requires order { IsInOrder files.now kept.old }
-    ensures answer { IfOk result (λ reason. ForSome (F.told f.old).files (λ image. Agrees files.now image → IsWalked image node contents dirty reached → (so_far : List shown.Loaded) → AreShown image so_far kept.old.kept.items → IsAnswer (audit.verdict (store_of image) shown.held_rule so_far node) reason)) }
+    requires order { IsKeptInOrder files.now kept.old }
+    ensures answer { IfOk result (λ reason. ForSome (F.told f.old).files (λ image. Agrees files.now image → IsWalked image node contents dirty reached → (so_far : List shown.Loaded) → AreShown image so_far kept.old.kept.items → IsSameAnswer (audit.verdict (store_of image) shown.held_rule so_far node) reason)) }
     ensures shown { OnOk result (ForSome (F.told f.old).files (λ image. Agrees files.now image → IsWalked image node contents dirty reached → (so_far : List shown.Loaded) → AreShown image so_far kept.old.kept.items → AreShown image (audit.with_verdict so_far (audit.verdict (store_of image) shown.held_rule so_far node)) kept.new.kept.items)) }
     ensures keys { OnOk result (ForSome (F.told f.old).files (λ image. Agrees files.now image → IsWalked image node contents dirty reached → HaveKeys image kept.old.kept.items → HaveKeys image kept.new.kept.items)) }
     ensures kept { IfOk result (KeepsAtMostOne kept.old.kept.items kept.new.kept.items) }
-    ensures order { OnOk result (IsInOrder files.now kept.new) }
+    ensures order { OnOk result (IsKeptInOrder files.now kept.new) }
     ensures stays { Stays (F.told f.old) (F.told f.new) }
     ensures short { IfScanDamaged result (IsCutRead files.now (F.told f.old)) }
     ensures untold { ForSome (F.told f.old).files (λ image. Agrees files.now image) → ForSome (F.told f.old).files (λ image. IsWalked image node contents dirty reached) → ForSome (F.told f.old).files (λ image. HaveKeys image kept.old.kept.items) → IfScanDamaged result (λ _. (F.told f.old).files ≡ None) }
@@ -61,12 +61,12 @@ pub(crate) fn judge_walked<F: Folder>(
     kept: &mut KeptSoFar,
     node: &WalkedNode,
 ) -> Result<Option<Reason>, ScanFault>
-    requires order { IsInOrder files.now kept.old }
-    ensures answer { IfOk result (λ reason. ForSome (F.told f.old).files (λ image. Agrees files.now image → AreListsOf image lists.now → IsSaidAt image node.now → (so_far : List shown.Loaded) → AreShown image so_far kept.old.kept.items → IsAnswer (audit.verdict (store_of image) shown.held_rule so_far node.now.addr) reason)) }
+    requires order { IsKeptInOrder files.now kept.old }
+    ensures answer { IfOk result (λ reason. ForSome (F.told f.old).files (λ image. Agrees files.now image → AreListsOf image lists.now → IsSaidAt image node.now → (so_far : List shown.Loaded) → AreShown image so_far kept.old.kept.items → IsSameAnswer (audit.verdict (store_of image) shown.held_rule so_far node.now.addr) reason)) }
     ensures shown { OnOk result (ForSome (F.told f.old).files (λ image. Agrees files.now image → AreListsOf image lists.now → IsSaidAt image node.now → (so_far : List shown.Loaded) → AreShown image so_far kept.old.kept.items → AreShown image (audit.with_verdict so_far (audit.verdict (store_of image) shown.held_rule so_far node.now.addr)) kept.new.kept.items)) }
     ensures keys { OnOk result (ForSome (F.told f.old).files (λ image. Agrees files.now image → AreListsOf image lists.now → IsSaidAt image node.now → HaveKeys image kept.old.kept.items → HaveKeys image kept.new.kept.items)) }
     ensures kept { IfOk result (KeepsAtMostOne kept.old.kept.items kept.new.kept.items) }
-    ensures order { OnOk result (IsInOrder files.now kept.new) }
+    ensures order { OnOk result (IsKeptInOrder files.now kept.new) }
     ensures stays { Stays (F.told f.old) (F.told f.new) }
     ensures short { IfScanDamaged result (IsCutRead files.now (F.told f.old)) }
     ensures untold { ForSome (F.told f.old).files (λ image. Agrees files.now image) → ForSome (F.told f.old).files (λ image. AreListsOf image lists.now × IsSaidAt image node.now) → ForSome (F.told f.old).files (λ image. HaveKeys image kept.old.kept.items) → IfScanDamaged result (λ _. (F.told f.old).files ≡ None) }

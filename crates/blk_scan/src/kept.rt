@@ -12,8 +12,8 @@ ghost use Rattle.blk_volume.specs.View.{store_of};
 ghost use Rattle.blk_io.specs.Faults.{IfDamaged, IfDevice};
 ghost use Rattle.blk_disk.specs.Tables.{Agrees};
 ghost use Rattle.blk_audit.specs.Faults.{IfScanDamaged, IfScanDevice};
-ghost use Rattle.blk_scan.specs.Kept.{AreShown, HasPartNumber, HaveKeys, IsAlwaysInOrder, IsAnswer, IsInOrder, IsIndexed, IsShown, NoneMayBe, addresses_of, addresses_of_all, is_sought, kept_with};
-ghost use Rattle.blk_scan.specs.Keyed.{HasKey};
+ghost use Rattle.blk_scan.specs.Kept.{AreShown, HasPartNumber, HaveKeys, IsAlwaysInOrder, IsSameAnswer, IsKeptInOrder, IsIndexed, IsLoadedFrom, NoneMayBe, addresses_of, addresses_of_all, is_sought, kept_with};
+ghost use Rattle.blk_scan.specs.Keyed.{HasItsKey};
 ghost use Rattle.blk_scan.specs.Readable.{IsReadable};
 ghost use Rattle.blk_scan.specs.Reads.{IsCutRead};
 
@@ -85,12 +85,12 @@ impl KeptSoFar {
         files: &BlockFiles,
         loaded: Loaded,
     ) -> Result<Option<Reason>, ScanFault>
-        requires order { IsInOrder files.now self.old }
+        requires order { IsKeptInOrder files.now self.old }
         requires readable { IsReadable files.now loaded }
-        ensures answer { IfOk result (λ reason. ForSome (F.told f.old).files (λ image. Agrees files.now image → (kept : List shown.Loaded) (given : shown.Loaded) → AreShown image kept self.old.kept.items → IsShown image given loaded → IsAnswer (audit.admit kept given) reason)) }
-        ensures shown { IfOk result (λ reason. ForSome (F.told f.old).files (λ image. Agrees files.now image → (kept : List shown.Loaded) (given : shown.Loaded) → AreShown image kept self.old.kept.items → IsShown image given loaded → AreShown image (audit.with_verdict kept (audit.admit kept given)) self.new.kept.items)) }
+        ensures answer { IfOk result (λ reason. ForSome (F.told f.old).files (λ image. Agrees files.now image → (kept : List shown.Loaded) (given : shown.Loaded) → AreShown image kept self.old.kept.items → IsLoadedFrom image given loaded → IsSameAnswer (audit.admit kept given) reason)) }
+        ensures shown { IfOk result (λ reason. ForSome (F.told f.old).files (λ image. Agrees files.now image → (kept : List shown.Loaded) (given : shown.Loaded) → AreShown image kept self.old.kept.items → IsLoadedFrom image given loaded → AreShown image (audit.with_verdict kept (audit.admit kept given)) self.new.kept.items)) }
         ensures kept { IfOk result (λ reason. self.new.kept.items ≡ kept_with self.old.kept.items loaded reason) }
-        ensures order { OnOk result (IsInOrder files.now self.new) }
+        ensures order { OnOk result (IsKeptInOrder files.now self.new) }
         ensures stays { Stays (F.told f.old) (F.told f.new) }
         ensures short { IfScanDamaged result (IsCutRead files.now (F.told f.old)) }
         ensures untold { ForSome (F.told f.old).files (Agrees files.now) → ForSome (F.told f.old).files (λ image. HaveKeys image (loaded ∷ self.old.kept.items)) → IfScanDamaged result (λ _. (F.told f.old).files ≡ None) }
@@ -111,9 +111,9 @@ impl KeptSoFar {
         files: &BlockFiles,
         loaded: &Loaded,
     ) -> Result<Option<Reason>, Fault>
-        requires order { IsInOrder files.now self.now }
+        requires order { IsKeptInOrder files.now self.now }
         requires readable { IsReadable files.now loaded.now }
-        ensures answer { IfOk result (λ reason. ForSome (F.told f.old).files (λ image. Agrees files.now image → (kept : List shown.Loaded) (given : shown.Loaded) → AreShown image kept self.now.kept.items → IsShown image given loaded.now → IsAnswer (audit.admit kept given) reason)) }
+        ensures answer { IfOk result (λ reason. ForSome (F.told f.old).files (λ image. Agrees files.now image → (kept : List shown.Loaded) (given : shown.Loaded) → AreShown image kept self.now.kept.items → IsLoadedFrom image given loaded.now → IsSameAnswer (audit.admit kept given) reason)) }
         ensures apart { result ≡ Ok None → repeats (claims_of_all (addresses_of_all self.now.kept.items ++ addresses_of loaded.now)) ≡ false }
         ensures stays { Stays (F.told f.old) (F.told f.new) }
         ensures short { IfDamaged result (IsCutRead files.now (F.told f.old)) }
@@ -148,9 +148,9 @@ impl KeptSoFar {
         files: &BlockFiles,
         loaded: &Loaded,
     ) -> Result<bool, Fault>
-        requires order { IsInOrder files.now self.now }
+        requires order { IsKeptInOrder files.now self.now }
         requires readable { IsReadable files.now loaded.now }
-        ensures shares { IfOk result (λ shares. ForSome (F.told f.old).files (λ image. Agrees files.now image → (kept : List shown.Loaded) (given : shown.Loaded) → AreShown image kept self.now.kept.items → IsShown image given loaded.now → shares ≡ audit.shares_key kept given)) }
+        ensures shares { IfOk result (λ shares. ForSome (F.told f.old).files (λ image. Agrees files.now image → (kept : List shown.Loaded) (given : shown.Loaded) → AreShown image kept self.now.kept.items → IsLoadedFrom image given loaded.now → shares ≡ audit.shares_key kept given)) }
         ensures stays { Stays (F.told f.old) (F.told f.new) }
         ensures short { IfDamaged result (IsCutRead files.now (F.told f.old)) }
         ensures untold { ForSome (F.told f.old).files (Agrees files.now) → ForSome (F.told f.old).files (λ image. HaveKeys image (loaded.now ∷ self.now.kept.items)) → IfDamaged result (λ _. (F.told f.old).files ≡ None) }
@@ -172,11 +172,11 @@ impl KeptSoFar {
         loaded: &Loaded,
         sought: Sought,
     ) -> Result<bool, Fault>
-        requires order { IsInOrder files.now self.now }
+        requires order { IsKeptInOrder files.now self.now }
         requires readable { IsReadable files.now loaded.now }
         requires short { loaded.now.key_len ≤ 32796 }
         requires part { HasPartNumber sought }
-        ensures has { IfOk result (λ has. ForSome (F.told f.old).files (λ image. Agrees files.now image → (kept : List shown.Loaded) (given : shown.Loaded) → AreShown image kept self.now.kept.items → IsShown image given loaded.now → has ≡ list_any (is_sought sought given.key) kept)) }
+        ensures has { IfOk result (λ has. ForSome (F.told f.old).files (λ image. Agrees files.now image → (kept : List shown.Loaded) (given : shown.Loaded) → AreShown image kept self.now.kept.items → IsLoadedFrom image given loaded.now → has ≡ list_any (is_sought sought given.key) kept)) }
         ensures stays { Stays (F.told f.old) (F.told f.new) }
         ensures short { IfDamaged result (IsCutRead files.now (F.told f.old)) }
         ensures untold { ForSome (F.told f.old).files (Agrees files.now) → ForSome (F.told f.old).files (λ image. HaveKeys image (loaded.now ∷ self.now.kept.items)) → IfDamaged result (λ _. (F.told f.old).files ≡ None) }
@@ -196,9 +196,9 @@ impl KeptSoFar {
         files: &BlockFiles,
         loaded: &Loaded,
     ) -> Result<bool, Fault>
-        requires order { IsInOrder files.now self.now }
+        requires order { IsKeptInOrder files.now self.now }
         requires readable { IsReadable files.now loaded.now }
-        ensures orphan { IfOk result (λ orphan. ForSome (F.told f.old).files (λ image. Agrees files.now image → (kept : List shown.Loaded) (given : shown.Loaded) → AreShown image kept self.now.kept.items → IsShown image given loaded.now → orphan ≡ audit.is_orphan kept given)) }
+        ensures orphan { IfOk result (λ orphan. ForSome (F.told f.old).files (λ image. Agrees files.now image → (kept : List shown.Loaded) (given : shown.Loaded) → AreShown image kept self.now.kept.items → IsLoadedFrom image given loaded.now → orphan ≡ audit.is_orphan kept given)) }
         ensures stays { Stays (F.told f.old) (F.told f.new) }
         ensures short { IfDamaged result (IsCutRead files.now (F.told f.old)) }
         ensures untold { ForSome (F.told f.old).files (Agrees files.now) → ForSome (F.told f.old).files (λ image. HaveKeys image (loaded.now ∷ self.now.kept.items)) → IfDamaged result (λ _. (F.told f.old).files ≡ None) }
@@ -219,10 +219,10 @@ impl KeptSoFar {
         files: &BlockFiles,
         loaded: &Loaded,
     ) -> Result<bool, Fault>
-        requires order { IsInOrder files.now self.now }
+        requires order { IsKeptInOrder files.now self.now }
         requires readable { IsReadable files.now loaded.now }
         requires short { loaded.now.key_len ≤ 32796 }
-        ensures orphan { IfOk result (λ orphan. ForSome (F.told f.old).files (λ image. Agrees files.now image → (kept : List shown.Loaded) (given : shown.Loaded) → AreShown image kept self.now.kept.items → IsShown image given loaded.now → shown.is_part given ≡ true → orphan ≡ audit.is_orphan kept given)) }
+        ensures orphan { IfOk result (λ orphan. ForSome (F.told f.old).files (λ image. Agrees files.now image → (kept : List shown.Loaded) (given : shown.Loaded) → AreShown image kept self.now.kept.items → IsLoadedFrom image given loaded.now → shown.is_part given ≡ true → orphan ≡ audit.is_orphan kept given)) }
         ensures stays { Stays (F.told f.old) (F.told f.new) }
         ensures short { IfDamaged result (IsCutRead files.now (F.told f.old)) }
         ensures untold { ForSome (F.told f.old).files (Agrees files.now) → ForSome (F.told f.old).files (λ image. HaveKeys image (loaded.now ∷ self.now.kept.items)) → IfDamaged result (λ _. (F.told f.old).files ≡ None) }
@@ -242,7 +242,7 @@ impl KeptSoFar {
         files: &BlockFiles,
         key: &[u8],
     ) -> Result<bool, Fault>
-        requires order { IsInOrder files.now self.now }
+        requires order { IsKeptInOrder files.now self.now }
         ensures orphan { IfOk result (λ orphan. ForSome (F.told f.old).files (λ image. Agrees files.now image → (kept : List shown.Loaded) (given : shown.Loaded) (node : ℕ) → AreShown image kept self.now.kept.items → shown.load (store_of image) shown.held_rule node ≡ Ok given → key.now ≡ given.key → shown.is_part given ≡ true → orphan ≡ audit.is_orphan kept given)) }
         ensures stays { Stays (F.told f.old) (F.told f.new) }
         ensures short { IfDamaged result (IsCutRead files.now (F.told f.old)) }
@@ -287,7 +287,7 @@ impl KeptSoFar {
         sought: Sought,
         key: &[u8],
     ) -> Result<bool, Fault>
-        requires order { IsInOrder files.now self.now }
+        requires order { IsKeptInOrder files.now self.now }
         requires part { HasPartNumber sought }
         ensures has { IfOk result (λ has. ForSome (F.told f.old).files (λ image. Agrees files.now image → hash ≡ hash_of key.now → (kept : List shown.Loaded) → AreShown image kept self.now.kept.items → has ≡ list_any (is_sought sought key.now) kept)) }
         ensures stays { Stays (F.told f.old) (F.told f.new) }

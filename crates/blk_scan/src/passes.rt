@@ -11,7 +11,7 @@ ghost use Rattle.blk_disk.specs.Tables.{Agrees};
 ghost use Rattle.blk_audit.specs.Faults.{IfScanDamaged, IfScanDevice};
 ghost use Rattle.blk_audit.specs.ReadLists.{AreListsOf};
 ghost use Rattle.blk_audit.specs.Walking.{nodes_walked};
-ghost use Rattle.blk_scan.specs.Kept.{HaveKeys, IsInOrder};
+ghost use Rattle.blk_scan.specs.Kept.{HaveKeys, IsKeptInOrder};
 ghost use Rattle.blk_scan.specs.Passes as passing;
 ghost use Rattle.blk_scan.specs.Passes.{AreTried, CanBeTried, IsAnswered, of_pass};
 ghost use Rattle.blk_scan.specs.Reads.{IsCutRead};
@@ -57,7 +57,7 @@ pub(crate) fn judge_nodes<F: Folder>(
     // What came of each walked node is the verdict on it.
     ensures answered { IfOk result (λ judged. ForSome (F.told f.old).files (λ image. Agrees files.now image → AreListsOf image lists.now → (node : ℕ) → is_among (completed_walk image) node ≡ true → IsAnswered (completed_walk image) judged.tried.items node (audit.verdict_on (audit.judged (store_of image) held_rule (completed_walk image)) node))) }
 
-    ensures order { IfOk result (λ judged. IsInOrder files.now judged.kept) }
+    ensures order { IfOk result (λ judged. IsKeptInOrder files.now judged.kept) }
     ensures stays { Stays (F.told f.old) (F.told f.new) }
     ensures short { IfScanDamaged result (IsCutRead files.now (F.told f.old)) }
     ensures untold { ForSome (F.told f.old).files (Agrees files.now) → ForSome (F.told f.old).files (λ image. AreListsOf image lists.now) → IfScanDamaged result (λ _. (F.told f.old).files ≡ None) }
@@ -83,10 +83,10 @@ pub(crate) fn try_pass<F: Folder>(
     kept: &mut KeptSoFar,
     tried: &mut Vec<Tried>,
 ) -> Result<(), ScanFault>
-    requires order { IsInOrder files.now kept.old }
+    requires order { IsKeptInOrder files.now kept.old }
     ensures tried { OnOk result (ForSome (F.told f.old).files (λ image. Agrees files.now image → AreListsOf image lists.now → (before : List ℕ) → AreTried image (nodes_walked lists.now.walked) before kept.old.kept.items tried.old.items → AreTried image (nodes_walked lists.now.walked) (before ++ of_pass (store_of image) children (nodes_walked lists.now.walked)) kept.new.kept.items tried.new.items)) }
     ensures keys { OnOk result (ForSome (F.told f.old).files (λ image. CanBeTried files.now lists.now kept.old.kept.items image → HaveKeys image kept.new.kept.items)) }
-    ensures order { OnOk result (IsInOrder files.now kept.new) }
+    ensures order { OnOk result (IsKeptInOrder files.now kept.new) }
     ensures stays { Stays (F.told f.old) (F.told f.new) }
     ensures short { IfScanDamaged result (IsCutRead files.now (F.told f.old)) }
     ensures untold { ForSome (F.told f.old).files (CanBeTried files.now lists.now kept.old.kept.items) → IfScanDamaged result (λ _. (F.told f.old).files ≡ None) }
@@ -109,10 +109,10 @@ fn try_at<F: Folder>(
     kept: &mut KeptSoFar,
     tried: &mut Vec<Tried>,
 ) -> Result<(), ScanFault>
-    requires order { IsInOrder files.now kept.old }
+    requires order { IsKeptInOrder files.now kept.old }
     ensures tried { OnOk result (ForSome (F.told f.old).files (λ image. Agrees files.now image → AreListsOf image lists.now → (before : List ℕ) (w : ℕ) → slice_get (nodes_walked lists.now.walked) i ≡ Some w → AreTried image (nodes_walked lists.now.walked) before kept.old.kept.items tried.old.items → AreTried image (nodes_walked lists.now.walked) (before ++ of_pass (store_of image) children (w ∷ [])) kept.new.kept.items tried.new.items)) }
     ensures keys { OnOk result (ForSome (F.told f.old).files (λ image. CanBeTried files.now lists.now kept.old.kept.items image → HaveKeys image kept.new.kept.items)) }
-    ensures order { OnOk result (IsInOrder files.now kept.new) }
+    ensures order { OnOk result (IsKeptInOrder files.now kept.new) }
     ensures stays { Stays (F.told f.old) (F.told f.new) }
     ensures short { IfScanDamaged result (IsCutRead files.now (F.told f.old)) }
     ensures untold { ForSome (F.told f.old).files (CanBeTried files.now lists.now kept.old.kept.items) → IfScanDamaged result (λ _. (F.told f.old).files ≡ None) }

@@ -1,6 +1,6 @@
 // The reasons for which a node or a record is dropped.
 ghost use Rattle.std.specs.Prelude.{◌≡◌};
-ghost use Rattle.blk_scan.specs.Reasons.{number_of};
+ghost use Rattle.blk_scan.specs.Reasons.{reason_number};
 
 /// Why a node is dropped, and at last why a record is; the first reason that holds counts.
 #[derive(Clone, Copy, Debug, PartialEq, Eq)]
@@ -42,7 +42,7 @@ pub enum Reason {
 impl Reason {
     /// The number of the reason, from 1 to 16.
     pub fn number(self) -> u32
-        ensures { result ≡ number_of self }
+        ensures { result ≡ reason_number self }
     {
         self as u32
     }

@@ -5,7 +5,7 @@ ghost use Rattle.std.specs.Str.{bytes_eq};
 ghost use Rattle.blk_image.specs.Told.{Rises, Stays};
 ghost use Rattle.blk_io.specs.Faults.{IfDamaged, IfDevice};
 ghost use Rattle.blk_disk.specs.Tables.{Agrees};
-ghost use Rattle.blk_scan.specs.Keyed.{HasKey, IsKeyOf, words_kept};
+ghost use Rattle.blk_scan.specs.Keyed.{HasItsKey, IsKeyOf, words_kept};
 ghost use Rattle.blk_scan.specs.Readable.{IsReadable};
 ghost use Rattle.blk_scan.specs.Reads.{IsCutRead};
 
@@ -32,7 +32,7 @@ pub fn has_this_key<F: Folder>(
     ensures same { IfOk result (λ same. ForSome (F.told f.old).files (λ image. (stored : List ℕ) → Agrees files.now image → IsKeyOf image loaded.now stored → same ≡ bytes_eq stored key.now)) }
     ensures stays { Stays (F.told f.old) (F.told f.new) }
     ensures short { IfDamaged result (IsCutRead files.now (F.told f.old)) }
-    ensures untold { ForSome (F.told f.old).files (Agrees files.now) → ForSome (F.told f.old).files (λ image. HasKey image loaded.now) → IfDamaged result (λ _. (F.told f.old).files ≡ None) }
+    ensures untold { ForSome (F.told f.old).files (Agrees files.now) → ForSome (F.told f.old).files (λ image. HasItsKey image loaded.now) → IfDamaged result (λ _. (F.told f.old).files ≡ None) }
     ensures later { F.faults f.old ≤ F.faults f.new }
     ensures device { IfDevice result (Rises (F.faults f.old) (F.faults f.new)) }
 {
@@ -58,7 +58,7 @@ fn is_stored_key<F: Folder>(
     ensures same { IfOk result (λ same. ForSome (F.told f.old).files (λ image. (stored : List ℕ) → IsKeyOf image loaded.now stored → same ≡ bytes_eq stored key.now)) }
     ensures stays { Stays (F.told f.old) (F.told f.new) }
     ensures short { IfDamaged result (IsCutRead files.now (F.told f.old)) }
-    ensures untold { ForSome (F.told f.old).files (Agrees files.now) → ForSome (F.told f.old).files (λ image. HasKey image loaded.now) → IfDamaged result (λ _. (F.told f.old).files ≡ None) }
+    ensures untold { ForSome (F.told f.old).files (Agrees files.now) → ForSome (F.told f.old).files (λ image. HasItsKey image loaded.now) → IfDamaged result (λ _. (F.told f.old).files ≡ None) }
     ensures later { F.faults f.old ≤ F.faults f.new }
     ensures device { IfDevice result (Rises (F.faults f.old) (F.faults f.new)) }
 {
@@ -80,7 +80,7 @@ pub(crate) fn read_key_of<F: Folder>(
     ensures key { OnOk result (ForSome (F.told f.old).files (λ image. (key : List ℕ) → IsKeyOf image loaded.now key → out.new ≡ key)) }
     ensures stays { Stays (F.told f.old) (F.told f.new) }
     ensures short { IfDamaged result (IsCutRead files.now (F.told f.old)) }
-    ensures untold { ForSome (F.told f.old).files (Agrees files.now) → ForSome (F.told f.old).files (λ image. HasKey image loaded.now) → IfDamaged result (λ _. (F.told f.old).files ≡ None) }
+    ensures untold { ForSome (F.told f.old).files (Agrees files.now) → ForSome (F.told f.old).files (λ image. HasItsKey image loaded.now) → IfDamaged result (λ _. (F.told f.old).files ≡ None) }
     ensures later { F.faults f.old ≤ F.faults f.new }
     ensures device { IfDevice result (Rises (F.faults f.old) (F.faults f.new)) }
 {

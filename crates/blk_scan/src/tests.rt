@@ -1,6 +1,6 @@
 // The verdict on a node, in a small folder in memory that tells nothing.
 ghost use Rattle.std.specs.Prelude.{◌<◌, ◌≤◌, OnOk, length};
-ghost use Rattle.blk_scan.specs.Kept.{IsInOrder};
+ghost use Rattle.blk_scan.specs.Kept.{IsKeptInOrder};
 
 use crate::judging::judge;
 use crate::kept::KeptSoFar;
@@ -69,7 +69,7 @@ fn number(f: &mut Mem, contents: u32, dirty: u32, reached: bool) -> Result<u32, 
 
 // No record is kept, whatever the block files are.
 fn nothing_kept(alloc: Global, files: &BlockFiles) -> KeptSoFar
-    ensures { IsInOrder files.now result }
+    ensures { IsKeptInOrder files.now result }
 {
     KeptSoFar::none(alloc)
 }
@@ -81,9 +81,9 @@ fn judged(
     kept: &mut KeptSoFar,
     block: u32,
 ) -> Result<u32, ScanFault>
-    requires order { IsInOrder files.now kept.old }
+    requires order { IsKeptInOrder files.now kept.old }
     requires block { block < 40 }
-    ensures { OnOk result (IsInOrder files.now kept.new) }
+    ensures { OnOk result (IsKeptInOrder files.now kept.new) }
 {
     let node = Addr::of_blocks(Kind::Rankings, 0, block, 1);
     match judge(f, files, kept, node, ENTRY + block, 0, true)? {

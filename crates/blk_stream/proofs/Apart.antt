@@ -18,7 +18,7 @@ use Rattle.blk_alloc.proofs.Freed.{allocated_blocks, standing_blocks}
 use Rattle.blk_alloc.proofs.Lists.{claims_blocks, once_parts, or_true}
 use Rattle.blk_stream.specs.Copying.{ShareNoData}
 use Rattle.blk_stream.specs.Freeing.{MayBeFreed, is_block_of}
-use Rattle.blk_stream.specs.Placing.{InAddition, InFile, InGrowth, IsPlaced, IsSite, IsSiteOf, NewFile, Nowhere, Site}
+use Rattle.blk_stream.specs.Placing.{InAddition, InFile, InGrowth, IsNewPlace, IsSite, IsSiteOf, NewFile, Nowhere, Site}
 use Rattle.blk_stream.proofs.ShownDrops.{claims-behind, claims-first, external-claim}
 
 -- what an address claims its list claims
@@ -77,7 +77,7 @@ unfolding is_block_of
 of_blocks w n b blocky = let t : (kind_of w == external) ≡ false = grind (arith, nat_tests) in rw t refl
 
 -- the number of a new external file was free
-pub new_number : (files : BlockFiles) (w : ℕ) (from made : Image) → w ≢ 0 → kind_of w ≡ external → IsPlaced files w from made → has_file from (External (external_number w)) ≡ false
+pub new_number : (files : BlockFiles) (w : ℕ) (from made : Image) → w ≢ 0 → kind_of w ≡ external → IsNewPlace files w from made → has_file from (External (external_number w)) ≡ false
 new_number files w from made some kind placed = by_site placed.site placed.at placed.makes.right
   where
     by_site : (s : Site) → IsSiteOf s w → IsSite files (kind_of w) from s → has_file from (External (external_number w)) ≡ false
@@ -88,7 +88,7 @@ new_number files w from made some kind placed = by_site placed.site placed.at pl
     by_site (InAddition n) at right = absurd (at.0 kind)
 
 -- it shares no block with an address that is allocated
-pub new_blocks_apart : (files : BlockFiles) (u w : ℕ) (from made : Image) → Agrees files from → stands_among files u ≡ true → kind_of u ≢ external → kind_of w ≢ external → CanBeFreed from u → IsPlaced files w from made → ShareNoBlock u w
+pub new_blocks_apart : (files : BlockFiles) (u w : ℕ) (from made : Image) → Agrees files from → stands_among files u ≡ true → kind_of u ≢ external → kind_of w ≢ external → CanBeFreed from u → IsNewPlace files w from made → ShareNoBlock u w
 new_blocks_apart files u w from made agrees stands blocky_u blocky_w can placed =
     none_shared u w
     (λ b of_u of_w. clash (sym (owned_marked files from u b agrees stands blocky_u can of_u) ∙ placed.free (file_selector u) b (stands_linked files u stands) (of_blocks w (file_selector u) b blocky_w ∙ of_w)))
@@ -97,7 +97,7 @@ new_blocks_apart files u w from made agrees stands blocky_u blocky_w can placed 
     clash e = cc
 
 -- and no data with one whose blocks are allocated or whose file is there
-pub new_apart : (files : BlockFiles) (u w : ℕ) (from made : Image) → Agrees files from → w ≢ 0 → (kind_of u ≢ external → stands_among files u ≡ true) → MayBeFreed u from → (kind_of u ≡ external → has_file from (External (external_number u)) ≡ true) → IsPlaced files w from made → ShareNoData u w
+pub new_apart : (files : BlockFiles) (u w : ℕ) (from made : Image) → Agrees files from → w ≢ 0 → (kind_of u ≢ external → stands_among files u ≡ true) → MayBeFreed u from → (kind_of u ≡ external → has_file from (External (external_number u)) ≡ true) → IsNewPlace files w from made → ShareNoData u w
 new_apart files u w from made agrees some stands may there placed = record {
   files = λ kind_u kind_w same. clash (sym (there kind_u) ∙ ap (λ (n : ℕ). has_file from (External n)) same ∙ new_number files w from made some kind_w placed);
   blocks = λ blocky_u blocky_w. new_blocks_apart files u w from made agrees (stands blocky_u) blocky_u blocky_w (may blocky_u) placed;

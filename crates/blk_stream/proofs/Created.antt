@@ -22,7 +22,7 @@ use Rattle.blk_external.specs.Making.{Creates, CreatesPrefix, last_number, makin
 use Rattle.blk_external.specs.Numbers.{HasFreeNumber, IsFirstFree}
 use Rattle.blk_external.proofs.Changes.{other_number}
 use Rattle.blk_laws.proofs.updates.IndexWords.{others-unchecked}
-use Rattle.blk_stream.specs.Placing.{CanBePlaced, IsPlaced, LosesNothing, MakesPlace, PlacesInProgress, NewFile, placing_of}
+use Rattle.blk_stream.specs.Placing.{CanBePlaced, IsNewPlace, LosesNothing, MakesPlace, PlacesInProgress, NewFile, placing_of}
 use Rattle.blk_stream.specs.Freeing.{is_block_of}
 use Rattle.blk_stream.proofs.PlacesLeft.{formed_behind}
 use Rattle.blk_stream.proofs.Gained.{gained_external}
@@ -139,7 +139,7 @@ created_agrees w files a b steps agrees = told_whole (Agrees files) steps
     agrees_still F from last (headers_spared F (making_spares number)) (outside-trans F from mid last one other) files (λ n. refl) (agrees from there))
 
 pub created_place : (w : ℕ) (files : BlockFiles) (a b : Told) → kind_of w ≡ external → ForSome a.files (λ image. IsFirstFree image (last_number image) (external_number w)) → ForSome b.files (λ image. Creates image (external_number w))
-    → Applies a b (making (external_number w)) → ForSome a.files (Agrees files) → ForSome a.files (λ from. ForSome b.files (IsPlaced files w from))
+    → Applies a b (making (external_number w)) → ForSome a.files (Agrees files) → ForSome a.files (λ from. ForSome b.files (IsNewPlace files w from))
 unfolding placing_of
 created_place w files a b kind first made steps agrees from there image now = record {
   site = NewFile (external_number w);

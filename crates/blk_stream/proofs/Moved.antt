@@ -18,7 +18,7 @@ use Rattle.blk_alloc.proofs.Lists.{once_parts, or_left, or_right}
 use Rattle.blk_stream.specs.Streams.{address_word, may_keep}
 use Rattle.blk_stream.specs.Copying.{ShareNoData}
 use Rattle.blk_stream.specs.Writing.{have_one_storage}
-use Rattle.blk_stream.specs.Written.{places_of}
+use Rattle.blk_stream.specs.Written.{places_of_entry}
 use Rattle.blk_stream.proofs.Apart.{blocks_back, own, owners_apart}
 use Rattle.blk_stream.proofs.PlacesFreed.{blocky_of}
 use Rattle.blk_stream.proofs.Placements.{kind_of_none}
@@ -26,10 +26,10 @@ use Rattle.blk_stream.proofs.StreamPlaces.{may_parts, none_word, stored_some}
 
 -- The record and its streams, each with a place of its own.
 
-pub entry_among : (entry : ℕ) (image : Image) → is_among (places_of entry image) entry ≡ true
+pub entry_among : (entry : ℕ) (image : Image) → is_among (places_of_entry entry image) entry ≡ true
 entry_among entry image = or_left (entry == entry) _ (own entry)
 
-pub stream_among : (entry j : ℕ) (image : Image) → j < 3 → is_among (places_of entry image) (address_word image entry j) ≡ true
+pub stream_among : (entry j : ℕ) (image : Image) → j < 3 → is_among (places_of_entry entry image) (address_word image entry j) ≡ true
 stream_among entry zero image small = or_right (entry == address_word image entry 0) _ (or_left (address_word image entry 0 == address_word image entry 0) _ (own (address_word image entry 0)))
 stream_among entry (suc zero) image small = or_right (entry == address_word image entry 1) _ (or_right (address_word image entry 0 == address_word image entry 1) _ (or_left (address_word image entry 1 == address_word image entry 1) _ (own (address_word image entry 1))))
 stream_among entry (suc (suc zero)) image small = or_right (entry == address_word image entry 2) _ (or_right (address_word image entry 0 == address_word image entry 2) _ (or_right (address_word image entry 1 == address_word image entry 2) _ (or_left (address_word image entry 2 == address_word image entry 2) false (own (address_word image entry 2)))))
@@ -45,7 +45,7 @@ share_back u w apart = record {
   blocks = λ blocky_w blocky_u. blocks_back u w (apart.blocks blocky_u blocky_w);
 }
 
-module _ (entry : ℕ) (image : Image) (once : repeats (claims_of_all (places_of entry image)) ≡ false) where
+module _ (entry : ℕ) (image : Image) (once : repeats (claims_of_all (places_of_entry entry image)) ≡ false) where
   abbrev A : ℕ → ℕ
   A j = address_word image entry j
 

@@ -24,7 +24,7 @@ use Rattle.blk_stream.specs.Dropping.{KeepsStream}
 use Rattle.blk_stream.specs.Freeing.{freeing_of, leaving_of}
 use Rattle.blk_stream.specs.Inside.{data_of}
 use Rattle.blk_stream.specs.Moving.{HasPlaceLength, data_at_place}
-use Rattle.blk_stream.specs.Placing.{IsPlaced}
+use Rattle.blk_stream.specs.Placing.{IsNewPlace}
 use Rattle.blk_stream.specs.Streams.{address_place, address_word, may_keep, size_place, size_word}
 use Rattle.blk_stream.specs.Written.{HoldsStream}
 use Rattle.blk_stream.proofs.Dropped.{stream_kept}
@@ -87,7 +87,7 @@ module _ (files kept : BlockFiles) (n v : ℕ) (from : Image) (agrees : Agrees f
   still_inside = record { small = inside.small; stands = λ blocky. standing v (inside.stands blocky); room = inside.room }
 
   -- where a place is made
-  module _ (w : ℕ) (made : Image) (placed : IsPlaced files w from made) where
+  module _ (w : ℕ) (made : Image) (placed : IsNewPlace files w from made) where
     made_file : v ≢ 0 → kind_of v ≡ external → made (External (external_number v)) ≡ from (External (external_number v))
     made_file some kind = placed.makes.keeps.externals (external_number v) (there some kind)
 
@@ -162,7 +162,7 @@ module _ (files kept : BlockFiles) (n v : ℕ) (from : Image) (agrees : Agrees f
 module _ (files kept : BlockFiles) (entry i j old w size : ℕ) (from made filled image : Image) (kind : kind_of entry ≡ blocks_256) (stands : stands_among files entry ≡ true) (standing : KeepsStanding files kept) (agrees : Agrees files from) (small : i < 3) (low : j < 3) (differs : i ≢ j)
     (stored : may_keep files (size_word from entry j) (address_word from entry j) ≡ true)
     (there : address_word from entry j ≢ 0 → kind_of (address_word from entry j) ≡ external → has_file from (External (external_number (address_word from entry j))) ≡ true)
-    (placed : IsPlaced files w from made) (w_inside : w ≢ 0 → IsInside kept w 0 size) (w_apart : w ≢ 0 → kind_of w ≢ external → ShareNoBlock entry w)
+    (placed : IsNewPlace files w from made) (w_inside : w ≢ 0 → IsInside kept w 0 size) (w_apart : w ≢ 0 → kind_of w ≢ external → ShareNoBlock entry w)
     (apart_new : address_word from entry j ≢ 0 → w ≢ 0 → ShareNoData (address_word from entry j) w)
     (apart_entry : address_word from entry j ≢ 0 → kind_of (address_word from entry j) ≢ external → ShareNoBlock entry (address_word from entry j))
     (apart_old : address_word from entry j ≢ 0 → old ≢ 0 → ShareNoData old (address_word from entry j))

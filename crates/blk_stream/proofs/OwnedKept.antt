@@ -24,7 +24,7 @@ use Rattle.blk_stream.specs.Freeing.{freeing_of, is_block_of, leaving_of}
 use Rattle.blk_stream.specs.Inside.{data_of, size_words}
 use Rattle.blk_stream.specs.Moving.{data_at_place}
 use Rattle.blk_stream.specs.Owned.{AreOthers, KeepsOwned}
-use Rattle.blk_stream.specs.Placing.{IsPlaced}
+use Rattle.blk_stream.specs.Placing.{IsNewPlace}
 use Rattle.blk_stream.specs.Streams.{address_place, size_place}
 use Rattle.blk_stream.proofs.Apart.{blocks_back, new_number, none_shared}
 use Rattle.blk_stream.proofs.Fillings.{data_off}
@@ -77,7 +77,7 @@ leaving_off_file old number other = by_tests (old == 0) (kind_of old == external
 
 -- A new place, in the place of an old one.
 
-module _ (files kept : BlockFiles) (entry i old w size : ℕ) (from made filled image : Image) (agrees : Agrees files from) (standing : KeepsStanding files kept) (placed : IsPlaced files w from made) (w_inside : w ≢ 0 → IsInside kept w 0 size)
+module _ (files kept : BlockFiles) (entry i old w size : ℕ) (from made filled image : Image) (agrees : Agrees files from) (standing : KeepsStanding files kept) (placed : IsNewPlace files w from made) (w_inside : w ≢ 0 → IsInside kept w 0 size)
     (fills : SameOutside (data_at_place w) made filled) (leaves : SameOutside (either (stream_words entry i) (leaving_of old)) filled image) where
   new_apart_of : (v : ℕ) → AreOthers files v old from → kind_of w ≢ external → ShareNoBlock v w
   new_apart_of v others blocky_w =

@@ -29,7 +29,7 @@ use Rattle.blk_alloc.proofs.Changing.{within-trans}
 use Rattle.blk_alloc.proofs.Members.{member_split}
 use Rattle.blk_entry.specs.Keys.{stores}
 use Rattle.blk_entry.proofs.KeyPlaces.{of_other, stores_is, stores_stand}
-use Rattle.blk_stream.specs.Placing.{CanBePlaced, IsPlaced, IsSite, IsSiteOf, KeepsOtherLinks, LosesNothing, MakesPlace, PlacesInProgress, Site, Nowhere, NewFile, InFile, InGrowth, InAddition, placing_of}
+use Rattle.blk_stream.specs.Placing.{CanBePlaced, IsNewPlace, IsSite, IsSiteOf, KeepsOtherLinks, LosesNothing, MakesPlace, PlacesInProgress, Site, Nowhere, NewFile, InFile, InGrowth, InAddition, placing_of}
 use Rattle.blk_stream.proofs.Gained.{free_blocks, gained_blocks, other_links}
 
 -- The kind and the number of the blocks of data.
@@ -208,7 +208,7 @@ module _ (files new : BlockFiles) (size : ℕ) (a b : Told) (some : 0 < size) (b
   allocating_passes K N kind count stops = stops_here (subst (λ (n : ℕ). Stops (kind_for size) n) (sym count) (subst (λ (k : ℕ). Stops k N) (sym kind) stops))
 
   ends_here : (w : ℕ) → Ends (kind_for size) (blocks_for size) w → stands_among new w ≡ true → KeepsLinks files new (file_selector w) → ForSome b.files (Agrees new) → Stops (kind_for size) (blocks_for size) → ForSome a.files (Agrees files)
-      → ForSome a.files (λ from. CanBePlaced files size from → ForSome b.files (IsPlaced files w from))
+      → ForSome a.files (λ from. CanBePlaced files size from → ForSome b.files (IsNewPlace files w from))
   ends_here w ends stands links now_agrees stops agrees from there can image now =
       let counted = can.counted blocky in
       let kind : kind_of w ≡ kind_for size = ends.1.1.1.0 in
@@ -228,7 +228,7 @@ module _ (files new : BlockFiles) (size : ℕ) (a b : Told) (some : 0 < size) (b
   pub allocated_place : {E : Type 0} (r : Result ℕ E) (K N : ℕ) → kind_for size ≡ K → blocks_for size ≡ N
       → IfOk r (λ w. (kind_of w ≡ K) × (block_count w ≡ N)) → IfOk r (λ w. ForSome a.files (λ from. IsChosen files from K N w)) → IfOk r (λ w. ForSome a.files (λ from. AreCounted files K from → ForSome b.files (Allocates files from w)))
       → IfOk r (λ w. ForSome a.files (λ from. AreCounted files K from → ForSome b.files (AllocatesIn files K from (file_selector w)))) → IfOk r (λ w. IsTrue (stands_among new w)) → IfOk r (λ w. KeepsLinks files new (file_selector w))
-      → OnOk r (ForSome b.files (Agrees new)) → Stops K N → ForSome a.files (Agrees files) → IfOk r (λ w. ForSome a.files (λ from. CanBePlaced files size from → ForSome b.files (IsPlaced files w from)))
+      → OnOk r (ForSome b.files (Agrees new)) → Stops K N → ForSome a.files (Agrees files) → IfOk r (λ w. ForSome a.files (λ from. CanBePlaced files size from → ForSome b.files (IsNewPlace files w from)))
   allocated_place {E} (Err e) K N kind count is chosen allocates within stands links now_agrees stops agrees = tt
   allocated_place {E} (Ok w) K N kind count is chosen allocates within stands links now_agrees stops agrees =
       ends_here w (subst (λ (n : ℕ). Ends (kind_for size) n w) (sym count) (subst (λ (k : ℕ). Ends k N w) (sym kind) (chosen, (allocates, (within, is))))) stands links now_agrees

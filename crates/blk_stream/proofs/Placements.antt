@@ -29,8 +29,8 @@ use Rattle.blk_stream.specs.Copying.{HasOldPlace, IsOldThere, ShareNoData, Share
 use Rattle.blk_stream.specs.Filling.{FillsPlace}
 use Rattle.blk_stream.specs.Freeing.{MayBeFreed}
 use Rattle.blk_stream.specs.Inside.{HasStreamLength, data_of}
-use Rattle.blk_stream.specs.Moving.{CanBeFilled, FillsInProgress, IsFilled, data_at_place}
-use Rattle.blk_stream.specs.Placing.{CanBePlaced, InAddition, InFile, InGrowth, IsPlaced, IsSite, IsSiteOf, LosesNothing, NewFile, Nowhere, PlacesInProgress, Site, gained_by, placing_of}
+use Rattle.blk_stream.specs.Moving.{CanBeFilled, FillsInProgress, IsPlaceFilled, data_at_place}
+use Rattle.blk_stream.specs.Placing.{CanBePlaced, InAddition, InFile, InGrowth, IsNewPlace, IsSite, IsSiteOf, LosesNothing, NewFile, Nowhere, PlacesInProgress, Site, gained_by, placing_of}
 use Rattle.blk_stream.proofs.Apart.{new_apart}
 use Rattle.blk_stream.proofs.PlacesFreed.{blocky_of}
 use Rattle.blk_stream.proofs.Drops.{no_block}
@@ -52,7 +52,7 @@ unfolding is_in_file kind_of
 none_in n e = let z : false ≡ true = e in cc
 
 -- no bytes need no place
-pub not_placed : (files : BlockFiles) (from : Image) → Agrees files from → IsPlaced files 0 from from
+pub not_placed : (files : BlockFiles) (from : Image) → Agrees files from → IsNewPlace files 0 from from
 unfolding placing_of gained_by is_in_file kind_of
 not_placed files from agrees = record {
   site = Nowhere;
@@ -88,7 +88,7 @@ pub place_some : (w : ℕ) → w ≢ 0 → data_at_place w ≡ data_of w
 unfolding data_at_place
 place_some w some = let t : (w == 0) ≡ false = grind (arith, nat_tests) in rw t refl
 
-pub none_filled : (files : BlockFiles) (old : Stored) (size offset : ℕ) (bytes : List ℕ) (from : Image) → Agrees files from → size ≡ 0 → offset + length bytes ≤ size → IsFilled files old 0 size offset bytes from from
+pub none_filled : (files : BlockFiles) (old : Stored) (size offset : ℕ) (bytes : List ℕ) (from : Image) → Agrees files from → size ≡ 0 → offset + length bytes ≤ size → IsPlaceFilled files old 0 size offset bytes from from
 none_filled files old size offset bytes from agrees none few = record {
   made = from;
   placed = not_placed files from agrees;
@@ -104,7 +104,7 @@ none_filled files old size offset bytes from agrees none few = record {
 
 -- A new external file has no bytes.
 
-pub new_empty : (files : BlockFiles) (w : ℕ) (from made : Image) → w ≢ 0 → IsPlaced files w from made → HasStreamLength w 0 made
+pub new_empty : (files : BlockFiles) (w : ℕ) (from made : Image) → w ≢ 0 → IsNewPlace files w from made → HasStreamLength w 0 made
 new_empty files w from made some placed kind = by_site placed.site refl placed.at
   where
     by_site : (s : Site) → placed.site ≡ s → IsSiteOf s w → length_of made (External (external_number w)) ≡ 0
@@ -119,7 +119,7 @@ unfolding external_number
 no_number = refl
 
 -- its number is not 0
-nothing_apart : (files : BlockFiles) (w : ℕ) (from made : Image) → w ≢ 0 → IsPlaced files w from made → ShareNoData 0 w
+nothing_apart : (files : BlockFiles) (w : ℕ) (from made : Image) → w ≢ 0 → IsNewPlace files w from made → ShareNoData 0 w
 nothing_apart files w from made some placed = record {
   files = λ none kind same. numbered kind (sym same ∙ no_number);
   blocks = λ blocky. absurd (blocky kind_of_none);
@@ -136,7 +136,7 @@ nothing_apart files w from made some placed = record {
     numbered kind zero_is = by_site kind zero_is placed.site placed.at placed.makes.right
 
 -- the old place shares no data with the new one
-pub old_apart : (files : BlockFiles) (old : Stored) (w size : ℕ) (from made : Image) → Agrees files from → HasOldPlace files old → CanBeFilled files old size from → w ≢ 0 → IsPlaced files w from made → ShareNoData (unwrap_or old.addr 0) w
+pub old_apart : (files : BlockFiles) (old : Stored) (w size : ℕ) (from made : Image) → Agrees files from → HasOldPlace files old → CanBeFilled files old size from → w ≢ 0 → IsNewPlace files w from made → ShareNoData (unwrap_or old.addr 0) w
 old_apart files old w size from made agrees has can some placed = by_addr old.addr refl
   where
     by_addr : (o : Option ℕ) → old.addr ≡ o → ShareNoData (unwrap_or o 0) w
@@ -165,8 +165,8 @@ data_kept files u n from made agrees inside there keeps = by_test (kind_of u == 
         same-range n (place u + 0) (byte made (Block (file_selector u))) (byte from (Block (file_selector u)))
         (λ k low high. keeps.blocks.bytes u k (sym (stands_agree files from u agrees) ∙ inside.stands blocky) (omega (arith, low)) (omega (arith, high, room)))
 
-pub place_filled : (files : BlockFiles) (old : Stored) (w size offset : ℕ) (bytes : List ℕ) (from made image : Image) → Agrees files from → HasOldPlace files old → CanBeFilled files old size from → w ≢ 0 → IsPlaced files w from made
-    → SameOutside (data_of w) made image → FillsPlace (unwrap_or old.addr 0) w old.size size offset bytes made image → IsFilled files old w size offset bytes from image
+pub place_filled : (files : BlockFiles) (old : Stored) (w size offset : ℕ) (bytes : List ℕ) (from made image : Image) → Agrees files from → HasOldPlace files old → CanBeFilled files old size from → w ≢ 0 → IsNewPlace files w from made
+    → SameOutside (data_of w) made image → FillsPlace (unwrap_or old.addr 0) w old.size size offset bytes made image → IsPlaceFilled files old w size offset bytes from image
 place_filled files old w size offset bytes from made image agrees has can some placed same fills = record {
   made = made;
   placed = placed;
@@ -180,7 +180,7 @@ place_filled files old w size offset bytes from made image agrees has can some p
     there (Some u) e kind = inl (can.file u e kind)
 
 -- at each word of the filling
-pub filling_word : (files kept : BlockFiles) (w size : ℕ) (from made image : Image) → may_keep kept size w ≡ true → w ≢ 0 → IsPlaced files w from made → SameOutside (data_of w) made image → FillsInProgress files kept size from image
+pub filling_word : (files kept : BlockFiles) (w size : ℕ) (from made image : Image) → may_keep kept size w ≡ true → w ≢ 0 → IsNewPlace files w from made → SameOutside (data_of w) made image → FillsInProgress files kept size from image
 filling_word files kept w size from made image fits some placed same = inr (record { word = w; fits = fits; made = made; placed = placed; same = subst (λ (F : Footprint). SameOutside F made image) (sym (place_some w some)) same })
 
 -- the old place is one still, among files that keep what stands
@@ -194,12 +194,12 @@ place_still files kept old keeps has = record {
 
 module _ (files kept : BlockFiles) (old : Stored) (w size offset : ℕ) (bytes : List ℕ) (a m b : Told) (agrees : ForSome a.files (Agrees files)) (has : HasOldPlace files old) (more : 0 < size) (fits : may_keep kept size w ≡ true)
     (place_stops : ForSome a.files (λ from. CanBePlaced files size from → Passes a m (PlacesInProgress files size from)))
-    (placed : ForSome a.files (λ from. CanBePlaced files size from → ForSome m.files (IsPlaced files w from))) where
+    (placed : ForSome a.files (λ from. CanBePlaced files size from → ForSome m.files (IsNewPlace files w from))) where
   some : w ≢ 0
   some = stored_some kept size w more (may_parts kept size w fits).1
 
   -- the image in which the new place is made
-  made : (from : Image) → a.files ≡ Some from → CanBeFilled files old size from → IsTold m (IsPlaced files w from)
+  made : (from : Image) → a.files ≡ Some from → CanBeFilled files old size from → IsTold m (IsNewPlace files w from)
   made from there can =
       let mid = told_then a m from (PlacesInProgress files size from) there (place_stops from there (can.room more)) in
       record { image = mid.image; is = mid.is; holds = placed from there (can.room more) mid.image mid.is }
@@ -211,7 +211,7 @@ module _ (files kept : BlockFiles) (old : Stored) (w size offset : ℕ) (bytes :
       (passes_weaker (fill_stops mid.image mid.is) (λ image same. filling_word files kept w size from mid.image image fits some mid.holds same) (λ image same. filling_word files kept w size from mid.image image fits some mid.holds same))
 
   pub both_fill : ForSome m.files (λ mid. Passes m b (SameOutside (data_of w) mid)) → ForSome m.files (λ mid. ShareNoData (unwrap_or old.addr 0) w → HasStreamLength w 0 mid → ForSome b.files (FillsPlace (unwrap_or old.addr 0) w old.size size offset bytes mid))
-      → ForSome a.files (λ from. CanBeFilled files old size from → ForSome b.files (IsFilled files old w size offset bytes from))
+      → ForSome a.files (λ from. CanBeFilled files old size from → ForSome b.files (IsPlaceFilled files old w size offset bytes from))
   both_fill fill_stops fills from there can image now =
       let mid = made from there can in
       place_filled files old w size offset bytes from mid.image image (agrees from there) has can some mid.holds (passes_end (fill_stops mid.image mid.is) image now)
@@ -220,7 +220,7 @@ module _ (files kept : BlockFiles) (old : Stored) (w size offset : ℕ) (bytes :
   pub fill_untold : {A : Type 0} (r : Result A Fault) → (ForSome m.files (IsOldThere old) → ShareNoFile (unwrap_or old.addr 0) w → IfDamaged r (λ _. m.files ≡ None)) → (a.files ≡ None → m.files ≡ None) → ForSome a.files (CanBeFilled files old size) → IfDamaged r (λ _. a.files ≡ None)
   fill_untold r untold silent can = by_files a.files refl
     where
-      still : (from mid : Image) → CanBeFilled files old size from → IsPlaced files w from mid → IsOldThere old mid
+      still : (from mid : Image) → CanBeFilled files old size from → IsNewPlace files w from mid → IsOldThere old mid
       still from mid can place v is kind =
           let h = can.there v is kind in
           let e = place.makes.keeps.externals (external_number v) (can.file v is kind) in

@@ -37,7 +37,7 @@ use Rattle.blk_stream.specs.Inside.{HasStreamLength, WritesInProgress, WritesIns
 use Rattle.blk_stream.specs.Moving.{HasPlaceLength, data_at_place}
 use Rattle.blk_stream.specs.Placing.{Nowhere, placing_of}
 use Rattle.blk_stream.specs.Writing.{have_one_storage, size_after}
-use Rattle.blk_stream.specs.Written.{CanBeWritten, HoldsStream, MovesPlace, StreamIsWritten, WritesStream, giving_up_of, moved_by, places_of, writing_of}
+use Rattle.blk_stream.specs.Written.{CanBeWritten, HoldsStream, MovesPlace, StreamIsWritten, WritesStream, giving_up_of, moved_by, places_of_entry, writing_of}
 use Rattle.blk_stream.proofs.Apart.{of_blocks, owned_marked}
 use Rattle.blk_stream.proofs.Fillings.{data_off, sizes_off}
 use Rattle.blk_stream.proofs.InsideSteps.{data_blocks, data_external, record_off}
@@ -227,7 +227,7 @@ module _ (files : BlockFiles) (entry i size w : ℕ) (kind : kind_of entry ≡ b
       here n b e =
           let p = block_parts w n b e in
           let of_w : is_of w (file_selector w) b ≡ true = subst (λ (m : ℕ). is_of w m b ≡ true) (sym p.1.0) (sym (of_blocks w n b p.0) ∙ e) in
-          subst (λ (m : ℕ). is_block_marked from m b ≡ true) p.1.0 (owned_marked files from w b agrees (w_stands p.0) p.0 (can.owned w (subst (λ (v : ℕ). is_among (places_of entry from) v ≡ true) is_word (stream_among entry i from small)) p.0) of_w)
+          subst (λ (m : ℕ). is_block_marked from m b ≡ true) p.1.0 (owned_marked files from w b agrees (w_stands p.0) p.0 (can.owned w (subst (λ (v : ℕ). is_among (places_of_entry entry from) v ≡ true) is_word (stream_among entry i from small)) p.0) of_w)
 
       marked : (n b : ℕ) (t : Bool) → is_block_of w n b ≡ t → is_block_marked from n b ≡ (if t then true else if t then false else is_block_marked from n b)
       marked n b false e = refl

@@ -22,7 +22,7 @@ use Rattle.blk_entry.proofs.KeyPlaces.{data_of_blocks, data_of_external, storage
 use Rattle.blk_entry.proofs.NewShown.{stands_as_kind, stands_here}
 use Rattle.blk_entry.proofs.Windows.{entry_room_least, not_external}
 use Rattle.blk_alloc.specs.Extending.{KeepsStanding}
-use Rattle.blk_stream.specs.Loading.{WrittenStreamsLoad, streams_with}
+use Rattle.blk_stream.specs.Loading.{WrittenStreamsLoad, stored_streams_with}
 use Rattle.blk_stream.specs.Moving.{HasPlaceLength}
 use Rattle.blk_stream.specs.Owned.{AreOthers, KeepsOwned}
 use Rattle.blk_stream.specs.Streams.{address_word, may_keep, size_word, stream_bytes, streams_at}
@@ -169,7 +169,7 @@ stores_still files kept size w standing keep =
     by_kind a false e h = let s = standing w h in rw (e, s) refl
 
 pub written_load : WrittenStreamsLoad
-unfolding streams_at fields_at streams_with
+unfolding streams_at fields_at stored_streams_with
 written_load files kept from image entry i offset cut bytes streams small kind address standing agrees now others e is =
     let fields : RecordFields = fields_of (entry_at image entry) in
     let here = stands_as_kind image entry blocks_256 (stands_here kept image entry now address (not_external entry kind) (standing entry others.stand)) kind in

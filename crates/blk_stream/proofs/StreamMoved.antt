@@ -33,10 +33,10 @@ use Rattle.blk_stream.specs.Streams.{address_word, may_keep, size_word, stream_b
 use Rattle.blk_stream.specs.Copying.{HasOldPlace, IsOldThere, ShareNoData}
 use Rattle.blk_stream.specs.Changing.{HasWords, NamesInProgress, stream_words}
 use Rattle.blk_stream.specs.Freeing.{MayBeFreed, leaving_of}
-use Rattle.blk_stream.specs.Moving.{CanBeFilled, FillsInProgress, IsFilled, LeavesPlace, LeavesPlaceInProgress, data_at_place}
-use Rattle.blk_stream.specs.Placing.{GainsPlace, IsPlaced, gained_by}
+use Rattle.blk_stream.specs.Moving.{CanBeFilled, FillsInProgress, IsPlaceFilled, LeavesPlace, LeavesPlaceInProgress, data_at_place}
+use Rattle.blk_stream.specs.Placing.{GainsPlace, IsNewPlace, gained_by}
 use Rattle.blk_stream.specs.Writing.{have_one_storage, size_after}
-use Rattle.blk_stream.specs.Written.{CanBeWritten, HoldsStream, StreamIsWritten, WritesStream, places_of}
+use Rattle.blk_stream.specs.Written.{CanBeWritten, HoldsStream, StreamIsWritten, WritesStream, places_of_entry}
 use Rattle.blk_stream.proofs.Apart.{new_apart, new_blocks_apart}
 use Rattle.blk_stream.proofs.InsideSteps.{record_same}
 use Rattle.blk_stream.proofs.Moved.{entry_among, other_words_of, parts_of, record_apart, stream_among, streams_apart}
@@ -108,7 +108,7 @@ module _ (files kept : BlockFiles) (entry i size : ℕ) (old : Stored) (kind : k
   pub can_fill : CanBeFilled files old size from
   can_fill = record {
     room = λ more. can.room (ap (λ (n : ℕ). have_one_storage n size) words.size_is ∙ other) more;
-    owned = can.owned U (subst (λ (v : ℕ). is_among (places_of entry from) v ≡ true) words.word_is (stream_among entry i from small));
+    owned = can.owned U (subst (λ (v : ℕ). is_among (places_of_entry entry from) v ≡ true) words.word_is (stream_among entry i from small));
     there = there;
     file = λ v is kind_v. long_there from (External (external_number v)) (let h = there v is kind_v in let some = some_bytes v is in omega (arith, h, some));
   }
@@ -136,7 +136,7 @@ module _ (files kept : BlockFiles) (entry i size : ℕ) (old : Stored) (kind : k
 
   -- The record while a place is made and filled.
 
-  pub record_filling : (v : ℕ) (made image : Image) → may_keep kept size v ≡ true → IsPlaced files v from made → SameOutside (data_at_place v) made image → record_at image entry ≡ record_at from entry
+  pub record_filling : (v : ℕ) (made image : Image) → may_keep kept size v ≡ true → IsNewPlace files v from made → SameOutside (data_at_place v) made image → record_at image entry ≡ record_at from entry
   record_filling v made image fits placed same =
       ⊎_elim
       (λ (none : v ≡ 0). unchanged (subst (λ (F : Footprint). SameOutside F made image) (ap data_at_place none ∙ place_none) same))
@@ -162,7 +162,7 @@ module _ (files kept : BlockFiles) (entry i size : ℕ) (old : Stored) (kind : k
 
   -- The new place is filled.
 
-  module _ (w offset : ℕ) (bytes : List ℕ) (B : Image) (fits : may_keep kept size w ≡ true) (filled : IsFilled files old w size offset bytes from B) where
+  module _ (w offset : ℕ) (bytes : List ℕ) (B : Image) (fits : may_keep kept size w ≡ true) (filled : IsPlaceFilled files old w size offset bytes from B) where
     pub record_filled : record_at B entry ≡ record_at from entry
     record_filled = record_filling w filled.made B fits filled.placed filled.same
 
@@ -277,23 +277,23 @@ module _ (files kept : BlockFiles) (entry i size : ℕ) (old : Stored) (kind : k
     (has : HasOldPlace files old) (real : (addr : ℕ) → old.addr ≡ Some addr → addr ≢ 0) (other : have_one_storage old.size size ≡ false)
     (w offset : ℕ) (bytes record_bytes : List ℕ) (fits : may_keep kept size w ≡ true) (a m b : Told) (agrees : ForSome a.files (Agrees files)) (words : ForSome a.files (HasWords entry i old.size (unwrap_or old.addr 0))) (read : ForSome a.files (λ image. record_bytes ≡ record_at image entry))
     (fill_stops : ForSome a.files (λ from. CanBeFilled files old size from → Passes a m (FillsInProgress files kept size from)))
-    (fills : ForSome a.files (λ from. CanBeFilled files old size from → ForSome m.files (IsFilled files old w size offset bytes from))) where
+    (fills : ForSome a.files (λ from. CanBeFilled files old size from → ForSome m.files (IsPlaceFilled files old w size offset bytes from))) where
   can_here : (from : Image) → a.files ≡ Some from → CanBeWritten files entry i size from → CanBeFilled files old size from
   can_here from there can = can_fill files kept entry i size old kind stands small keeps has real other from (agrees from there) can (words from there)
 
-  mid_here : (from : Image) → a.files ≡ Some from → CanBeWritten files entry i size from → IsTold m (IsFilled files old w size offset bytes from)
+  mid_here : (from : Image) → a.files ≡ Some from → CanBeWritten files entry i size from → IsTold m (IsPlaceFilled files old w size offset bytes from)
   mid_here from there can =
       let fill = can_here from there can in
       let mid = told_then a m from (FillsInProgress files kept size from) there (fill_stops from there fill) in
       record { image = mid.image; is = mid.is; holds = fills from there fill mid.image mid.is }
 
-  record_here : (from : Image) → a.files ≡ Some from → CanBeWritten files entry i size from → (B : Image) → IsFilled files old w size offset bytes from B → record_at B entry ≡ record_at from entry
+  record_here : (from : Image) → a.files ≡ Some from → CanBeWritten files entry i size from → (B : Image) → IsPlaceFilled files old w size offset bytes from B → record_at B entry ≡ record_at from entry
   record_here from there can B filled = record_filled files kept entry i size old kind stands small keeps has real other from (agrees from there) can (words from there) w offset bytes B fits filled
 
-  read_here : (from : Image) → a.files ≡ Some from → CanBeWritten files entry i size from → (B : Image) → IsFilled files old w size offset bytes from B → record_bytes ≡ record_at B entry
+  read_here : (from : Image) → a.files ≡ Some from → CanBeWritten files entry i size from → (B : Image) → IsPlaceFilled files old w size offset bytes from B → record_bytes ≡ record_at B entry
   read_here from there can B filled = read from there ∙ sym (record_here from there can B filled)
 
-  checks_here : (from : Image) → a.files ≡ Some from → CanBeWritten files entry i size from → (B : Image) → IsFilled files old w size offset bytes from B → RecordChecks entry B
+  checks_here : (from : Image) → a.files ≡ Some from → CanBeWritten files entry i size from → (B : Image) → IsPlaceFilled files old w size offset bytes from B → RecordChecks entry B
   checks_here from there can B filled = let e = record_here from there can B filled in rw e can.checks
 
   fill_words : (cut : Bool) → ForSome a.files (λ from. CanBeWritten files entry i size from → Passes a m (WritesStream files entry i size offset cut bytes from))

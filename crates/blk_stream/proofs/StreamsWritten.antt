@@ -17,7 +17,7 @@ use Rattle.blk_stream.specs.Copying.{ShareNoData}
 use Rattle.blk_stream.specs.Freeing.{freeing_of, leaving_of}
 use Rattle.blk_stream.specs.Moving.{HasPlaceLength, LeavesPlace, data_at_place}
 use Rattle.blk_stream.specs.Owned.{KeepsOwned}
-use Rattle.blk_stream.specs.Placing.{IsPlaced, IsSite}
+use Rattle.blk_stream.specs.Placing.{IsNewPlace, IsSite}
 use Rattle.blk_stream.specs.Streams.{address_word, may_keep, size_word, stream_bytes}
 use Rattle.blk_stream.specs.Writing.{have_one_storage, size_after}
 use Rattle.blk_stream.specs.Written.{HoldsStream, MovesPlace, StreamIsWritten, writing_of}
@@ -30,7 +30,7 @@ use Rattle.blk_stream.proofs.StreamPlaces.{bytes_at}
 use Rattle.blk_stream.proofs.WriteStages.{filled_formed, freed_off, left_same, left_written, named_same, named_written, site_fits}
 
 module _ (files kept : BlockFiles) (entry i size offset : ℕ) (cut : Bool) (bytes : List ℕ) (from : Image) (kind : kind_of entry ≡ blocks_256) (stands : stands_among files entry ≡ true) (agrees : Agrees files from) (checks : RecordChecks entry from)
-    (w : ℕ) (made : Image) (kinds : w ≢ 0 → kind_of w ≡ kind_for size) (placed : IsPlaced files w from made)
+    (w : ℕ) (made : Image) (kinds : w ≢ 0 → kind_of w ≡ kind_for size) (placed : IsNewPlace files w from made)
     (filled : Image) (same : SameOutside (data_at_place w) made filled) (written : data_at filled w 0 size ≡ stream_after cut (stream_bytes from entry i) offset bytes) (words_off : (k : ℕ) → k < size → (stream_words entry i).bytes (data_file w) (data_start w + k) ≡ false)
     (long : HasPlaceLength w size filled) (stored : may_keep kept size w ≡ true) (size_is : size ≡ size_after cut (size_word from entry i) offset (length bytes)) (moves : have_one_storage (size_word from entry i) size ≡ false)
     (image : Image) (words : HasWords entry i size w image) (others : (j : ℕ) → j < 3 → j ≢ i → HoldsStream entry j from image) (owned : KeepsOwned files entry i (address_word from entry i) from image) where

@@ -27,7 +27,7 @@ use Rattle.blk_stream.specs.Copying.{ShareNoData}
 use Rattle.blk_stream.specs.Freeing.{freeing_of}
 use Rattle.blk_stream.specs.Inside.{data_of}
 use Rattle.blk_stream.specs.Moving.{LeavesPlaceInProgress, data_at_place}
-use Rattle.blk_stream.specs.Placing.{IsPlaced, IsSite, IsSiteOf, PlacesInProgress, Site, Nowhere, NewFile, InFile, InGrowth, InAddition, placing_of}
+use Rattle.blk_stream.specs.Placing.{IsNewPlace, IsSite, IsSiteOf, PlacesInProgress, Site, Nowhere, NewFile, InFile, InGrowth, InAddition, placing_of}
 use Rattle.blk_stream.specs.Streams.{address_place, address_word, size_place, stream_bytes}
 use Rattle.blk_stream.specs.Written.{WritesStream, giving_up_of, writing_of}
 use Rattle.blk_stream.proofs.Fillings.{data_off}
@@ -117,7 +117,7 @@ data_left G w size from image off same =
 -- Sites.
 
 -- the site of a new place fits data of a size whose kind the place has, and no place has none
-module _ (files : BlockFiles) (size w : ℕ) (from made : Image) (kinds : w ≢ 0 → kind_of w ≡ kind_for size) (placed : IsPlaced files w from made) where
+module _ (files : BlockFiles) (size w : ℕ) (from made : Image) (kinds : w ≢ 0 → kind_of w ≡ kind_for size) (placed : IsNewPlace files w from made) where
   abbrev Fits : Type 0
   Fits = IsSite files (kind_for size) from placed.site × SameOutside (placing_of files (kind_for size) placed.site) from made
 
@@ -202,7 +202,7 @@ module _ (files : BlockFiles) (entry i size offset : ℕ) (cut : Bool) (bytes : 
           order = λ differs. inl (outside_wider (new_of 0 places.site) (either (stream_words entry i) (new_of 0 places.site)) from image (within_right (stream_words entry i) (new_of 0 places.site)) same);
         }
 
-    module _ (w : ℕ) (made : Image) (kinds : w ≢ 0 → kind_of w ≡ kind_for size) (placed : IsPlaced files w from made) where
+    module _ (w : ℕ) (made : Image) (kinds : w ≢ 0 → kind_of w ≡ kind_for size) (placed : IsNewPlace files w from made) where
       abbrev site : Site
       site = placed.site
 
@@ -298,7 +298,7 @@ words_off kept entry i w size kind stands small inside apart k less =
     two_none e = cc
 
 -- so the record checks while it is filled
-pub filling_checks : (files kept : BlockFiles) (entry w size : ℕ) (from made image : Image) → kind_of entry ≡ blocks_256 → stands_among files entry ≡ true → stands_among kept entry ≡ true → Agrees files from → RecordChecks entry from → IsPlaced files w from made
+pub filling_checks : (files kept : BlockFiles) (entry w size : ℕ) (from made image : Image) → kind_of entry ≡ blocks_256 → stands_among files entry ≡ true → stands_among kept entry ≡ true → Agrees files from → RecordChecks entry from → IsNewPlace files w from made
     → w ≢ 0 → IsInside kept w 0 size → (kind_of w ≢ external → ShareNoBlock entry w) → SameOutside (data_at_place w) made image → RecordChecks entry image
 unfolding data_at_place
 filling_checks files kept entry w size from made image kind stands still agrees good placed some inside apart same =

@@ -31,7 +31,7 @@ abbrev pub IsCopied : ℕ → ℕ → ℕ → ℕ → Image → Image → Type 0
 IsCopied one other start end from image = (k : ℕ) → start ≤ k → k < end → data_byte image other k ≡ data_byte from one k
 
 -- a read of some of the first bytes of data gave fewer than these: the damage has the place of the read, and finds how many there were
-pub record IsCutRead (w size : ℕ) (damage : Damage) : Type 0 where
+pub record IsCutFront (w size : ℕ) (damage : Damage) : Type 0 where
   pub at : ℕ
   pub count : ℕ
   pub within : at + count ≤ size
@@ -54,7 +54,7 @@ IsOldThere old image = (w : ℕ) → old.addr ≡ Some w → IsInFile w 0 old.si
 pub record IsCutOld (old : Stored) (damage : Damage) : Type 0 where
   pub word : ℕ
   pub is : old.addr ≡ Some word
-  pub cut : IsCutRead word old.size damage
+  pub cut : IsCutFront word old.size damage
 
 -- what is copied of so many old bytes to a place of data of a size, where some bytes are written from an offset on: those before them, and those behind
 abbrev pub old_spans : ℕ → ℕ → ℕ → ℕ → ℕ → Footprint

@@ -12,11 +12,11 @@ use Rattle.blk_stream.specs.Streams.{address_word, streams_at}
 use Rattle.blk_stream.specs.Written.{StreamIsWritten}
 
 -- three streams with other bytes in one of them
-unfoldable pub streams_with : ℕ → List ℕ → List (List ℕ) → List (List ℕ)
-streams_with i bytes streams = (if i == 0 then bytes else stream 0 streams) ∷ (if i == 1 then bytes else stream 1 streams) ∷ (if i == 2 then bytes else stream 2 streams) ∷ []
+unfoldable pub stored_streams_with : ℕ → List ℕ → List (List ℕ) → List (List ℕ)
+stored_streams_with i bytes streams = (if i == 0 then bytes else stream 0 streams) ∷ (if i == 1 then bytes else stream 1 streams) ∷ (if i == 2 then bytes else stream 2 streams) ∷ []
 
 -- once a stream of an entry is written, whose record's blocks were marked and shared none with the old place, the entry loads with the same streams but for this one, which is that after the write
 abbrev pub WrittenStreamsLoad : Type 0
 WrittenStreamsLoad = (files kept : BlockFiles) (from image : Image) (entry i offset : ℕ) (cut : Bool) (bytes : List ℕ) (streams : List (List ℕ)) → i < 3 → kind_of entry ≡ blocks_256 → is_address entry ≡ true
     → KeepsStanding files kept → Agrees files from → Agrees kept image → AreOthers files entry (address_word from entry i) from → streams_at from entry ≡ Some streams → StreamIsWritten files kept entry i offset cut bytes from image
-    → streams_at image entry ≡ Some (streams_with i (stream_after cut (stream i streams) offset bytes) streams)
+    → streams_at image entry ≡ Some (stored_streams_with i (stream_after cut (stream i streams) offset bytes) streams)

@@ -17,7 +17,7 @@ use Rattle.blk_stream.specs.Inside.{HasStreamLength, data_of}
 use Rattle.blk_entry.specs.Keys.{data_at}
 use Rattle.blk_model.specs.Effects.{stream_after}
 use Rattle.blk_stream.specs.Writing.{size_after}
-use Rattle.blk_stream.specs.Placing.{CanBePlaced, IsPlaceRefusal, IsPlaced, PlacesInProgress}
+use Rattle.blk_stream.specs.Placing.{CanBePlaced, IsPlaceRefusal, IsNewPlace, PlacesInProgress}
 use Rattle.blk_image.specs.Told.{Told}
 use Rattle.blk_io.specs.declared.fault.Damage.{Damage}
 
@@ -60,9 +60,9 @@ pub record CanBeFilled (files : BlockFiles) (old : Stored) (size : ℕ) (image :
   pub file : (w : ℕ) → old.addr ≡ Some w → kind_of w ≡ external → has_file image (External (external_number w)) ≡ true
 
 -- a new place was made, and then only its data has changed, which is that of the stream after the write
-pub record IsFilled (files : BlockFiles) (old : Stored) (w size offset : ℕ) (bytes : List ℕ) (from image : Image) : Type 0 where
+pub record IsPlaceFilled (files : BlockFiles) (old : Stored) (w size offset : ℕ) (bytes : List ℕ) (from image : Image) : Type 0 where
   pub made : Image
-  pub placed : IsPlaced files w from made
+  pub placed : IsNewPlace files w from made
   pub same : SameOutside (data_at_place w) made image
   pub written : (cut : Bool) → size ≡ size_after cut old.size offset (length bytes) → data_at image w 0 size ≡ stream_after cut (data_at from (unwrap_or old.addr 0) 0 old.size) offset bytes
   pub long : HasPlaceLength w size image
@@ -72,7 +72,7 @@ pub record IsBeingFilled (files kept : BlockFiles) (size : ℕ) (from image : Im
   pub word : ℕ
   pub fits : may_keep kept size word ≡ true
   pub made : Image
-  pub placed : IsPlaced files word from made
+  pub placed : IsNewPlace files word from made
   pub same : SameOutside (data_at_place word) made image
 
 -- a new place is being made, or was made and is being filled

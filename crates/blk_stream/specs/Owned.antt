@@ -10,14 +10,14 @@ use Rattle.blk_stream.specs.Changing.{stream_words}
 use Rattle.blk_stream.specs.Freeing.{is_block_of}
 
 -- the blocks of an address are marked
-abbrev pub AreMarked : ℕ → Image → Type 0
-AreMarked v image = (b : ℕ) → is_block_of v (file_selector v) b ≡ true → is_block_marked image (file_selector v) b ≡ true
+abbrev pub AreBlocksMarked : ℕ → Image → Type 0
+AreBlocksMarked v image = (b : ℕ) → is_block_of v (file_selector v) b ≡ true → is_block_marked image (file_selector v) b ≡ true
 
 -- these blocks stand and are marked, and share none with the old place of a stream
 pub record AreOthers (files : BlockFiles) (v old : ℕ) (image : Image) : Type 0 where
   pub block_kind : kind_of v ≢ external
   pub stand : stands_among files v ≡ true
-  pub marked : AreMarked v image
+  pub marked : AreBlocksMarked v image
   pub apart : kind_of old ≢ external → ShareNoBlock old v
 
 -- but for the words of a stream in its record, such blocks keep their bytes; and external files that were there are as before, but for the old one

@@ -103,7 +103,7 @@ pub record GainsPlace (files : BlockFiles) (w : ℕ) (from image : Image) : Type
   pub most : (n : ℕ) → (is_among (all_files files) n ≡ true) ⊎ (is_in_file n w ≡ true) → max_entries_in image n ≤ most_blocks
 
 -- an address is that of a new place: its site is right and all else is as before; its blocks were free, and maps and counters have gained it, and nothing else; or its external file was not there, is there without bytes, and the index has its number
-pub record IsPlaced (files : BlockFiles) (w : ℕ) (from image : Image) : Type 0 where
+pub record IsNewPlace (files : BlockFiles) (w : ℕ) (from image : Image) : Type 0 where
   pub site : Site
   pub at : IsSiteOf site w
   pub makes : MakesPlace files (kind_of w) site from image

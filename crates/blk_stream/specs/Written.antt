@@ -17,7 +17,7 @@ use Rattle.blk_entry.specs.Keys.{IsHeadDamage, data_at}
 use Rattle.blk_alloc.specs.Owning.{IsCause}
 use Rattle.blk_stream.specs.Streams.{HasStreamPlace, HasStreams, IsMisplacedStream, address_word, size_word, stream_bytes}
 use Rattle.blk_stream.specs.Changing.{HasWords, stream_words}
-use Rattle.blk_stream.specs.Copying.{IsCutRead}
+use Rattle.blk_stream.specs.Copying.{IsCutFront}
 use Rattle.blk_stream.specs.Dropping.{KeepsStream}
 use Rattle.blk_stream.specs.Freeing.{MayBeFreed, is_block_of, leaving_of, left_by}
 use Rattle.blk_stream.specs.Owned.{KeepsOwned}
@@ -26,15 +26,15 @@ use Rattle.blk_stream.specs.Placing.{CanBePlaced, IsPlaceRefusal, IsSite, Site, 
 use Rattle.blk_stream.specs.Writing.{have_one_storage, size_after}
 
 -- the record and the places of its streams
-abbrev pub places_of : ℕ → Image → List ℕ
-places_of entry image = entry ∷ address_word image entry 0 ∷ address_word image entry 1 ∷ address_word image entry 2 ∷ []
+abbrev pub places_of_entry : ℕ → Image → List ℕ
+places_of_entry entry image = entry ∷ address_word image entry 0 ∷ address_word image entry 1 ∷ address_word image entry 2 ∷ []
 
 -- a stream can get a size: the record checks and has three streams, no two of these share a block or an external file, those in blocks are allocations of their files, and there is room where the storage changes
 pub record CanBeWritten (files : BlockFiles) (entry i size : ℕ) (image : Image) : Type 0 where
   pub checks : RecordChecks entry image
   pub has : HasStreams entry image
-  pub apart : repeats (claims_of_all (places_of entry image)) ≡ false
-  pub owned : (w : ℕ) → is_among (places_of entry image) w ≡ true → MayBeFreed w image
+  pub apart : repeats (claims_of_all (places_of_entry entry image)) ≡ false
+  pub owned : (w : ℕ) → is_among (places_of_entry entry image) w ≡ true → MayBeFreed w image
   pub room : have_one_storage (size_word image entry i) size ≡ false → 0 < size → CanBePlaced files size image
 
 -- What is left.
@@ -101,5 +101,5 @@ abbrev pub IsWriteDamage : BlockFiles → BlockFiles → Told → Told → ℕ �
 IsWriteDamage files kept before after entry i damage =
     (Stays before after × (IsHeadDamage before entry damage ⊎ IsMisplacedStream files entry i damage))
     ⊎ ((size : ℕ) × IsPlaceRefusal files kept size before after damage)
-    ⊎ ((w : ℕ) × (size : ℕ) × IsCutRead w size damage)
+    ⊎ ((w : ℕ) × (size : ℕ) × IsCutFront w size damage)
     ⊎ ((w : ℕ) × (stands_among kept w ≡ true) × IsCause after (file_selector w) (first_block w) (block_count w) false damage)

@@ -7,7 +7,7 @@ ghost use Rattle.blk_io.specs.Faults.{IfDamaged, IfDevice};
 ghost use Rattle.blk_disk.specs.Tables.{Agrees};
 ghost use Rattle.blk_entry.specs.Keys.{IsCut, IsInFile, IsInside, data_at};
 ghost use Rattle.blk_entry.specs.Steps.{data_steps};
-ghost use Rattle.blk_stream.specs.Copying.{AreOldBytes, HasOldPlace, IsCopied, IsCutOld, IsCutRead, IsOldThere, ShareNoData, old_spans, span_of};
+ghost use Rattle.blk_stream.specs.Copying.{AreOldBytes, HasOldPlace, IsCopied, IsCutOld, IsCutFront, IsOldThere, ShareNoData, old_spans, span_of};
 
 use crate::places::Stored;
 use blk_addr::Addr;
@@ -35,7 +35,7 @@ pub(crate) fn copy<F: Folder>(
     ensures stops { ForSome (F.told f.old).files (λ old. Passes (F.told f.old) (F.told f.new) (SameOutside (span_of to start end) old)) }
     ensures silent { (F.told f.old).files ≡ None → (F.told f.new).files ≡ None }
     ensures agrees { ForSome (F.told f.new).files (Agrees files.now) }
-    ensures damaged { IfDamaged result (IsCutRead from end) }
+    ensures damaged { IfDamaged result (IsCutFront from end) }
     ensures untold { ForSome (F.told f.old).files (IsInFile from 0 end) → IfDamaged result (λ _. (F.told f.old).files ≡ None) }
     ensures later { F.faults f.old ≤ F.faults f.new }
     ensures device { IfDevice result (Rises (F.faults f.old) (F.faults f.new)) }

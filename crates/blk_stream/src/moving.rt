@@ -15,7 +15,7 @@ ghost use Rattle.blk_stream.specs.Streams.{may_keep};
 ghost use Rattle.blk_stream.specs.Changing.{HasWords};
 ghost use Rattle.blk_stream.specs.Copying.{HasOldPlace};
 ghost use Rattle.blk_stream.specs.Freeing.{MayBeFreed};
-ghost use Rattle.blk_stream.specs.Moving.{CanBeFilled, FillsInProgress, IsFillDamage, IsFilled, LeavesPlace, LeavesPlaceInProgress};
+ghost use Rattle.blk_stream.specs.Moving.{CanBeFilled, FillsInProgress, IsFillDamage, IsPlaceFilled, LeavesPlace, LeavesPlaceInProgress};
 ghost use Rattle.blk_stream.specs.Writing.{have_one_storage, size_after};
 ghost use Rattle.blk_stream.specs.Written.{CanBeWritten, IsWriteDamage, StreamIsWritten, WritesStream};
 
@@ -76,7 +76,7 @@ fn filled_place<F: Folder>(
     requires complete { ForSome (F.told f.old).files HasWholeIndex }
     ensures fits { IfOk result (λ addr. may_keep files.new size (unwrap_or addr 0) ≡ true) }
     ensures keeps { KeepsStanding files.old files.new }
-    ensures filled { IfOk result (λ addr. ForSome (F.told f.old).files (λ from. CanBeFilled files.old old size from → ForSome (F.told f.new).files (IsFilled files.old old (unwrap_or addr 0) size offset bytes.now from))) }
+    ensures filled { IfOk result (λ addr. ForSome (F.told f.old).files (λ from. CanBeFilled files.old old size from → ForSome (F.told f.new).files (IsPlaceFilled files.old old (unwrap_or addr 0) size offset bytes.now from))) }
     ensures agrees { OnOk result (ForSome (F.told f.new).files (Agrees files.new)) }
     ensures stops { ForSome (F.told f.old).files (λ from. CanBeFilled files.old old size from → Passes (F.told f.old) (F.told f.new) (FillsInProgress files.old files.new size from)) }
     ensures damaged { IfDamaged result (IsFillDamage files.old files.new old size (F.told f.old) (F.told f.new)) }

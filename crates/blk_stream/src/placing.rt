@@ -9,7 +9,7 @@ ghost use Rattle.blk_io.specs.Faults.{IfDamaged, IfDevice};
 ghost use Rattle.blk_disk.specs.Tables.{Agrees};
 ghost use Rattle.blk_entry.specs.Keys as keys;
 ghost use Rattle.blk_alloc.specs.Extending.{HasItsBlocks, KeepsStanding};
-ghost use Rattle.blk_stream.specs.Placing.{CanBePlaced, IsPlaceRefusal, IsPlaced, KeepsOtherLinks, PlacesInProgress};
+ghost use Rattle.blk_stream.specs.Placing.{CanBePlaced, IsPlaceRefusal, IsNewPlace, KeepsOtherLinks, PlacesInProgress};
 
 use blk_addr::{Addr, Kind, blocks_for, kind_for};
 use blk_disk::BlockFiles;
@@ -28,7 +28,7 @@ pub(crate) fn new_place<F: Folder>(
     ensures long { IfOk result (λ addr. kind_of addr ≢ external → HasItsBlocks files.new (file_selector addr)) }
     ensures keeps { KeepsStanding files.old files.new }
     ensures links { IfOk result (λ addr. KeepsOtherLinks files.old files.new addr) }
-    ensures placed { IfOk result (λ addr. ForSome (F.told f.old).files (λ from. CanBePlaced files.old size from → ForSome (F.told f.new).files (IsPlaced files.old addr from))) }
+    ensures placed { IfOk result (λ addr. ForSome (F.told f.old).files (λ from. CanBePlaced files.old size from → ForSome (F.told f.new).files (IsNewPlace files.old addr from))) }
     ensures agrees { OnOk result (ForSome (F.told f.new).files (Agrees files.new)) }
     ensures stops { ForSome (F.told f.old).files (λ from. CanBePlaced files.old size from → Passes (F.told f.old) (F.told f.new) (PlacesInProgress files.old size from)) }
     ensures cause { IfDamaged result (IsPlaceRefusal files.old files.new size (F.told f.old) (F.told f.new)) }

@@ -4,7 +4,7 @@ use Rattle.std.specs.declared.ops.Bound.{Bound}
 use Rattle.std.specs.declared.ops.Bound.TheVariants.{Unbounded}
 use Rattle.blk_io.specs.declared.folder.FileId.{FileId}
 use Rattle.blk_io.specs.declared.folder.FileId.TheVariants.{Index, Block, External}
-use Rattle.blkcache.specs.FileIds.{IsAfter, IsBefore}
+use Rattle.blkcache.specs.FileIds.{ComesAfter, ComesBefore}
 use Rattle.blkcache.specs.declared.names.Names.{Names}
 use Rattle.blkcache.specs.Names.{has, IsLeastName, IsExternalFrom, IsBlockFrom}
 use Rattle.blkcache.specs.Numbers.{IsLeastNumber}
@@ -29,23 +29,23 @@ external-none names start none = absent
 pub external-some : (names : Names) (start : Bound ℕ) (n : ℕ) → IsLeastNumber names.externals start (Some n) → IsLeastName names (IsExternalFrom start) (Some (External n))
 external-some names start n least = (has-external names n ∙ least.1, least.0, before)
   where
-    before : (file : FileId) → IsTrue (has names file) → IsExternalFrom start file → IsBefore file (External n) → ⊥
+    before : (file : FileId) → IsTrue (has names file) → IsExternalFrom start file → ComesBefore file (External n) → ⊥
     before Index there from is_before = from
     before (Block m) there from is_before = from
     before (External m) there from is_before = not_before m (least.2 m from (sym (has-external names m) ∙ there)) is_before
       where
-        not_before : (m : ℕ) → n ≤ m → IsBefore (External m) (External n) → ⊥
+        not_before : (m : ℕ) → n ≤ m → ComesBefore (External m) (External n) → ⊥
         not_before m above is_before = grind (arith)
 
 -- and so has the least block file; where there is none, an external file is least
 pub block-some : (names : Names) (start : Bound ℕ) (n : ℕ) → IsLeastNumber names.blocks start (Some n) → IsLeastName names (IsBlockFrom start) (Some (Block n))
 block-some names start n least = (has-block names n ∙ least.1, least.0, before)
   where
-    before : (file : FileId) → IsTrue (has names file) → IsBlockFrom start file → IsBefore file (Block n) → ⊥
+    before : (file : FileId) → IsTrue (has names file) → IsBlockFrom start file → ComesBefore file (Block n) → ⊥
     before Index there from is_before = from
     before (Block m) there from is_before = not_before m (least.2 m from (sym (has-block names m) ∙ there)) is_before
       where
-        not_before : (m : ℕ) → n ≤ m → IsBefore (Block m) (Block n) → ⊥
+        not_before : (m : ℕ) → n ≤ m → ComesBefore (Block m) (Block n) → ⊥
         not_before m above is_before = grind (arith)
     before (External m) there from is_before = grind (arith)
 
@@ -64,17 +64,17 @@ block-none names start next none least = least_of_same names (IsExternalFrom Unb
     down (External n) there from = tt
 
 -- the index is the least of all
-pub index-least : (names : Names) → names.index ≡ true → IsLeastName names (IsAfter None) (Some Index)
+pub index-least : (names : Names) → names.index ≡ true → IsLeastName names (ComesAfter None) (Some Index)
 index-least names there = (has-index names ∙ there, tt, before)
   where
-    before : (file : FileId) → IsTrue (has names file) → Unit {0} → IsBefore file Index → ⊥
+    before : (file : FileId) → IsTrue (has names file) → Unit {0} → ComesBefore file Index → ⊥
     before Index there from is_before = grind (arith)
     before (Block n) there from is_before = grind (arith)
     before (External n) there from is_before = grind (arith)
 
 -- without an index all names are of block files and external files
-pub all-least : (names : Names) (next : Option FileId) → names.index ≡ false → IsLeastName names (IsBlockFrom Unbounded) next → IsLeastName names (IsAfter None) next
-all-least names next none least = least_of_same names (IsBlockFrom Unbounded) (IsAfter None) next (λ file from. tt) down least
+pub all-least : (names : Names) (next : Option FileId) → names.index ≡ false → IsLeastName names (IsBlockFrom Unbounded) next → IsLeastName names (ComesAfter None) next
+all-least names next none least = least_of_same names (IsBlockFrom Unbounded) (ComesAfter None) next (λ file from. tt) down least
   where
     down : (file : FileId) → IsTrue (has names file) → Unit {0} → IsBlockFrom Unbounded file
     down Index there from = clash (sym none ∙ sym (has-index names) ∙ there)

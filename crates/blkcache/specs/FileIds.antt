@@ -11,9 +11,9 @@ abbrev pub is_file : FileId → FileId → Bool
 is_file one other = same_file (file_of one) (file_of other)
 
 -- a name comes before another: the index, the block files by number, the external files by number
-abbrev pub IsBefore : FileId → FileId → Type 0
-IsBefore one other = order.IsBefore (file_of one) (file_of other)
+abbrev pub ComesBefore : FileId → FileId → Type 0
+ComesBefore one other = order.IsBefore (file_of one) (file_of other)
 
 -- a name comes after another, where there is one
-abbrev pub IsAfter : Option FileId → FileId → Type 0
-IsAfter after file = order.IsAfter (option_map file_of after) (file_of file)
+abbrev pub ComesAfter : Option FileId → FileId → Type 0
+ComesAfter after file = order.IsAfter (option_map file_of after) (file_of file)

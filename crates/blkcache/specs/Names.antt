@@ -6,7 +6,7 @@ use Rattle.std.specs.BTreeMap.Range.{IsFromStart}
 use Rattle.std.specs.declared.ops.Bound.{Bound}
 use Rattle.blk_io.specs.declared.folder.FileId.{FileId}
 use Rattle.blk_io.specs.declared.folder.FileId.TheVariants.{Index, Block, External}
-use Rattle.blkcache.specs.FileIds.{IsBefore}
+use Rattle.blkcache.specs.FileIds.{ComesBefore}
 use Rattle.blkcache.specs.declared.names.Names.{Names}
 
 -- whether the file is among the names
@@ -19,7 +19,7 @@ has names (External n) = contains nat_cmp names.externals n
 abbrev pub IsLeastName : Names → (FileId → Type 0) → Option FileId → Type 0
 IsLeastName names P None = (file : FileId) → IsTrue (has names file) → P file → ⊥
 IsLeastName names P (Some next) = IsTrue (has names next) × P next
-    × ((file : FileId) → IsTrue (has names file) → P file → IsBefore file next → ⊥)
+    × ((file : FileId) → IsTrue (has names file) → P file → ComesBefore file next → ⊥)
 
 -- an external file inside a start bound
 abbrev pub IsExternalFrom : Bound ℕ → FileId → Type 0

@@ -4,7 +4,7 @@ ghost use Rattle.blk_io.specs.declared.folder.FileId.{FileId};
 ghost use Rattle.blkcache.specs.FileIds.{is_file};
 ghost use Rattle.blkcache.specs.Names.{has, IsLeastName};
 ghost use Rattle.std.specs.Option.{ForSome, is_some};
-ghost use Rattle.blkcache.specs.FileIds.{IsAfter};
+ghost use Rattle.blkcache.specs.FileIds.{ComesAfter};
 
 use crate::again::{again, read_again};
 use crate::disk::Disk;
@@ -129,8 +129,8 @@ impl<R: Files<File = File> + Drop> DiskFiles<R> {
 
     /// The least of the files after this one, or the least of all.
     pub fn next(&self, after: Option<FileId>) -> Option<FileId>
-        ensures after { ForSome result (IsAfter after) }
-        ensures least { IsLeastName self.now.names (IsAfter after) result }
+        ensures after { ForSome result (ComesAfter after) }
+        ensures least { IsLeastName self.now.names (ComesAfter after) result }
     {
         self.names.next(after)
     }

@@ -5,7 +5,7 @@ ghost use Rattle.std.specs.BTreeSet.{contains};
 ghost use Rattle.std.specs.Option.{ForSome};
 ghost use Rattle.blk_io.specs.declared.folder.FileId.{FileId};
 ghost use Rattle.blkcache.specs.FileIds.{is_file};
-ghost use Rattle.blkcache.specs.FileIds.{IsAfter};
+ghost use Rattle.blkcache.specs.FileIds.{ComesAfter};
 
 use blk_io::FileId;
 use std::alloc::{AllocError, Global};
@@ -80,8 +80,8 @@ impl Names {
 
     /// The least name after this one, or the least of all.
     pub fn next(&self, after: Option<FileId>) -> Option<FileId>
-        ensures after { ForSome result (IsAfter after) }
-        ensures next { IsLeastName self.now (IsAfter after) result }
+        ensures after { ForSome result (ComesAfter after) }
+        ensures next { IsLeastName self.now (ComesAfter after) result }
     {
         match after {
             None if self.index => Some(FileId::Index),

@@ -3,7 +3,7 @@ use Rattle.std.specs.Prelude.{slice_index}
 use Rattle.std.proofs.lemmas.Result.{on_ok_weaker}
 use Rattle.blk_image.specs.Bytes.{content, word_bytes}
 use Rattle.blk_image.specs.Image.{Block, HasRange, byte, length_of}
-use Rattle.blk_alloc.specs.Mending.{IsWritten}
+use Rattle.blk_alloc.specs.Mending.{AreBytesWritten}
 use Rattle.blk_alloc.specs.Rebuilding.{HasTheseCounters}
 use Rattle.blk_alloc.proofs.Needed.{content_part, needed_then, needed_weaker, stands_behind, told_so_far}
 use Rattle.blk_alloc.proofs.Recounted.{counters_are, counting_first, counting_runs, four_words}
@@ -26,13 +26,13 @@ returns-in_err-mend_word-clause-stops g c from there =
 
 pub mend-requires-clause-inside : goal.mend-requires-clause-inside
 mend-requires-clause-inside g c =
-    told_so_far (g.F.Folder.told c.args.f.now).files (g.F.Folder.told c.mend_word.new.f).files (λ image. 8192 ≤ length_of image (Block c.args.file)) (IsWritten (Block c.args.file) 16 c.to_le_bytes.result 4) (λ image. HasRange image (Block c.args.file) 24 (length c.as_flattened.result.now))
+    told_so_far (g.F.Folder.told c.args.f.now).files (g.F.Folder.told c.mend_word.new.f).files (λ image. 8192 ≤ length_of image (Block c.args.file)) (AreBytesWritten (Block c.args.file) 16 c.to_le_bytes.result 4) (λ image. HasRange image (Block c.args.file) 24 (length c.as_flattened.result.now))
     c.in_ok-mend_word.ensures.silent c.in_ok-mend_word.ensures.done c.requires.header
     (λ from image written long. let e = written.same.lengths (Block c.args.file) refl in let l = c.as_flattened.ensures.len in omega (arith, e, long, l))
 
 pub mend-requires-clause-stands : goal.mend-requires-clause-stands
 mend-requires-clause-stands g c =
-    told_so_far (g.F.Folder.told c.args.f.now).files (g.F.Folder.told c.mend_word.new.f).files (λ image. (i : ℕ) → 16 ≤ i → i < 40 → content c.args.fields.now i ≡ byte image (Block c.args.file) i) (IsWritten (Block c.args.file) 16 c.to_le_bytes.result 4)
+    told_so_far (g.F.Folder.told c.args.f.now).files (g.F.Folder.told c.mend_word.new.f).files (λ image. (i : ℕ) → 16 ≤ i → i < 40 → content c.args.fields.now i ≡ byte image (Block c.args.file) i) (AreBytesWritten (Block c.args.file) 16 c.to_le_bytes.result 4)
     (λ image. (i : ℕ) → i < length (take 16 (drop 24 c.args.fields.now)) → content (take 16 (drop 24 c.args.fields.now)) i ≡ byte image (Block c.args.file) (24 + i))
     c.in_ok-mend_word.ensures.silent c.in_ok-mend_word.ensures.done c.requires.fields
     (λ from image written stands i small.
@@ -47,7 +47,7 @@ returns-clause-done g c =
     on_ok_weaker c.mend.result
     (λ done. told_at_end (g.F.Folder.told c.args.f.now).files (g.F.Folder.told c.mend.new.f).files (λ image. HasTheseCounters (byte image (Block c.args.file)) c.args.allocations c.args.empty.now) (λ none. c.mend.ensures.silent (c.in_ok-mend_word.ensures.silent none))
     (λ from there.
-    told_so_far (g.F.Folder.told c.mend_word.new.f).files (g.F.Folder.told c.mend.new.f).files (IsWritten (Block c.args.file) 16 c.to_le_bytes.result 4 from) (IsWritten (Block c.args.file) 24 c.as_flattened.result.now (length c.as_flattened.result.now)) (λ image. HasTheseCounters (byte image (Block c.args.file)) c.args.allocations c.args.empty.now)
+    told_so_far (g.F.Folder.told c.mend_word.new.f).files (g.F.Folder.told c.mend.new.f).files (AreBytesWritten (Block c.args.file) 16 c.to_le_bytes.result 4 from) (AreBytesWritten (Block c.args.file) 24 c.as_flattened.result.now (length c.as_flattened.result.now)) (λ image. HasTheseCounters (byte image (Block c.args.file)) c.args.allocations c.args.empty.now)
     c.mend.ensures.silent done (c.in_ok-mend_word.ensures.done from there)
     (λ mid image runs first. counters_are c.args.file c.args.allocations c.to_le_bytes.result c.to_le_bytes.ensures c.args.empty.now c.ranges.allocations.fits fits from mid first c.as_flattened.result.now are image runs))) c.mend.ensures.done
 

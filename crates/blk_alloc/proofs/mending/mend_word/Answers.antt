@@ -7,7 +7,7 @@ use Rattle.blk_image.proofs.Runs.{some_inj, told_whole}
 use Rattle.blk_image.specs.Steps.{Word, applied}
 use Rattle.blk_image.specs.Told.{Applies}
 use Rattle.blk_io.proofs.Carried.{silent_part}
-use Rattle.blk_alloc.specs.Mending.{IsWritten}
+use Rattle.blk_alloc.specs.Mending.{AreBytesWritten}
 use Rattle.blk_alloc.proofs.Needed.{needed_none, one_step, word_needed, written_same, written_step}
 use Rattle.blk_alloc.proofs.mending.mend_word.Goals as goal
 
@@ -15,19 +15,19 @@ use Rattle.blk_alloc.proofs.mending.mend_word.Goals as goal
 pub returns-then-eq-clause-done : goal.returns-then-eq-clause-done
 returns-then-eq-clause-done g c from there image now =
     let same = (bytes_eq-Decides c.args.old.now c.args.new.now).0 (sym c.eq.ensures ∙ c.if-eq.true) in
-    subst (IsWritten (Block c.args.file) c.args.at c.args.new.now 4 from) (some_inj (sym there ∙ now))
+    subst (AreBytesWritten (Block c.args.file) c.args.at c.args.new.now 4 from) (some_inj (sym there ∙ now))
     (written_same (Block c.args.file) c.args.at c.args.new.now 4 c.requires.new_word from (λ i small. ap (λ (l : List ℕ). content l i) (sym same) ∙ c.requires.stands from there i small))
 
 pub returns-then-eq-clause-stops : goal.returns-then-eq-clause-stops
 returns-then-eq-clause-stops g c from there =
-    needed_none (λ image. (image ≡ from) ⊎ IsWritten (Block c.args.file) c.args.at c.args.new.now 4 from image) refl (λ image is. inl (some_inj (sym is ∙ there)))
+    needed_none (λ image. (image ≡ from) ⊎ AreBytesWritten (Block c.args.file) c.args.at c.args.new.now 4 from image) refl (λ image is. inl (some_inj (sym is ∙ there)))
 
 pub returns-clause-done : goal.returns-clause-done
 returns-clause-done g c =
     on_ok_weaker c.write_at.result
     (λ whole from there image now.
-    told_whole (IsWritten (Block c.args.file) c.args.at c.args.new.now 4 from) (subst (Applies (g.F.Folder.told c.args.f.now) (g.F.Folder.told c.write_at.new.self)) (one_step (Block c.args.file) c.args.at c.args.new.now c.requires.new_word c.requires.aligned) whole)
-    (λ i is. subst (λ (j : Image). IsWritten (Block c.args.file) c.args.at c.args.new.now 4 from (applied (Word (Block c.args.file) c.args.at c.args.new.now) j)) (some_inj (sym there ∙ is)) (written_step (Block c.args.file) c.args.at c.args.new.now 4 c.requires.new_word from (c.requires.inside from there))) image now) c.write_at.ensures.steps
+    told_whole (AreBytesWritten (Block c.args.file) c.args.at c.args.new.now 4 from) (subst (Applies (g.F.Folder.told c.args.f.now) (g.F.Folder.told c.write_at.new.self)) (one_step (Block c.args.file) c.args.at c.args.new.now c.requires.new_word c.requires.aligned) whole)
+    (λ i is. subst (λ (j : Image). AreBytesWritten (Block c.args.file) c.args.at c.args.new.now 4 from (applied (Word (Block c.args.file) c.args.at c.args.new.now) j)) (some_inj (sym there ∙ is)) (written_step (Block c.args.file) c.args.at c.args.new.now 4 c.requires.new_word from (c.requires.inside from there))) image now) c.write_at.ensures.steps
 
 pub returns-clause-stops : goal.returns-clause-stops
 returns-clause-stops g c from there =

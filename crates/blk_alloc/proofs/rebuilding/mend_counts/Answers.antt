@@ -8,7 +8,7 @@ use Rattle.blk_format.specs.Maps.{groups_with}
 use Rattle.blk_format.proofs.Groups.{groups_same}
 use Rattle.blk_addr.specs.Bits.{has_bit}
 use Rattle.blk_addr.specs.declared.claim_set.Claims.{Claims}
-use Rattle.blk_alloc.specs.Mending.{IsWritten}
+use Rattle.blk_alloc.specs.Mending.{AreBytesWritten}
 use Rattle.blk_alloc.specs.Rebuilding.{is_block_claimed, HasMarksOf, HasTheseCounters, IsCounting}
 use Rattle.blk_alloc.proofs.Alike.{zeros_at}
 use Rattle.blk_alloc.proofs.Needed.{needed_end, needed_then, needed_weaker, told_so_far}
@@ -32,12 +32,12 @@ returns-in_err-mend-clause-stops g c from there =
 
 pub mend_counters-requires-clause-header : goal.mend_counters-requires-clause-header
 mend_counters-requires-clause-header g c =
-    told_so_far (g.F.Folder.told c.args.f.now).files (g.F.Folder.told c.mend.new.f).files (λ image. 8192 ≤ length_of image (Block c.args.file)) (IsWritten (Block c.args.file) 80 c.mark_claimed.new.bytes (length c.mark_claimed.new.bytes)) (λ image. 8192 ≤ length_of image (Block c.args.file))
+    told_so_far (g.F.Folder.told c.args.f.now).files (g.F.Folder.told c.mend.new.f).files (λ image. 8192 ≤ length_of image (Block c.args.file)) (AreBytesWritten (Block c.args.file) 80 c.mark_claimed.new.bytes (length c.mark_claimed.new.bytes)) (λ image. 8192 ≤ length_of image (Block c.args.file))
     c.in_ok-mend.ensures.silent c.in_ok-mend.ensures.done c.requires.header (λ from image written long. let e = written.same.lengths (Block c.args.file) refl in omega (arith, e, long))
 
 pub mend_counters-requires-clause-fields : goal.mend_counters-requires-clause-fields
 mend_counters-requires-clause-fields g c =
-    told_so_far (g.F.Folder.told c.args.f.now).files (g.F.Folder.told c.mend.new.f).files (λ image. (i : ℕ) → 16 ≤ i → i < 40 → content c.args.fields.now i ≡ byte image (Block c.args.file) i) (IsWritten (Block c.args.file) 80 c.mark_claimed.new.bytes (length c.mark_claimed.new.bytes))
+    told_so_far (g.F.Folder.told c.args.f.now).files (g.F.Folder.told c.mend.new.f).files (λ image. (i : ℕ) → 16 ≤ i → i < 40 → content c.args.fields.now i ≡ byte image (Block c.args.file) i) (AreBytesWritten (Block c.args.file) 80 c.mark_claimed.new.bytes (length c.mark_claimed.new.bytes))
     (λ image. (i : ℕ) → 16 ≤ i → i < 40 → content c.args.fields.now i ≡ byte image (Block c.args.file) i)
     c.in_ok-mend.ensures.silent c.in_ok-mend.ensures.done c.requires.fields
     (λ from image written stands i low high. stands i low high ∙ sym (written.same.bytes (Block c.args.file) i (range_beside (Block c.args.file) 80 (length c.mark_claimed.new.bytes) i (inl (omega (arith, high))))))
@@ -49,7 +49,7 @@ returns-clause-done g c =
     on_ok_weaker c.mend_counters.result
     (λ done. told_at_end (g.F.Folder.told c.args.f.now).files (g.F.Folder.told c.mend_counters.new.f).files (λ image. HasMarksOf c.args.claims.now image c.args.file) (λ none. c.mend_counters.ensures.silent (c.in_ok-mend.ensures.silent none))
     (λ from there.
-    told_so_far (g.F.Folder.told c.mend.new.f).files (g.F.Folder.told c.mend_counters.new.f).files (IsWritten (Block c.args.file) 80 c.mark_claimed.new.bytes (length c.mark_claimed.new.bytes) from)
+    told_so_far (g.F.Folder.told c.mend.new.f).files (g.F.Folder.told c.mend_counters.new.f).files (AreBytesWritten (Block c.args.file) 80 c.mark_claimed.new.bytes (length c.mark_claimed.new.bytes) from)
     (λ mid image. IsCounting c.args.file c.allocations.result c.count_runs.new.empty mid image × HasTheseCounters (byte image (Block c.args.file)) c.allocations.result c.count_runs.new.empty) (λ image. HasMarksOf c.args.claims.now image c.args.file)
     c.mend_counters.ensures.silent (λ mid now image is. (needed_end (c.mend_counters.ensures.stops mid now) image is, done image is)) (c.in_ok-mend.ensures.done from there)
     (λ mid image both written.

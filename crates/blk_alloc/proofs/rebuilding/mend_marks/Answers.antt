@@ -2,7 +2,7 @@ use Rattle.std.proofs.Common.{◌≡◌, ◌≤◌, ℕ, ◌<◌, ◌+◌, List,
 use Rattle.std.proofs.lemmas.Result.{on_ok_weaker}
 use Rattle.blk_image.specs.Bytes.{content, word_bytes}
 use Rattle.blk_image.specs.Image.{Block, HasRange, byte, length_of}
-use Rattle.blk_alloc.specs.Mending.{IsWritten}
+use Rattle.blk_alloc.specs.Mending.{AreBytesWritten}
 use Rattle.blk_alloc.specs.Rebuilding.{HasMarksOf, IsMending, IsRebuilt}
 use Rattle.blk_alloc.proofs.Needed.{needed_end, needed_then, needed_weaker, told_so_far}
 use Rattle.blk_alloc.proofs.Mended.{at_end, end_rebuilt, to_end, updating_bytes}
@@ -27,7 +27,7 @@ mend_word-requires-clause-stands g c =
 pub returns-clause-done : goal.returns-clause-done
 returns-clause-done g c =
     on_ok_weaker c.mend_word.result
-    (λ done. told_so_far (g.F.Folder.told c.mend_counts.new.f).files (g.F.Folder.told c.mend_word.new.f).files (λ image. HasMarksOf c.args.claims.now image c.args.file) (IsWritten (Block c.args.file) 56 c.to_le_bytes-2.result 4) (λ image. IsRebuilt c.args.claims.now image c.args.file)
+    (λ done. told_so_far (g.F.Folder.told c.mend_counts.new.f).files (g.F.Folder.told c.mend_word.new.f).files (λ image. HasMarksOf c.args.claims.now image c.args.file) (AreBytesWritten (Block c.args.file) 56 c.to_le_bytes-2.result 4) (λ image. IsRebuilt c.args.claims.now image c.args.file)
     c.mend_word.ensures.silent done c.in_ok-mend_counts.ensures.done
     (λ mid image written has. end_rebuilt c.args.claims.now c.args.file mid has c.to_le_bytes-2.result c.to_le_bytes-2.ensures image written)) c.mend_word.ensures.done
 

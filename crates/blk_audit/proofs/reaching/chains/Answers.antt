@@ -3,7 +3,7 @@ use Rattle.blk_disk.specs.Open.{IsOpen}
 use Rattle.blk_disk.specs.Tables.{Agrees}
 use Rattle.blk_entry.proofs.KeyPlaces.{ok_weaker}
 use Rattle.blk_lru.proofs.Conditions.{told_now, told_stays}
-use Rattle.blk_audit.specs.Chaining.{HasChains, words_reached}
+use Rattle.blk_audit.specs.Chaining.{AreChainsThere, words_reached}
 use Rattle.blk_audit.specs.Records.{AreRecordsOf}
 use Rattle.blk_audit.proofs.Carrying.{untold_last, untold_on}
 use Rattle.blk_audit.proofs.reaching.chains.Goals as goal
@@ -13,7 +13,7 @@ chains_over-requires g c = record { records = told_stays (λ image. AreRecordsOf
 
 pub returns-clause-checked : goal.returns-clause-checked
 returns-clause-checked g c =
-    ok_weaker c.chains_over.result _ (λ reached. ForSome (g.F.Folder.told c.args.f.now).files (λ image. HasChains c.args.files.now image (words_reached reached)))
+    ok_weaker c.chains_over.result _ (λ reached. ForSome (g.F.Folder.told c.args.f.now).files (λ image. AreChainsThere c.args.files.now image (words_reached reached)))
     (λ reached chains image there. chains image (told_now image c.in_ok-records.ensures.stays there)) c.chains_over.ensures.checked
 
 pub returns-in_err-records-clause-untold : goal.returns-in_err-records-clause-untold

@@ -3,7 +3,7 @@ use Rattle.blk_volume.specs.View.{store_of}
 use Rattle.blk_audit.specs.Records.{AreRecordsOf}
 use Rattle.blk_image.specs.Image.{Image}
 use Rattle.blk_lru.proofs.Conditions.{told_now, told_stays}
-use Rattle.blk_audit.specs.Chaining.{AreReachedThere, IsReach, IsTaken}
+use Rattle.blk_audit.specs.Chaining.{AreReachedThere, IsReach, IsStepTaken}
 use Rattle.blk_audit.proofs.Chained.{begins, goes_on, ends, is_full}
 use Rattle.blk_audit.proofs.ReadChains.{no_fewer, start_full, start_looked, way_begins, way_ends, way_full, way_goes_on}
 use Rattle.blk_audit.proofs.Shown.{others_apart}
@@ -29,7 +29,7 @@ loop-i-preserved g c =
       way = λ image there.
           let now = told_now image c.loop-i.invariant.stays there in
           way_goes_on c.args.files.now image c.args.reached.now.words.items c.loop-i.reached.words.items c.reach.new.reached.words.items c.args.start c.loop-i.word c.in-Some.next c.loop-i.i (c.loop-i.invariant.way image there) (c.in_ok-next.ensures.checked image now)
-          (subst (λ (o : Option ℕ). IsTaken c.args.files.now image c.loop-i.reached.words.items c.loop-i.word c.reach.new.reached.words.items o) c.in-Some.is (c.in_ok-next.ensures.taken image now));
+          (subst (λ (o : Option ℕ). IsStepTaken c.args.files.now image c.loop-i.reached.words.items c.loop-i.word c.reach.new.reached.words.items o) c.in-Some.is (c.in_ok-next.ensures.taken image now));
       stays = c.in_ok-next.ensures.stays ∙ c.loop-i.invariant.stays;
       later = omega (arith, c.in_ok-next.ensures.later, c.loop-i.invariant.later);
     }
@@ -55,21 +55,21 @@ pub returns-in-None-clause-checked : goal.returns-in-None-clause-checked
 returns-in-None-clause-checked g c image there =
     let now = told_now image c.loop-i.invariant.stays there in
     way_ends c.args.files.now image c.args.reached.now.words.items c.loop-i.reached.words.items c.reach.new.reached.words.items c.args.start c.loop-i.word c.loop-i.i (c.loop-i.invariant.way image there)
-    (subst (λ (o : Option ℕ). IsTaken c.args.files.now image c.loop-i.reached.words.items c.loop-i.word c.reach.new.reached.words.items o) c.in-None.is (c.in_ok-next.ensures.taken image now))
+    (subst (λ (o : Option ℕ). IsStepTaken c.args.files.now image c.loop-i.reached.words.items c.loop-i.word c.reach.new.reached.words.items o) c.in-None.is (c.in_ok-next.ensures.taken image now))
     (c.in_ok-next.ensures.checked image now)
 
 pub returns-in-None-clause-looked : goal.returns-in-None-clause-looked
 returns-in-None-clause-looked g c image there =
     let now = told_now image c.loop-i.invariant.stays there in
     start_looked c.args.files.now image c.args.reached.now.words.items c.loop-i.reached.words.items c.reach.new.reached.words.items c.args.start c.loop-i.word c.loop-i.i (c.loop-i.invariant.way image there)
-    (subst (λ (o : Option ℕ). IsTaken c.args.files.now image c.loop-i.reached.words.items c.loop-i.word c.reach.new.reached.words.items o) c.in-None.is (c.in_ok-next.ensures.taken image now))
+    (subst (λ (o : Option ℕ). IsStepTaken c.args.files.now image c.loop-i.reached.words.items c.loop-i.word c.reach.new.reached.words.items o) c.in-None.is (c.in_ok-next.ensures.taken image now))
     (c.in_ok-next.ensures.checked image now)
 
 pub returns-in-None-clause-more : goal.returns-in-None-clause-more
 returns-in-None-clause-more g c image there =
     let now = told_now image c.loop-i.invariant.stays there in
     no_fewer c.args.files.now image c.args.reached.now.words.items c.loop-i.reached.words.items c.reach.new.reached.words.items c.args.start c.loop-i.word c.loop-i.i (c.loop-i.invariant.way image there)
-    (subst (λ (o : Option ℕ). IsTaken c.args.files.now image c.loop-i.reached.words.items c.loop-i.word c.reach.new.reached.words.items o) c.in-None.is (c.in_ok-next.ensures.taken image now))
+    (subst (λ (o : Option ℕ). IsStepTaken c.args.files.now image c.loop-i.reached.words.items c.loop-i.word c.reach.new.reached.words.items o) c.in-None.is (c.in_ok-next.ensures.taken image now))
     (c.in_ok-next.ensures.checked image now)
 
 pub returns-clause-checked : goal.returns-clause-checked

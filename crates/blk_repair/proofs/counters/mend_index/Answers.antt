@@ -5,14 +5,14 @@ use Rattle.blk_image.specs.Steps.{word_step}
 use Rattle.blk_image.specs.Told.{Told, Applies}
 use Rattle.blk_image.proofs.Runs.{part_whole}
 use Rattle.blk_io.proofs.Carried.{silent_part}
-use Rattle.blk_repair.specs.Counters.{HasIndexWords, counter_words, crash_place, index_steps, index_words_steps}
+use Rattle.blk_repair.specs.Counters.{HasIndexWords, counted_words, crash_place, index_steps, index_words_steps}
 use Rattle.blk_repair.proofs.CounterRuns.{counted, crash-leads, index-done, index-leads, index-passes}
 use Rattle.blk_repair.proofs.Progress.{Progress, begun, ended, now_has, stopped, went_on}
 use Rattle.blk_repair.proofs.counters.mend_index.Goals as goal
 
 pub returns-in_err-set_words-clause-prefix : goal.returns-in_err-set_words-clause-prefix
 returns-in_err-set_words-clause-prefix g c = record {
-  made = stopped (begun (g.F.Folder.told c.args.f.now) (g.F.Folder.told c.args.f.now) (index_steps c.args.items c.args.bytes c.args.this_id) refl) (index_words_steps (counter_words c.args.items c.args.bytes c.args.this_id)) (λ _. word_step Index crash_place 1) (g.F.Folder.told c.set_words.new.f) (index-leads c.args.items c.args.bytes c.args.this_id) c.in_err-set_words.ensures.prefix.made;
+  made = stopped (begun (g.F.Folder.told c.args.f.now) (g.F.Folder.told c.args.f.now) (index_steps c.args.items c.args.bytes c.args.this_id) refl) (index_words_steps (counted_words c.args.items c.args.bytes c.args.this_id)) (λ _. word_step Index crash_place 1) (g.F.Folder.told c.set_words.new.f) (index-leads c.args.items c.args.bytes c.args.this_id) c.in_err-set_words.ensures.prefix.made;
   silent = c.in_err-set_words.ensures.prefix.silent;
 }
 
@@ -20,8 +20,8 @@ pub returns-in_err-set_words-clause-stops : goal.returns-in_err-set_words-clause
 returns-in_err-set_words-clause-stops g c = index-passes (g.F.Folder.told c.args.f.now) (g.F.Folder.told c.set_words.new.f) c.args.items c.args.bytes c.args.this_id (returns-in_err-set_words-clause-prefix g c).made
 
 -- the crash word is left
-half : (a m : Told) (items bytes id : ℕ) → ForSome a.files (λ from. Applies a m (index_words_steps (counter_words items bytes id) from)) → (a.files ≡ None → m.files ≡ None) → Progress a m (index_steps items bytes id) (λ _. word_step Index crash_place 1)
-half a m items bytes id made silent = went_on (begun a a (index_steps items bytes id) refl) (index_words_steps (counter_words items bytes id)) (λ _. word_step Index crash_place 1) m (index-leads items bytes id) made silent
+half : (a m : Told) (items bytes id : ℕ) → ForSome a.files (λ from. Applies a m (index_words_steps (counted_words items bytes id) from)) → (a.files ≡ None → m.files ≡ None) → Progress a m (index_steps items bytes id) (λ _. word_step Index crash_place 1)
+half a m items bytes id made silent = went_on (begun a a (index_steps items bytes id) refl) (index_words_steps (counted_words items bytes id)) (λ _. word_step Index crash_place 1) m (index-leads items bytes id) made silent
 
 pub returns-in_err-set_word-clause-prefix : goal.returns-in_err-set_word-clause-prefix
 returns-in_err-set_word-clause-prefix g c = record {

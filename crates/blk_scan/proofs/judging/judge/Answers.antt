@@ -9,7 +9,7 @@ use Rattle.blk_volume.specs.Loads.{held_rule}
 use Rattle.blk_volume.specs.View.{store_of}
 use Rattle.blk_disk.specs.Tables.{Agrees}
 use Rattle.blk_lru.proofs.Conditions.{told_stays}
-use Rattle.blk_scan.specs.Keyed.{HasKey}
+use Rattle.blk_scan.specs.Keyed.{HasItsKey}
 use Rattle.blk_scan.specs.Kept.{HaveKeys, IsWalked}
 use Rattle.blk_scan.specs.Verdicts.{IsVerdict}
 use Rattle.blk_scan.proofs.JudgedFacts.{all_of, has_key, judged, keys_with}
@@ -34,4 +34,4 @@ returns-in-Loaded-clause-untold g c agrees walked keys =
     let at = walked image there in
     let loaded = subst (IsVerdict (shown.load (store_of image) held_rule c.args.node)) c.in-Loaded.is (c.in_ok-loaded.ensures.verdict image there (agrees image there) at.fields at.chained) in
     let one = judged image [] c.args.node c.in-Loaded.loaded loaded in
-    all_of (HasKey image) c.in-Loaded.loaded c.args.kept.now.kept.items (has_key image one.loaded c.in-Loaded.loaded one.known) (keys image there))))
+    all_of (HasItsKey image) c.in-Loaded.loaded c.args.kept.now.kept.items (has_key image one.loaded c.in-Loaded.loaded one.known) (keys image there))))

@@ -5,7 +5,7 @@ use Rattle.blk_volume.specs.View.{store_of}
 use Rattle.blk_disk.specs.Tables.{Agrees}
 use Rattle.blk_audit.specs.ReadLists.{AreListsOf}
 use Rattle.blk_audit.specs.Walking.{nodes_walked}
-use Rattle.blk_scan.specs.Kept.{HaveKeys, IsInOrder}
+use Rattle.blk_scan.specs.Kept.{HaveKeys, IsKeptInOrder}
 use Rattle.blk_scan.specs.Passes.{AreTried, CanBeTried, of_pass}
 use Rattle.blk_scan.proofs.passes.try_pass.Given as goal
 
@@ -13,7 +13,7 @@ abbrev pub invariant-loop-i : goal.invariant-loop-i
 invariant-loop-i g l = record {
   tried : ForSome (g.F.Folder.told l.fn.f).files (λ image. Agrees l.files image → AreListsOf image l.lists → (before : List ℕ) → AreTried image (nodes_walked l.lists.walked) before l.fn.kept.kept.items l.fn.tried.items → AreTried image (nodes_walked l.lists.walked) (before ++ of_pass (store_of image) l.children (take l.i (nodes_walked l.lists.walked))) l.kept.kept.items l.tried.items);
   keys : ForSome (g.F.Folder.told l.fn.f).files (λ image. CanBeTried l.files l.lists l.fn.kept.kept.items image → HaveKeys image l.kept.kept.items);
-  order : IsInOrder l.files l.kept;
+  order : IsKeptInOrder l.files l.kept;
   stays : Stays (g.F.Folder.told l.fn.f) (g.F.Folder.told l.f);
   later : g.F.Folder.faults l.fn.f ≤ g.F.Folder.faults l.f;
 }

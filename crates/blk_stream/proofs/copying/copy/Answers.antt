@@ -1,7 +1,7 @@
 use Rattle.std.proofs.Common.{◌≡◌, ◌+◌, ℕ, None, length, take, drop, length-take, arith, subst}
 use Rattle.blk_image.specs.Footprint.{SameOutside}
 use Rattle.blk_io.proofs.Carried.{carried, if_damaged_weaker}
-use Rattle.blk_stream.specs.Copying.{IsCutRead, span_of}
+use Rattle.blk_stream.specs.Copying.{IsCutFront, span_of}
 use Rattle.blk_stream.proofs.PlacesLeft.{told_back}
 use Rattle.std.proofs.lemmas.List.{length-append, length-drop}
 use Rattle.blk_stream.proofs.Copies.{HasCopied, next_copied, piece_passes, there_still}
@@ -34,7 +34,7 @@ returns-in_err-copy_piece-clause-untold g c from_there =
 pub returns-in_err-copy_piece-clause-damaged : goal.returns-in_err-copy_piece-clause-damaged
 returns-in_err-copy_piece-clause-damaged g c =
     let n : length (take c.min-n.result c.loop-at.buffer) ≡ c.min-n.result = omega (arith, length-take c.min-n.result c.loop-at.buffer, c.loop-at.invariant.long, c.min-n.ensures) in
-    carried c.copy_piece.result c.from_residual.result c.in_err-copy_piece.field-0.0 (IsCutRead c.args.from c.args.end) c.in_err-copy_piece.was c.from_residual.ensures.1
+    carried c.copy_piece.result c.from_residual.result c.in_err-copy_piece.field-0.0 (IsCutFront c.args.from c.args.end) c.in_err-copy_piece.was c.from_residual.ensures.1
     (if_damaged_weaker c.copy_piece.result _ _
     (λ damage cut. record { at = c.loop-at.at; count = length (take c.min-n.result c.loop-at.buffer); within = omega (arith, n, c.min-n.ensures, c.loop-at-test.true); of_file = cut.of_file; at_place = cut.at_place; few = cut.few })
     c.copy_piece.ensures.damaged)

@@ -2,7 +2,7 @@ use Rattle.std.proofs.Common.{◌≡◌, ℕ, inl, inr, None, true, refl, sym, �
 use Rattle.blk_image.proofs.Runs.{passes_none, passes_weaker, some_inj}
 use Rattle.blk_io.proofs.Carried.{carried, if_damaged_weaker}
 use Rattle.blk_stream.specs.Streams.{may_keep}
-use Rattle.blk_stream.specs.Moving.{FillsInProgress, IsFillDamage, IsFilled}
+use Rattle.blk_stream.specs.Moving.{FillsInProgress, IsFillDamage, IsPlaceFilled}
 use Rattle.blk_stream.proofs.Placements.{both_fill, both_pass, fill_untold, none_filled, place_still}
 use Rattle.blk_stream.proofs.StreamPlaces.{keeps_inside, may_both, zero_kept}
 use Rattle.blk_stream.proofs.moving.filled_place.Goals as goal
@@ -12,7 +12,7 @@ returns-then-size-eq0-clause-fits g c = subst (λ (n : ℕ). may_keep c.args.fil
 
 pub returns-then-size-eq0-clause-filled : goal.returns-then-size-eq0-clause-filled
 returns-then-size-eq0-clause-filled g c from there can image now =
-    subst (IsFilled c.args.files.now c.args.old 0 c.args.size c.args.offset c.args.bytes.now from) (some_inj (sym there ∙ now))
+    subst (IsPlaceFilled c.args.files.now c.args.old 0 c.args.size c.args.offset c.args.bytes.now from) (some_inj (sym there ∙ now))
     (none_filled c.args.files.now c.args.old c.args.size c.args.offset c.args.bytes.now from (c.requires.agrees from there) c.if-size-eq0.true c.requires.few)
 
 pub returns-then-size-eq0-clause-stops : goal.returns-then-size-eq0-clause-stops

@@ -3,7 +3,7 @@ use Rattle.std.proofs.lemmas.Result.{on_ok_weaker}
 use Rattle.blk_image.proofs.Runs.{passes_weaker}
 use Rattle.blk_io.proofs.Carried.{carried}
 use Rattle.blk_stream.specs.Streams.{may_keep}
-use Rattle.blk_stream.specs.Moving.{IsFilled}
+use Rattle.blk_stream.specs.Moving.{IsPlaceFilled}
 use Rattle.blk_stream.proofs.StreamMoved.{can_fill, fill_writes, leave_back, leave_can, leave_done, leave_passes, name_done, name_passes}
 use Rattle.blk_stream.proofs.moving.write_moved.Goals as goal
 
@@ -20,21 +20,21 @@ returns-in_err-new-clause-untold g c can =
 
 pub returns-in-Some-clause-written : goal.returns-in-Some-clause-written
 returns-in-Some-clause-written g c =
-    on_ok_weaker c.leave_place.result (λ left. leave_done c.args.files.now c.filled_place.new.files c.args.entry c.args.stream c.args.size c.args.old c.requires.kind c.requires.stands c.requires.stream c.filled_place.ensures.keeps c.requires.old c.requires.some c.requires.other c.word_of-word.result c.args.offset c.args.bytes.now c.args.record_bytes.now (subst (λ (v : ℕ). may_keep c.filled_place.new.files c.args.size v ≡ true) (sym c.word_of-word.ensures) c.in_ok-new.ensures.fits) (g.F.Folder.told c.args.f.now) (g.F.Folder.told c.filled_place.new.f) (g.F.Folder.told c.leave_place.new.f) c.requires.agrees c.requires.words c.requires.read c.in_ok-new.ensures.stops (λ from there can image now. subst (λ (v : ℕ). IsFilled c.args.files.now c.args.old v c.args.size c.args.offset c.args.bytes.now from image) (sym c.word_of-word.ensures) (c.in_ok-new.ensures.filled from there can image now)) c.in-Some.addr c.in-Some.is left) c.leave_place.ensures.changed
+    on_ok_weaker c.leave_place.result (λ left. leave_done c.args.files.now c.filled_place.new.files c.args.entry c.args.stream c.args.size c.args.old c.requires.kind c.requires.stands c.requires.stream c.filled_place.ensures.keeps c.requires.old c.requires.some c.requires.other c.word_of-word.result c.args.offset c.args.bytes.now c.args.record_bytes.now (subst (λ (v : ℕ). may_keep c.filled_place.new.files c.args.size v ≡ true) (sym c.word_of-word.ensures) c.in_ok-new.ensures.fits) (g.F.Folder.told c.args.f.now) (g.F.Folder.told c.filled_place.new.f) (g.F.Folder.told c.leave_place.new.f) c.requires.agrees c.requires.words c.requires.read c.in_ok-new.ensures.stops (λ from there can image now. subst (λ (v : ℕ). IsPlaceFilled c.args.files.now c.args.old v c.args.size c.args.offset c.args.bytes.now from image) (sym c.word_of-word.ensures) (c.in_ok-new.ensures.filled from there can image now)) c.in-Some.addr c.in-Some.is left) c.leave_place.ensures.changed
 
 pub returns-in-Some-clause-stops : goal.returns-in-Some-clause-stops
-returns-in-Some-clause-stops g c = leave_passes c.args.files.now c.filled_place.new.files c.args.entry c.args.stream c.args.size c.args.old c.requires.kind c.requires.stands c.requires.stream c.filled_place.ensures.keeps c.requires.old c.requires.some c.requires.other c.word_of-word.result c.args.offset c.args.bytes.now c.args.record_bytes.now (subst (λ (v : ℕ). may_keep c.filled_place.new.files c.args.size v ≡ true) (sym c.word_of-word.ensures) c.in_ok-new.ensures.fits) (g.F.Folder.told c.args.f.now) (g.F.Folder.told c.filled_place.new.f) (g.F.Folder.told c.leave_place.new.f) c.requires.agrees c.requires.words c.requires.read c.in_ok-new.ensures.stops (λ from there can image now. subst (λ (v : ℕ). IsFilled c.args.files.now c.args.old v c.args.size c.args.offset c.args.bytes.now from image) (sym c.word_of-word.ensures) (c.in_ok-new.ensures.filled from there can image now)) c.in-Some.addr c.in-Some.is c.leave_place.ensures.stops
+returns-in-Some-clause-stops g c = leave_passes c.args.files.now c.filled_place.new.files c.args.entry c.args.stream c.args.size c.args.old c.requires.kind c.requires.stands c.requires.stream c.filled_place.ensures.keeps c.requires.old c.requires.some c.requires.other c.word_of-word.result c.args.offset c.args.bytes.now c.args.record_bytes.now (subst (λ (v : ℕ). may_keep c.filled_place.new.files c.args.size v ≡ true) (sym c.word_of-word.ensures) c.in_ok-new.ensures.fits) (g.F.Folder.told c.args.f.now) (g.F.Folder.told c.filled_place.new.f) (g.F.Folder.told c.leave_place.new.f) c.requires.agrees c.requires.words c.requires.read c.in_ok-new.ensures.stops (λ from there can image now. subst (λ (v : ℕ). IsPlaceFilled c.args.files.now c.args.old v c.args.size c.args.offset c.args.bytes.now from image) (sym c.word_of-word.ensures) (c.in_ok-new.ensures.filled from there can image now)) c.in-Some.addr c.in-Some.is c.leave_place.ensures.stops
 
 pub returns-in-Some-clause-untold : goal.returns-in-Some-clause-untold
 returns-in-Some-clause-untold g c can =
-    leave_back c.args.files.now c.filled_place.new.files c.args.entry c.args.stream c.args.size c.args.old c.requires.kind c.requires.stands c.requires.stream c.filled_place.ensures.keeps c.requires.old c.requires.some c.requires.other c.word_of-word.result c.args.offset c.args.bytes.now c.args.record_bytes.now (subst (λ (v : ℕ). may_keep c.filled_place.new.files c.args.size v ≡ true) (sym c.word_of-word.ensures) c.in_ok-new.ensures.fits) (g.F.Folder.told c.args.f.now) (g.F.Folder.told c.filled_place.new.f) (g.F.Folder.told c.leave_place.new.f) c.requires.agrees c.requires.words c.requires.read c.in_ok-new.ensures.stops (λ from there can image now. subst (λ (v : ℕ). IsFilled c.args.files.now c.args.old v c.args.size c.args.offset c.args.bytes.now from image) (sym c.word_of-word.ensures) (c.in_ok-new.ensures.filled from there can image now)) c.in-Some.addr c.in-Some.is c.leave_place.result c.filled_place.ensures.silent can
-    (c.leave_place.ensures.untold (leave_can c.args.files.now c.filled_place.new.files c.args.entry c.args.stream c.args.size c.args.old c.requires.kind c.requires.stands c.requires.stream c.filled_place.ensures.keeps c.requires.old c.requires.some c.requires.other c.word_of-word.result c.args.offset c.args.bytes.now c.args.record_bytes.now (subst (λ (v : ℕ). may_keep c.filled_place.new.files c.args.size v ≡ true) (sym c.word_of-word.ensures) c.in_ok-new.ensures.fits) (g.F.Folder.told c.args.f.now) (g.F.Folder.told c.filled_place.new.f) (g.F.Folder.told c.leave_place.new.f) c.requires.agrees c.requires.words c.requires.read c.in_ok-new.ensures.stops (λ from there can image now. subst (λ (v : ℕ). IsFilled c.args.files.now c.args.old v c.args.size c.args.offset c.args.bytes.now from image) (sym c.word_of-word.ensures) (c.in_ok-new.ensures.filled from there can image now)) c.in-Some.addr c.in-Some.is c.filled_place.ensures.silent can))
+    leave_back c.args.files.now c.filled_place.new.files c.args.entry c.args.stream c.args.size c.args.old c.requires.kind c.requires.stands c.requires.stream c.filled_place.ensures.keeps c.requires.old c.requires.some c.requires.other c.word_of-word.result c.args.offset c.args.bytes.now c.args.record_bytes.now (subst (λ (v : ℕ). may_keep c.filled_place.new.files c.args.size v ≡ true) (sym c.word_of-word.ensures) c.in_ok-new.ensures.fits) (g.F.Folder.told c.args.f.now) (g.F.Folder.told c.filled_place.new.f) (g.F.Folder.told c.leave_place.new.f) c.requires.agrees c.requires.words c.requires.read c.in_ok-new.ensures.stops (λ from there can image now. subst (λ (v : ℕ). IsPlaceFilled c.args.files.now c.args.old v c.args.size c.args.offset c.args.bytes.now from image) (sym c.word_of-word.ensures) (c.in_ok-new.ensures.filled from there can image now)) c.in-Some.addr c.in-Some.is c.leave_place.result c.filled_place.ensures.silent can
+    (c.leave_place.ensures.untold (leave_can c.args.files.now c.filled_place.new.files c.args.entry c.args.stream c.args.size c.args.old c.requires.kind c.requires.stands c.requires.stream c.filled_place.ensures.keeps c.requires.old c.requires.some c.requires.other c.word_of-word.result c.args.offset c.args.bytes.now c.args.record_bytes.now (subst (λ (v : ℕ). may_keep c.filled_place.new.files c.args.size v ≡ true) (sym c.word_of-word.ensures) c.in_ok-new.ensures.fits) (g.F.Folder.told c.args.f.now) (g.F.Folder.told c.filled_place.new.f) (g.F.Folder.told c.leave_place.new.f) c.requires.agrees c.requires.words c.requires.read c.in_ok-new.ensures.stops (λ from there can image now. subst (λ (v : ℕ). IsPlaceFilled c.args.files.now c.args.old v c.args.size c.args.offset c.args.bytes.now from image) (sym c.word_of-word.ensures) (c.in_ok-new.ensures.filled from there can image now)) c.in-Some.addr c.in-Some.is c.filled_place.ensures.silent can))
 
 pub returns-in_err-name_place-in-None-clause-stops : goal.returns-in_err-name_place-in-None-clause-stops
-returns-in_err-name_place-in-None-clause-stops g c = name_passes c.args.files.now c.filled_place.new.files c.args.entry c.args.stream c.args.size c.args.old c.requires.kind c.requires.stands c.requires.stream c.filled_place.ensures.keeps c.requires.old c.requires.some c.requires.other c.word_of-word.result c.args.offset c.args.bytes.now c.args.record_bytes.now (subst (λ (v : ℕ). may_keep c.filled_place.new.files c.args.size v ≡ true) (sym c.word_of-word.ensures) c.in_ok-new.ensures.fits) (g.F.Folder.told c.args.f.now) (g.F.Folder.told c.filled_place.new.f) (g.F.Folder.told c.name_place.new.f) c.requires.agrees c.requires.words c.requires.read c.in_ok-new.ensures.stops (λ from there can image now. subst (λ (v : ℕ). IsFilled c.args.files.now c.args.old v c.args.size c.args.offset c.args.bytes.now from image) (sym c.word_of-word.ensures) (c.in_ok-new.ensures.filled from there can image now)) c.in-None.is c.in_err-name_place-in-None.ensures.stops
+returns-in_err-name_place-in-None-clause-stops g c = name_passes c.args.files.now c.filled_place.new.files c.args.entry c.args.stream c.args.size c.args.old c.requires.kind c.requires.stands c.requires.stream c.filled_place.ensures.keeps c.requires.old c.requires.some c.requires.other c.word_of-word.result c.args.offset c.args.bytes.now c.args.record_bytes.now (subst (λ (v : ℕ). may_keep c.filled_place.new.files c.args.size v ≡ true) (sym c.word_of-word.ensures) c.in_ok-new.ensures.fits) (g.F.Folder.told c.args.f.now) (g.F.Folder.told c.filled_place.new.f) (g.F.Folder.told c.name_place.new.f) c.requires.agrees c.requires.words c.requires.read c.in_ok-new.ensures.stops (λ from there can image now. subst (λ (v : ℕ). IsPlaceFilled c.args.files.now c.args.old v c.args.size c.args.offset c.args.bytes.now from image) (sym c.word_of-word.ensures) (c.in_ok-new.ensures.filled from there can image now)) c.in-None.is c.in_err-name_place-in-None.ensures.stops
 
 pub returns-in_ok-name_place-in-None-clause-written : goal.returns-in_ok-name_place-in-None-clause-written
-returns-in_ok-name_place-in-None-clause-written g c = name_done c.args.files.now c.filled_place.new.files c.args.entry c.args.stream c.args.size c.args.old c.requires.kind c.requires.stands c.requires.stream c.filled_place.ensures.keeps c.requires.old c.requires.some c.requires.other c.word_of-word.result c.args.offset c.args.bytes.now c.args.record_bytes.now (subst (λ (v : ℕ). may_keep c.filled_place.new.files c.args.size v ≡ true) (sym c.word_of-word.ensures) c.in_ok-new.ensures.fits) (g.F.Folder.told c.args.f.now) (g.F.Folder.told c.filled_place.new.f) (g.F.Folder.told c.name_place.new.f) c.requires.agrees c.requires.words c.requires.read c.in_ok-new.ensures.stops (λ from there can image now. subst (λ (v : ℕ). IsFilled c.args.files.now c.args.old v c.args.size c.args.offset c.args.bytes.now from image) (sym c.word_of-word.ensures) (c.in_ok-new.ensures.filled from there can image now)) c.in-None.is c.in_ok-name_place-in-None.ensures.stops c.in_ok-name_place-in-None.ensures.named
+returns-in_ok-name_place-in-None-clause-written g c = name_done c.args.files.now c.filled_place.new.files c.args.entry c.args.stream c.args.size c.args.old c.requires.kind c.requires.stands c.requires.stream c.filled_place.ensures.keeps c.requires.old c.requires.some c.requires.other c.word_of-word.result c.args.offset c.args.bytes.now c.args.record_bytes.now (subst (λ (v : ℕ). may_keep c.filled_place.new.files c.args.size v ≡ true) (sym c.word_of-word.ensures) c.in_ok-new.ensures.fits) (g.F.Folder.told c.args.f.now) (g.F.Folder.told c.filled_place.new.f) (g.F.Folder.told c.name_place.new.f) c.requires.agrees c.requires.words c.requires.read c.in_ok-new.ensures.stops (λ from there can image now. subst (λ (v : ℕ). IsPlaceFilled c.args.files.now c.args.old v c.args.size c.args.offset c.args.bytes.now from image) (sym c.word_of-word.ensures) (c.in_ok-new.ensures.filled from there can image now)) c.in-None.is c.in_ok-name_place-in-None.ensures.stops c.in_ok-name_place-in-None.ensures.named
 
 pub returns-in_ok-name_place-in-None-clause-stops : goal.returns-in_ok-name_place-in-None-clause-stops
-returns-in_ok-name_place-in-None-clause-stops g c = name_passes c.args.files.now c.filled_place.new.files c.args.entry c.args.stream c.args.size c.args.old c.requires.kind c.requires.stands c.requires.stream c.filled_place.ensures.keeps c.requires.old c.requires.some c.requires.other c.word_of-word.result c.args.offset c.args.bytes.now c.args.record_bytes.now (subst (λ (v : ℕ). may_keep c.filled_place.new.files c.args.size v ≡ true) (sym c.word_of-word.ensures) c.in_ok-new.ensures.fits) (g.F.Folder.told c.args.f.now) (g.F.Folder.told c.filled_place.new.f) (g.F.Folder.told c.name_place.new.f) c.requires.agrees c.requires.words c.requires.read c.in_ok-new.ensures.stops (λ from there can image now. subst (λ (v : ℕ). IsFilled c.args.files.now c.args.old v c.args.size c.args.offset c.args.bytes.now from image) (sym c.word_of-word.ensures) (c.in_ok-new.ensures.filled from there can image now)) c.in-None.is c.in_ok-name_place-in-None.ensures.stops
+returns-in_ok-name_place-in-None-clause-stops g c = name_passes c.args.files.now c.filled_place.new.files c.args.entry c.args.stream c.args.size c.args.old c.requires.kind c.requires.stands c.requires.stream c.filled_place.ensures.keeps c.requires.old c.requires.some c.requires.other c.word_of-word.result c.args.offset c.args.bytes.now c.args.record_bytes.now (subst (λ (v : ℕ). may_keep c.filled_place.new.files c.args.size v ≡ true) (sym c.word_of-word.ensures) c.in_ok-new.ensures.fits) (g.F.Folder.told c.args.f.now) (g.F.Folder.told c.filled_place.new.f) (g.F.Folder.told c.name_place.new.f) c.requires.agrees c.requires.words c.requires.read c.in_ok-new.ensures.stops (λ from there can image now. subst (λ (v : ℕ). IsPlaceFilled c.args.files.now c.args.old v c.args.size c.args.offset c.args.bytes.now from image) (sym c.word_of-word.ensures) (c.in_ok-new.ensures.filled from there can image now)) c.in-None.is c.in_ok-name_place-in-None.ensures.stops

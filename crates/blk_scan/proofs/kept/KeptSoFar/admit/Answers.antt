@@ -2,7 +2,7 @@ use Rattle.std.proofs.Common.{◌≡◌, ◌∙◌, ◌++◌, ◌∷◌, [], Lis
 use Rattle.std.specs.Prelude.{All, is_some, not}
 use Rattle.std.proofs.lemmas.List.Elements.{All-push}
 use Rattle.blk_volume.specs.Audit as audit
-use Rattle.blk_scan.specs.Kept.{AreShown, IsAnswer, kept_with}
+use Rattle.blk_scan.specs.Kept.{AreShown, IsSameAnswer, kept_with}
 use Rattle.blk_scan.specs.Readable.{IsReadable}
 use Rattle.blk_scan.specs.declared.loading.Loaded.{Loaded}
 use Rattle.blk_scan.specs.declared.reason.Reason.{Reason}
@@ -27,7 +27,7 @@ pub returns-in_ok-keep-clause-shown : goal.returns-in_ok-keep-clause-shown
 returns-in_ok-keep-clause-shown g c image there agrees kept given are known =
     let none = no_reason c.in_ok-reason.reason (c.is_none.ensures ∙ ap not c.if-is_none.true) in
     subst (AreShown image (audit.with_verdict kept (audit.admit kept given))) (sym c.in_ok-keep.ensures.kept)
-    (shown_with image kept c.args.self.now.kept.items given c.args.loaded None are known (subst (IsAnswer (audit.admit kept given)) none (c.in_ok-reason.ensures.answer image there agrees kept given are known)))
+    (shown_with image kept c.args.self.now.kept.items given c.args.loaded None are known (subst (IsSameAnswer (audit.admit kept given)) none (c.in_ok-reason.ensures.answer image there agrees kept given are known)))
 
 pub returns-in_ok-keep-clause-order : goal.returns-in_ok-keep-clause-order
 returns-in_ok-keep-clause-order g c =

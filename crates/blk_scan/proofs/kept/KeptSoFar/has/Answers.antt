@@ -5,8 +5,8 @@ use Rattle.blk_io.proofs.Carried.{carried, if_damaged_weaker}
 use Rattle.blk_volume.specs.Loads as shown
 use Rattle.blk_disk.specs.Tables.{Agrees}
 use Rattle.blk_lru.proofs.Conditions.{told_before, told_now, told_stays}
-use Rattle.blk_scan.specs.Keyed.{HasKey}
-use Rattle.blk_scan.specs.Kept.{IsShown, is_sought}
+use Rattle.blk_scan.specs.Keyed.{HasItsKey}
+use Rattle.blk_scan.specs.Kept.{IsLoadedFrom, is_sought}
 use Rattle.blk_scan.specs.Readable.{IsReadable}
 use Rattle.blk_scan.specs.declared.loading.Loaded.{Loaded}
 use Rattle.blk_scan.proofs.Searched.{HoldsBehind, StandsAt, all_at, found_in, more_behind, none_in, none_past, nothing_behind, search_begins, search_goes_on}
@@ -18,7 +18,7 @@ loop-place-init g c =
     let last = c.last-place.ensures (map (λ (k : Loaded). k.hash) c.args.self.now.kept.items) c.requires.order.indexed.by_hash in
     record {
       stands = search_begins c.args.self.now.kept.items c.args.hash c.last-place.result last;
-      looked = λ image there agrees. nothing_behind c.args.self.now.kept.items c.args.hash (λ one. (loaded : shown.Loaded) → IsShown image loaded one → is_sought c.args.sought c.args.key.now loaded ≡ false) c.last-place.result last;
+      looked = λ image there agrees. nothing_behind c.args.self.now.kept.items c.args.hash (λ one. (loaded : shown.Loaded) → IsLoadedFrom image loaded one → is_sought c.args.sought c.args.key.now loaded ≡ false) c.last-place.result last;
       stays = refl;
       later = omega arith;
     }
@@ -38,11 +38,11 @@ returns-in_err-fits-clause-untold g c agrees keys =
     carried c.fits.result c.from_residual.result c.in_err-fits.field-0.0 _ c.in_err-fits.was c.from_residual.ensures.1
     (if_damaged_weaker c.fits.result _ _ (λ damage none. ap (λ (t : Told). t.files) (sym c.loop-place.invariant.stays) ∙ none)
     (c.fits.ensures.untold (told_stays (Agrees c.args.files.now) c.loop-place.invariant.stays agrees)
-    (λ image now. all_at (HasKey image) c.args.self.now.kept.items c.in-Some.i c.in-Some-at.kept (keys image (told_before image c.loop-place.invariant.stays now)) (sym c.at.ensures ∙ c.in-Some-at.is))))
+    (λ image now. all_at (HasItsKey image) c.args.self.now.kept.items c.in-Some.i c.in-Some-at.kept (keys image (told_before image c.loop-place.invariant.stays now)) (sym c.at.ensures ∙ c.in-Some-at.is))))
 
 pub returns-then-branch-clause-has : goal.returns-then-branch-clause-has
 returns-then-branch-clause-has g c image there agrees hash kept are =
-    sym (found_in (IsShown image) (is_sought c.args.sought c.args.key.now) kept c.args.self.now.kept.items c.in-Some.i c.in-Some-at.kept are (sym c.at.ensures ∙ c.in-Some-at.is)
+    sym (found_in (IsLoadedFrom image) (is_sought c.args.sought c.args.key.now) kept c.args.self.now.kept.items c.in-Some.i c.in-Some-at.kept are (sym c.at.ensures ∙ c.in-Some-at.is)
     (λ loaded known. sym (c.in_ok-fits.ensures.fits image (told_now image c.loop-place.invariant.stays there) agrees loaded known) ∙ c.if-branch.true))
 
 pub loop-place-preserved : goal.loop-place-preserved
@@ -52,15 +52,15 @@ loop-place-preserved g c =
     record {
       stands = search_goes_on c.args.self.now.kept.items c.args.hash c.in-Some.i here c.before-place.result last;
       looked = λ image there agrees.
-          more_behind c.args.self.now.kept.items c.args.hash c.in-Some.i here (λ one. (loaded : shown.Loaded) → IsShown image loaded one → is_sought c.args.sought c.args.key.now loaded ≡ false) c.before-place.result c.in-Some-at.kept last (sym c.at.ensures ∙ c.in-Some-at.is)
+          more_behind c.args.self.now.kept.items c.args.hash c.in-Some.i here (λ one. (loaded : shown.Loaded) → IsLoadedFrom image loaded one → is_sought c.args.sought c.args.key.now loaded ≡ false) c.before-place.result c.in-Some-at.kept last (sym c.at.ensures ∙ c.in-Some-at.is)
           (λ loaded known. sym (c.in_ok-fits.ensures.fits image (told_now image c.loop-place.invariant.stays there) agrees loaded known) ∙ c.if-branch.false)
-          (subst (λ (p : Option ℕ). HoldsBehind c.args.self.now.kept.items c.args.hash p (λ one. (loaded : shown.Loaded) → IsShown image loaded one → is_sought c.args.sought c.args.key.now loaded ≡ false)) c.in-Some.is (c.loop-place.invariant.looked image there agrees));
+          (subst (λ (p : Option ℕ). HoldsBehind c.args.self.now.kept.items c.args.hash p (λ one. (loaded : shown.Loaded) → IsLoadedFrom image loaded one → is_sought c.args.sought c.args.key.now loaded ≡ false)) c.in-Some.is (c.loop-place.invariant.looked image there agrees));
       stays = c.in_ok-fits.ensures.stays ∙ c.loop-place.invariant.stays;
       later = omega (arith, c.in_ok-fits.ensures.later, c.loop-place.invariant.later);
     }
 
 pub returns-clause-has : goal.returns-clause-has
 returns-clause-has g c image there agrees hash kept are =
-    let looked = subst (λ (p : Option ℕ). HoldsBehind c.args.self.now.kept.items c.args.hash p (λ one. (loaded : shown.Loaded) → IsShown image loaded one → is_sought c.args.sought c.args.key.now loaded ≡ false)) c.in_default.is (c.loop-place.invariant.looked image there agrees) in
-    sym (none_in (IsShown image) (is_sought c.args.sought c.args.key.now) kept c.args.self.now.kept.items are
+    let looked = subst (λ (p : Option ℕ). HoldsBehind c.args.self.now.kept.items c.args.hash p (λ one. (loaded : shown.Loaded) → IsLoadedFrom image loaded one → is_sought c.args.sought c.args.key.now loaded ≡ false)) c.in_default.is (c.loop-place.invariant.looked image there agrees) in
+    sym (none_in (IsLoadedFrom image) (is_sought c.args.sought c.args.key.now) kept c.args.self.now.kept.items are
     (λ i one at loaded known. none_by_hash image c.args.sought c.args.key.now c.args.hash loaded one hash known (λ same. looked i one tt at same loaded known)))

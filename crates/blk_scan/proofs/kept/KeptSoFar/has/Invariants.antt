@@ -3,7 +3,7 @@ use Rattle.std.specs.Option.{ForSome}
 use Rattle.blk_image.specs.Told.{Stays}
 use Rattle.blk_volume.specs.Loads as shown
 use Rattle.blk_disk.specs.Tables.{Agrees}
-use Rattle.blk_scan.specs.Kept.{IsShown, is_sought}
+use Rattle.blk_scan.specs.Kept.{IsLoadedFrom, is_sought}
 use Rattle.blk_scan.specs.declared.loading.Loaded.{Loaded}
 use Rattle.blk_scan.proofs.Searched.{HoldsBehind, StandsAt, places_left}
 use Rattle.blk_scan.proofs.kept.KeptSoFar.has.Given as goal
@@ -11,7 +11,7 @@ use Rattle.blk_scan.proofs.kept.KeptSoFar.has.Given as goal
 abbrev pub invariant-loop-place : goal.invariant-loop-place
 invariant-loop-place g l = record {
   stands : StandsAt (map (λ (k : Loaded). k.hash) l.self.kept.items) l.hash l.place;
-  looked : ForSome (g.F.Folder.told l.fn.f).files (λ image. Agrees l.files image → HoldsBehind l.self.kept.items l.hash l.place (λ one. (loaded : shown.Loaded) → IsShown image loaded one → is_sought l.sought l.key loaded ≡ false));
+  looked : ForSome (g.F.Folder.told l.fn.f).files (λ image. Agrees l.files image → HoldsBehind l.self.kept.items l.hash l.place (λ one. (loaded : shown.Loaded) → IsLoadedFrom image loaded one → is_sought l.sought l.key loaded ≡ false));
   stays : Stays (g.F.Folder.told l.fn.f) (g.F.Folder.told l.f);
   later : g.F.Folder.faults l.fn.f ≤ g.F.Folder.faults l.f;
 }

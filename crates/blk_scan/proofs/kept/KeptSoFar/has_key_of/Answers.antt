@@ -9,8 +9,8 @@ use Rattle.blk_io.proofs.Carried.{carried, if_damaged_weaker}
 use Rattle.blk_volume.specs.Loads as shown
 use Rattle.blk_disk.specs.Tables.{Agrees}
 use Rattle.blk_lru.proofs.Conditions.{told_now, told_stays}
-use Rattle.blk_scan.specs.Keyed.{HasKey}
-use Rattle.blk_scan.specs.Kept.{AreShown, HaveKeys, IsShown, is_sought}
+use Rattle.blk_scan.specs.Keyed.{HasItsKey}
+use Rattle.blk_scan.specs.Kept.{AreShown, HaveKeys, IsLoadedFrom, is_sought}
 use Rattle.blk_scan.proofs.KeptKeysFound.{keys-found}
 use Rattle.blk_scan.proofs.Searched.{all_first, all_others}
 use Rattle.blk_scan.proofs.kept.KeptSoFar.has_key_of.Goals as goal
@@ -18,12 +18,12 @@ use Rattle.blk_scan.proofs.kept.KeptSoFar.has_key_of.Goals as goal
 pub returns-in_err-read_key_of-clause-untold : goal.returns-in_err-read_key_of-clause-untold
 returns-in_err-read_key_of-clause-untold g c agrees keys =
     carried c.read_key_of.result c.from_residual.result c.in_err-read_key_of.field-0.0 _ c.in_err-read_key_of.was c.from_residual.ensures.1
-    (c.read_key_of.ensures.untold agrees (λ image there. all_first (HasKey image) c.args.loaded.now c.args.self.now.kept.items (keys image there)))
+    (c.read_key_of.ensures.untold agrees (λ image there. all_first (HasItsKey image) c.args.loaded.now c.args.self.now.kept.items (keys image there)))
 
 pub returns-clause-has : goal.returns-clause-has
 returns-clause-has g c =
     IfOk-weaker c.has.result _
-    (λ has. ForSome (g.F.Folder.told c.args.f.now).files (λ image. Agrees c.args.files.now image → (kept : List shown.Loaded) (given : shown.Loaded) → AreShown image kept c.args.self.now.kept.items → IsShown image given c.args.loaded.now
+    (λ has. ForSome (g.F.Folder.told c.args.f.now).files (λ image. Agrees c.args.files.now image → (kept : List shown.Loaded) (given : shown.Loaded) → AreShown image kept c.args.self.now.kept.items → IsLoadedFrom image given c.args.loaded.now
     → has ≡ list_any (is_sought c.args.sought given.key) kept))
     (λ has is image there agrees kept given are known.
     let key = keys-found image known.node given c.args.loaded.now known.loads known.is in
@@ -35,4 +35,4 @@ pub returns-clause-untold : goal.returns-clause-untold
 returns-clause-untold g c agrees keys =
     if_damaged_weaker c.has.result _ _ (λ damage none. ap (λ (t : Told). t.files) (sym c.in_ok-read_key_of.ensures.stays) ∙ none)
     (c.has.ensures.untold (told_stays (Agrees c.args.files.now) c.in_ok-read_key_of.ensures.stays agrees)
-    (told_stays (λ (image : Image). HaveKeys image c.args.self.now.kept.items) c.in_ok-read_key_of.ensures.stays (λ image there. all_others (HasKey image) c.args.loaded.now c.args.self.now.kept.items (keys image there))))
+    (told_stays (λ (image : Image). HaveKeys image c.args.self.now.kept.items) c.in_ok-read_key_of.ensures.stays (λ image there. all_others (HasItsKey image) c.args.loaded.now c.args.self.now.kept.items (keys image there))))

@@ -5,7 +5,7 @@ use Rattle.blk_entry.proofs.KeyPlaces.{may_have_parts}
 use Rattle.blk_volume.specs.Audit as audit
 use Rattle.blk_volume.specs.Loads as shown
 use Rattle.blk_disk.specs.Tables.{Agrees}
-use Rattle.blk_scan.specs.Kept.{AreShown, IsShown, is_part_said}
+use Rattle.blk_scan.specs.Kept.{AreShown, IsLoadedFrom, is_part_said}
 use Rattle.blk_scan.proofs.AdmitFacts.{no_orphan}
 use Rattle.blk_scan.proofs.SoughtFacts.{part_said}
 use Rattle.blk_scan.proofs.kept.KeptSoFar.is_orphan.Goals as goal
@@ -22,6 +22,6 @@ lacks_parent-requires-clause-short g c = (may_have_parts c.args.loaded.now.entry
 pub returns-in-Part-clause-orphan : goal.returns-in-Part-clause-orphan
 returns-in-Part-clause-orphan g c =
     IfOk-weaker c.lacks_parent.result _
-    (λ orphan. ForSome (g.F.Folder.told c.args.f.now).files (λ image. Agrees c.args.files.now image → (kept : List shown.Loaded) (given : shown.Loaded) → AreShown image kept c.args.self.now.kept.items → IsShown image given c.args.loaded.now → orphan ≡ audit.is_orphan kept given))
+    (λ orphan. ForSome (g.F.Folder.told c.args.f.now).files (λ image. Agrees c.args.files.now image → (kept : List shown.Loaded) (given : shown.Loaded) → AreShown image kept c.args.self.now.kept.items → IsLoadedFrom image given c.args.loaded.now → orphan ≡ audit.is_orphan kept given))
     (λ orphan is image there agrees kept given are known. is image there agrees kept given are known (part_said given.key given.role c.args.loaded.now.role known.is.role ∙ ap is_part_said c.in-Part.is))
     c.lacks_parent.ensures.orphan
