@@ -49,11 +49,7 @@ pub fn end_at<F: Folder>(f: &mut F, files: &BlockFiles, last: Option<Addr>) -> R
 }
 
 // What makes a node the last of the list, or the list empty, by two folder calls.
-fn ending_of<F: Folder>(
-    f: &mut F,
-    files: &BlockFiles,
-    last: Option<Addr>,
-) -> Result<Plan, Fault>
+fn ending_of<F: Folder>(f: &mut F, files: &BlockFiles, last: Option<Addr>) -> Result<Plan, Fault>
     requires stands { IfSome last (λ node. is_node_among files.now node ≡ true) }
     ensures plan { IfOk result (λ plan. ForSome (F.told f.old).files (λ image. Agrees files.now image → map meant plan.items ≡ ending_writes (list_of image) last)) }
     ensures stand { IfOk result (λ plan. AreOf (λ n. is_node_among files.now n ≡ true) (map meant plan.items)) }
@@ -70,11 +66,7 @@ fn ending_of<F: Folder>(
 }
 
 // The next of a node, or the head of the list where there is none.
-fn front_word<F: Folder>(
-    f: &mut F,
-    files: &BlockFiles,
-    last: Option<Addr>,
-) -> Result<u32, Fault>
+fn front_word<F: Folder>(f: &mut F, files: &BlockFiles, last: Option<Addr>) -> Result<u32, Fault>
     requires stands { IfSome last (λ node. is_node_among files.now node ≡ true) }
     ensures word { IfOk result (λ front. ForSome (F.told f.old).files (λ image. Agrees files.now image → front ≡ front_of (list_of image) last)) }
     ensures stays { Stays (F.told f.old) (F.told f.new) }

@@ -73,7 +73,7 @@ returns-clause-steps g c =
 pub returns-clause-prefix : goal.returns-clause-prefix
 returns-clause-prefix g c = record {
   made = touching g c (λ from ws. AppliesPrefix (g.F.Folder.told c.args.f.now) (g.F.Folder.told c.move_behind.new.f) (steps_of_writes ws from))
-    (subst (λ (t : Told). ForSome (g.F.Folder.told c.first.new.f).files (λ from. AppliesPrefix t (g.F.Folder.told c.move_behind.new.f) (steps_of_writes (writes_of 3 c.args.node (list_of from)) from))) c.in_ok-head.ensures.stays c.move_behind.ensures.prefix.made);
+      (subst (λ (t : Told). ForSome (g.F.Folder.told c.first.new.f).files (λ from. AppliesPrefix t (g.F.Folder.told c.move_behind.new.f) (steps_of_writes (writes_of 3 c.args.node (list_of from)) from))) c.in_ok-head.ensures.stays c.move_behind.ensures.prefix.made);
   silent = search rules;
 }
 

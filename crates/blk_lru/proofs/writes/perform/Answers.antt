@@ -26,15 +26,15 @@ write_one-requires-clause-is_open g c image there =
 pub returns-in_err-write_one-clause-prefix : goal.returns-in_err-write_one-clause-prefix
 returns-in_err-write_one-clause-prefix g c = record {
   made = let old = g.F.Folder.told c.args.f.now in
-    let ws : List ListWrite = map meant c.args.writes.now in
-    let ready = told_ready c.args.files.now old c.requires.is_open (g.met.F.Folder.are_bytes c.args.f.now) in
-    let now = g.F.Folder.told c.loop-write.f in
-    let left : List ListWrite = map meant (drop (c.loop-write.write-index + 1) c.args.writes.now) in
-    let reached : Reached old now ws (meant c.write-item.result ∷ left) = subst (Reached old now ws) (at_item c.args.writes.now c.loop-write.write-index c.write-item.result c.write-item.result c.loop-write-test.true (sym c.write-item.is)) c.loop-write.invariant.reached in
-    let next = g.F.Folder.told c.write_one.new.f in
-    let part = in_part c.args.files.now old ws ready c.requires.words now next (meant c.write-item.result) left reached c.in_err-write_one.ensures.prefix.made in
-    let silent : old.files ≡ None → next.files ≡ None = λ none. c.in_err-write_one.ensures.prefix.silent (reached.wrote.silent none) in
-    part;
+      let ws : List ListWrite = map meant c.args.writes.now in
+      let ready = told_ready c.args.files.now old c.requires.is_open (g.met.F.Folder.are_bytes c.args.f.now) in
+      let now = g.F.Folder.told c.loop-write.f in
+      let left : List ListWrite = map meant (drop (c.loop-write.write-index + 1) c.args.writes.now) in
+      let reached : Reached old now ws (meant c.write-item.result ∷ left) = subst (Reached old now ws) (at_item c.args.writes.now c.loop-write.write-index c.write-item.result c.write-item.result c.loop-write-test.true (sym c.write-item.is)) c.loop-write.invariant.reached in
+      let next = g.F.Folder.told c.write_one.new.f in
+      let part = in_part c.args.files.now old ws ready c.requires.words now next (meant c.write-item.result) left reached c.in_err-write_one.ensures.prefix.made in
+      let silent : old.files ≡ None → next.files ≡ None = λ none. c.in_err-write_one.ensures.prefix.silent (reached.wrote.silent none) in
+      part;
   silent = search rules;
 }
 
@@ -97,17 +97,17 @@ returns-clause-steps g c =
 pub returns-clause-prefix : goal.returns-clause-prefix
 returns-clause-prefix g c = record {
   made = let old = g.F.Folder.told c.args.f.now in
-    let ws : List ListWrite = map meant c.args.writes.now in
-    let ready = told_ready c.args.files.now old c.requires.is_open (g.met.F.Folder.are_bytes c.args.f.now) in
-    let now = g.F.Folder.told c.loop-write.f in
-    let reached : Reached old now ws [] = subst (Reached old now ws) (all_done c.args.writes.now c.loop-write.write-index c.loop-write-test.false) c.loop-write.invariant.reached in
-    wrote_part (done_all c.args.files.now old ws ready c.requires.words now reached);
+      let ws : List ListWrite = map meant c.args.writes.now in
+      let ready = told_ready c.args.files.now old c.requires.is_open (g.met.F.Folder.are_bytes c.args.f.now) in
+      let now = g.F.Folder.told c.loop-write.f in
+      let reached : Reached old now ws [] = subst (Reached old now ws) (all_done c.args.writes.now c.loop-write.write-index c.loop-write-test.false) c.loop-write.invariant.reached in
+      wrote_part (done_all c.args.files.now old ws ready c.requires.words now reached);
   silent = let old = g.F.Folder.told c.args.f.now in
-    let ws : List ListWrite = map meant c.args.writes.now in
-    let ready = told_ready c.args.files.now old c.requires.is_open (g.met.F.Folder.are_bytes c.args.f.now) in
-    let now = g.F.Folder.told c.loop-write.f in
-    let reached : Reached old now ws [] = subst (Reached old now ws) (all_done c.args.writes.now c.loop-write.write-index c.loop-write-test.false) c.loop-write.invariant.reached in
-    (done_all c.args.files.now old ws ready c.requires.words now reached).silent;
+      let ws : List ListWrite = map meant c.args.writes.now in
+      let ready = told_ready c.args.files.now old c.requires.is_open (g.met.F.Folder.are_bytes c.args.f.now) in
+      let now = g.F.Folder.told c.loop-write.f in
+      let reached : Reached old now ws [] = subst (Reached old now ws) (all_done c.args.writes.now c.loop-write.write-index c.loop-write-test.false) c.loop-write.invariant.reached in
+      (done_all c.args.files.now old ws ready c.requires.words now reached).silent;
 }
 
 pub returns-clause-is_open : goal.returns-clause-is_open

@@ -35,16 +35,16 @@ write_seal-requires-clause-agrees g c = subst (λ (t : Told). ForSome t.files (A
 pub returns-in_err-write_seal-clause-prefix : goal.returns-in_err-write_seal-clause-prefix
 returns-in_err-write_seal-clause-prefix g c = record {
   made = front_sealed c.args.self.now c.args.addr c.requires.stands c.requires.begins (g.F.Folder.told c.args.f.now) (g.F.Folder.told c.read_record.new.f) (g.F.Folder.told c.write_seal.new.f) c.in_ok-read_record.ensures.stays c.requires.agrees
-    (kind_number c.kind-2.result) c.missing_seal.result c.read_record.new.bytes c.kind-2.ensures c.missing_seal.ensures c.in_ok-read_record.ensures.bytes
-    c.in_err-write_seal.ensures.prefix;
+      (kind_number c.kind-2.result) c.missing_seal.result c.read_record.new.bytes c.kind-2.ensures c.missing_seal.ensures c.in_ok-read_record.ensures.bytes
+      c.in_err-write_seal.ensures.prefix;
   silent = λ none. silent_part c.in_err-write_seal.ensures.prefix (ap (λ (t : Told). t.files) c.in_ok-read_record.ensures.stays ∙ none);
 }
 
 pub returns-clause-prefix : goal.returns-clause-prefix
 returns-clause-prefix g c = record {
   made = front_sealed c.args.self.now c.args.addr c.requires.stands c.requires.begins (g.F.Folder.told c.args.f.now) (g.F.Folder.told c.read_record.new.f) (g.F.Folder.told c.write_seal.new.f) c.in_ok-read_record.ensures.stays c.requires.agrees
-    (kind_number c.kind-2.result) c.missing_seal.result c.read_record.new.bytes c.kind-2.ensures c.missing_seal.ensures c.in_ok-read_record.ensures.bytes
-    c.in_ok-write_seal.ensures.prefix;
+      (kind_number c.kind-2.result) c.missing_seal.result c.read_record.new.bytes c.kind-2.ensures c.missing_seal.ensures c.in_ok-read_record.ensures.bytes
+      c.in_ok-write_seal.ensures.prefix;
   silent = λ none. silent_part c.in_ok-write_seal.ensures.prefix (ap (λ (t : Told). t.files) c.in_ok-read_record.ensures.stays ∙ none);
 }
 
