@@ -7,7 +7,9 @@ use blk_addr::{Addr, Kind};
 use blk_chain::{Found, find, link_front, unlink};
 use blk_disk::BlockFiles;
 use blk_index::bucket;
-use blk_io::{Damage, Failed, Fault, FileId, Folder, MemFolder, SilentFolder, StopFolder};
+use blk_io::{
+    Damage, Failed, Fault, FileId, Folder, MemFolder, SilentFolder, StopFolder, read_word,
+};
 use blk_record::{EntryMut, RecordMut, super_fast_hash};
 use blk_repair::mend_chain;
 use std::alloc::Global;
@@ -478,17 +480,24 @@ fn mend(f: &mut Silent, number: u16, words: [u32; 2]) -> Result<(), Fault> {
     mend_chain(f, &files, number, &[front, behind])
 }
 
+// A folder in which the three records are one chain, the last in front.
+fn chain_of_three(alloc: Global) -> Result<Silent, Fault> {
+    let mut f = folder(alloc)?;
+    add(&mut f, WORDS[0], KEYS[0], PLAIN)?;
+    add(&mut f, WORDS[1], KEYS[1], PLAIN)?;
+    add(&mut f, WORDS[2], KEYS[2], PLAIN)?;
+    Ok(f)
+}
+
 #[test]
 fn bucket_is_made_the_chain_of_its_kept_records(rt: HostRuntime) -> Result<(), Fail> {
-    let mut f = folder(rt.alloc())?;
-    for (word, key) in WORDS.iter().zip(KEYS) {
-        add(&mut f, *word, key, PLAIN)?;
-    }
+    let mut f = chain_of_three(rt.alloc())?;
     let number = (super_fast_hash(KEYS[0]) % 65536) as u16;
     assert_eq!(rt; mend(&mut f, number, [WORDS[2], WORDS[0]]), Ok(()));
     assert_eq!(rt; bucket(&mut f, number), Ok(WORDS[2]));
-    assert!(rt; look(&mut f, KEYS[1], false)?.is_none());
-    assert!(rt; look(&mut f, KEYS[0], false)?.is_some());
-    assert!(rt; look(&mut f, KEYS[2], false)?.is_some());
+    let behind = read_word(&mut f, FileId::Block(1), place_of(WORDS[2]) + 4);
+    assert_eq!(rt; behind, Ok(WORDS[0]));
+    let end = read_word(&mut f, FileId::Block(1), place_of(WORDS[0]) + 4);
+    assert_eq!(rt; end, Ok(0));
     Ok(())
 }

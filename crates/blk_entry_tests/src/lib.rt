@@ -1,4 +1,4 @@
-//! The tests of the crates of entries: records and keys, the use list, chains, streams, the reading half of the audit.
+//! The tests of the crates of entries: records and keys, the use list, chains, streams, the audit's reading half and its verdicts.
 #![tactic(auto)]
 
 #[cfg(test)]
@@ -11,5 +11,7 @@ mod chain_told;
 mod entry;
 #[cfg(test)]
 mod lru;
+#[cfg(test)]
+mod scan;
 #[cfg(test)]
 mod stream;

@@ -31,6 +31,3 @@ pub use reason::Reason;
 pub use roles::Role;
 pub use same_keys::has_this_key;
 pub use walked_nodes::{is_child, load_walked};
-
-#[cfg(test)]
-mod tests;

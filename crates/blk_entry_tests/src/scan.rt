@@ -1,15 +1,11 @@
 // The verdict on a node, in a small folder in memory that tells nothing.
-ghost use Rattle.std.specs.Prelude.{◌<◌, ◌≤◌, OnOk, length};
-ghost use Rattle.blk_scan.specs.Kept.{IsKeptInOrder};
+ghost use Rattle.std.specs.Prelude.{◌<◌, ◌≤◌, length};
 
-use crate::judging::judge;
-use crate::kept::KeptSoFar;
-use crate::passes::judge_nodes;
-use crate::{Role, Verdict, has_part, is_child, load, load_walked, unlisted};
 use blk_addr::{Addr, Kind};
 use blk_audit::{Lists, ScanFault, read_lists};
 use blk_disk::BlockFiles;
 use blk_io::{Failed, Fault, FileId, Folder, MemFolder, SilentFolder, StopFolder, write_word};
+use blk_scan::{Role, Verdict, has_part, is_child, load, load_walked, unlisted};
 use std::alloc::Global;
 use std::test::Fail;
 
@@ -64,31 +60,6 @@ fn number(f: &mut Mem, contents: u32, dirty: u32, reached: bool) -> Result<u32, 
     match verdict(f, contents, dirty, reached)? {
         Verdict::Loaded(_) => Ok(0),
         Verdict::Dropped(reason) => Ok(reason.number()),
-    }
-}
-
-// No record is kept, whatever the block files are.
-fn nothing_kept(alloc: Global, files: &BlockFiles) -> KeptSoFar
-    ensures { IsKeptInOrder files.now result }
-{
-    KeptSoFar::none(alloc)
-}
-
-// Judges the node and the record with this number against those kept so far: the number of the reason, or 0.
-fn judged(
-    f: &mut Mem,
-    files: &BlockFiles,
-    kept: &mut KeptSoFar,
-    block: u32,
-) -> Result<u32, ScanFault>
-    requires order { IsKeptInOrder files.now kept.old }
-    requires block { block < 40 }
-    ensures { OnOk result (IsKeptInOrder files.now kept.new) }
-{
-    let node = Addr::of_blocks(Kind::Rankings, 0, block, 1);
-    match judge(f, files, kept, node, ENTRY + block, 0, true)? {
-        Some(reason) => Ok(reason.number()),
-        None => Ok(0),
     }
 }
 
@@ -286,59 +257,5 @@ fn plain_entries_are_judged_in_memory(rt: HostRuntime) -> Result<(), Fail> {
         Err(_) => panic!(rt; "they are judged"),
     }
     assert!(rt; f.calls().wrapping_sub(start) <= 120);
-    Ok(())
-}
-
-// How many walked nodes are judged, and how many of their records are kept.
-fn judged_all(alloc: Global, f: &mut Counted) -> Result<(usize, usize), ScanFault> {
-    let files = BlockFiles::load(f)?;
-    let lists = read_lists(alloc, f, &files)?;
-    let judged = judge_nodes(alloc, f, &files, &lists)?;
-    Ok((judged.tried.len(), judged.kept.count()))
-}
-
-#[test]
-fn one_of_the_entries_with_a_key_is_kept(rt: HostRuntime) -> Result<(), Fail> {
-    let mut f = many(rt.alloc())?;
-    match judged_all(rt.alloc(), &mut f) {
-        Ok(counts) => assert_eq!(rt; counts, (4000, 1)),
-        Err(_) => panic!(rt; "they are judged"),
-    }
-    Ok(())
-}
-
-#[test]
-fn a_record_is_judged_against_those_kept(rt: HostRuntime) -> Result<(), Fail> {
-    let mut f = folder(rt.alloc(), b"k", 0x4EA5_85C0)?;
-    put_record(&mut f, 1, b"k", 0x4EA5_85C0)?;
-    put_record(&mut f, 2, b"Range_k:1:0", 0x216A_AC0E)?;
-    put_record(&mut f, 4, b"Range_k:1:1", 0xD22F_D8DB)?;
-    for (block, at, word) in [
-        (1, 72, 1u32),
-        (1, 48, 8256),
-        (1, 64, 0xC203_0000),
-        (2, 72, 2),
-        (2, 48, 192),
-        (2, 64, 0xA001_0003),
-        (4, 72, 2),
-        (4, 48, 192),
-        (4, 64, 0xA001_0005),
-    ] {
-        put(&mut f, RECORDS, 8192 + 256 * block, at, word)?;
-    }
-    put_index(&mut f, FileId::Block(3), 8192)?;
-    for block in [3, 5] {
-        put_index(&mut f, RECORDS, 8192 + 256 * block)?;
-        put(&mut f, RECORDS, 8192 + 256 * block, 64, 0)?;
-    }
-    let files = BlockFiles::load(&mut f)?;
-    let mut kept = nothing_kept(rt.alloc(), &files);
-    assert_eq!(rt; judged(&mut f, &files, &mut kept, 2)?, 15);
-    assert_eq!(rt; judged(&mut f, &files, &mut kept, 1)?, 0);
-    assert_eq!(rt; judged(&mut f, &files, &mut kept, 1)?, 13);
-    assert_eq!(rt; judged(&mut f, &files, &mut kept, 0)?, 14);
-    assert_eq!(rt; judged(&mut f, &files, &mut kept, 2)?, 0);
-    assert_eq!(rt; judged(&mut f, &files, &mut kept, 4)?, 15);
-    assert_eq!(rt; kept.count(), 2);
     Ok(())
 }
