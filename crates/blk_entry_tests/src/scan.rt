@@ -5,7 +5,7 @@ use blk_addr::{Addr, Kind};
 use blk_audit::{Lists, ScanFault, read_lists};
 use blk_disk::BlockFiles;
 use blk_io::{Failed, Fault, FileId, Folder, MemFolder, SilentFolder, StopFolder, write_word};
-use blk_scan::{Role, Verdict, has_part, is_child, load, load_walked, unlisted};
+use blk_verdict::{Role, Verdict, has_part, is_child, load, load_walked, unlisted};
 use std::alloc::Global;
 use std::test::Fail;
 

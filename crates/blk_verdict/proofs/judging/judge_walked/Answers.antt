@@ -1,0 +1,38 @@
+use Rattle.std.proofs.Common.{◌∙◌, ◌∷◌, [], sym, ap, subst}
+use Rattle.std.specs.Option.{ForSome}
+use Rattle.std.proofs.lemmas.Result.{IfOk-weaker}
+use Rattle.blk_image.specs.Image.{Image}
+use Rattle.blk_image.specs.Told.{Told}
+use Rattle.blk_audit.specs.ReadLists.{AreListsOf, IsSaidAt}
+use Rattle.blk_audit.proofs.Carrying.{weaker}
+use Rattle.blk_volume.specs.Loads as shown
+use Rattle.blk_volume.specs.Loads.{held_rule}
+use Rattle.blk_volume.specs.View.{store_of}
+use Rattle.blk_disk.specs.Tables.{Agrees}
+use Rattle.blk_lru.proofs.Conditions.{told_stays}
+use Rattle.blk_verdict.specs.Keyed.{HasItsKey}
+use Rattle.blk_verdict.specs.Kept.{HaveKeys}
+use Rattle.blk_verdict.specs.Verdicts.{IsVerdict}
+use Rattle.blk_verdict.proofs.JudgedFacts.{all_of, has_key, judged, keys_with}
+use Rattle.blk_verdict.proofs.judging.judge_walked.Goals as goal
+
+pub returns-in-Loaded-clause-keys : goal.returns-in-Loaded-clause-keys
+returns-in-Loaded-clause-keys g c =
+    IfOk-weaker c.admit.result _
+    (λ reason. ForSome (g.F.Folder.told c.args.f.now).files (λ image. Agrees c.args.files.now image → AreListsOf image c.args.lists.now → IsSaidAt image c.args.node.now → HaveKeys image c.args.kept.now.kept.items → HaveKeys image c.admit.new.self.kept.items))
+    (λ reason kept image there agrees are fields keys.
+    let loaded = subst (IsVerdict (shown.load (store_of image) held_rule c.args.node.now.addr)) c.in-Loaded.is (c.in_ok-loaded.ensures.verdict image there agrees are fields) in
+    let one = judged image [] c.args.node.now.addr c.in-Loaded.loaded loaded in
+    subst (HaveKeys image) (sym kept) (keys_with image c.args.kept.now.kept.items c.in-Loaded.loaded reason (has_key image one.loaded c.in-Loaded.loaded one.known) keys))
+    c.admit.ensures.kept
+
+pub returns-in-Loaded-clause-untold : goal.returns-in-Loaded-clause-untold
+returns-in-Loaded-clause-untold g c agrees walked keys =
+    weaker c.admit.result _ _ (λ damage none. ap (λ (t : Told). t.files) (sym c.in_ok-loaded.ensures.stays) ∙ none)
+    (c.admit.ensures.untold (told_stays (Agrees c.args.files.now) c.in_ok-loaded.ensures.stays agrees)
+    (told_stays (λ (image : Image). HaveKeys image (c.in-Loaded.loaded ∷ c.args.kept.now.kept.items)) c.in_ok-loaded.ensures.stays
+    (λ image there.
+    let at = walked image there in
+    let loaded = subst (IsVerdict (shown.load (store_of image) held_rule c.args.node.now.addr)) c.in-Loaded.is (c.in_ok-loaded.ensures.verdict image there (agrees image there) at.0 at.1) in
+    let one = judged image [] c.args.node.now.addr c.in-Loaded.loaded loaded in
+    all_of (HasItsKey image) c.in-Loaded.loaded c.args.kept.now.kept.items (has_key image one.loaded c.in-Loaded.loaded one.known) (keys image there))))

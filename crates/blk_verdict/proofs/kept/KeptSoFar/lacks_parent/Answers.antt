@@ -1,0 +1,36 @@
+use Rattle.std.proofs.Common.{◌≡◌, ◌∙◌, List, true, sym, ap}
+use Rattle.std.specs.Option.{ForSome}
+use Rattle.std.proofs.lemmas.Result.{IfOk-weaker}
+use Rattle.blk_image.specs.Image.{Image}
+use Rattle.blk_image.specs.Told.{Told}
+use Rattle.blk_io.proofs.Carried.{carried, if_damaged_weaker}
+use Rattle.blk_volume.specs.Audit as audit
+use Rattle.blk_volume.specs.Loads as shown
+use Rattle.blk_disk.specs.Tables.{Agrees}
+use Rattle.blk_lru.proofs.Conditions.{told_now, told_stays}
+use Rattle.blk_verdict.specs.Keyed.{HasItsKey}
+use Rattle.blk_verdict.specs.Kept.{AreShown, HaveKeys, IsLoadedFrom}
+use Rattle.blk_verdict.proofs.KeptKeysFound.{keys-found}
+use Rattle.blk_verdict.proofs.Searched.{all_first, all_others}
+use Rattle.blk_verdict.proofs.kept.KeptSoFar.lacks_parent.Goals as goal
+
+pub returns-in_err-read_key_of-clause-untold : goal.returns-in_err-read_key_of-clause-untold
+returns-in_err-read_key_of-clause-untold g c agrees keys =
+    carried c.read_key_of.result c.from_residual.result c.in_err-read_key_of.field-0.0 _ c.in_err-read_key_of.was c.from_residual.ensures.1
+    (c.read_key_of.ensures.untold agrees (λ image there. all_first (HasItsKey image) c.args.loaded.now c.args.self.now.kept.items (keys image there)))
+
+pub returns-clause-orphan : goal.returns-clause-orphan
+returns-clause-orphan g c =
+    IfOk-weaker c.lacks_parent_of.result _
+    (λ orphan. ForSome (g.F.Folder.told c.args.f.now).files (λ image. Agrees c.args.files.now image → (kept : List shown.Loaded) (given : shown.Loaded) → AreShown image kept c.args.self.now.kept.items → IsLoadedFrom image given c.args.loaded.now → shown.is_part given ≡ true
+    → orphan ≡ audit.is_orphan kept given))
+    (λ orphan is image there agrees kept given are known some.
+    let key = keys-found image known.node given c.args.loaded.now known.loads known.is in
+    is image (told_now image c.in_ok-read_key_of.ensures.stays there) agrees kept given known.node are known.loads (c.in_ok-read_key_of.ensures.key image there given.key key) some)
+    c.lacks_parent_of.ensures.orphan
+
+pub returns-clause-untold : goal.returns-clause-untold
+returns-clause-untold g c agrees keys =
+    if_damaged_weaker c.lacks_parent_of.result _ _ (λ damage none. ap (λ (t : Told). t.files) (sym c.in_ok-read_key_of.ensures.stays) ∙ none)
+    (c.lacks_parent_of.ensures.untold (told_stays (Agrees c.args.files.now) c.in_ok-read_key_of.ensures.stays agrees)
+    (told_stays (λ (image : Image). HaveKeys image c.args.self.now.kept.items) c.in_ok-read_key_of.ensures.stays (λ image there. all_others (HasItsKey image) c.args.loaded.now c.args.self.now.kept.items (keys image there))))

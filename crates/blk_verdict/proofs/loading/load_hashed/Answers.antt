@@ -1,0 +1,45 @@
+use Rattle.std.proofs.Common.{◌≡◌, ℕ, true, false, List, Result, refl, sym, ◌∙◌, subst}
+use Rattle.std.specs.Prelude.{◌==◌, is_some}
+use Rattle.std.specs.Option.{ForSome}
+use Rattle.std.proofs.lemmas.Bool.{eq-eqb}
+use Rattle.blk_format.specs.BlockFiles.{is_among}
+use Rattle.blk_format.specs.Hash.{hash}
+use Rattle.blk_volume.specs.Chains.{bucket_of_hash, chain}
+use Rattle.blk_volume.specs.Entries.{stored_key}
+use Rattle.blk_volume.specs.Loads as shown
+use Rattle.blk_volume.specs.Reasons as reasons
+use Rattle.blk_volume.specs.View.{store_of}
+use Rattle.blk_disk.specs.Tables.{Agrees}
+use Rattle.blk_entry.proofs.KeyPlaces.{ok_weaker}
+use Rattle.blk_audit.specs.Records.{IsHashOfKey, fields_said}
+use Rattle.blk_verdict.specs.Loading as loading
+use Rattle.blk_verdict.specs.Verdicts.{IsVerdict}
+use Rattle.blk_verdict.specs.declared.reason.Reason.TheVariants as reason
+use Rattle.blk_verdict.proofs.Joined.{data_with_key, has_value}
+use Rattle.blk_verdict.proofs.KeyFacts.{key_length}
+use Rattle.blk_verdict.proofs.VerdictFacts.{differs, dropped}
+use Rattle.blk_verdict.proofs.loading.load_hashed.Goals as goal
+
+pub returns-then-words-sum-clause-verdict : goal.returns-then-words-sum-clause-verdict
+returns-then-words-sum-clause-verdict g c image there dirty agrees stored sums reached =
+    let key = has_value (List ℕ) (stored_key (store_of image) c.args.entry (fields_said c.args.words.now)) stored in
+    let other : (c.args.words.now.hash == hash key.value) ≡ false = differs c.args.words.now.hash (hash key.value) (λ e. c.if-words-sum.true (e ∙ sym (sums key.value key.is))) in
+    dropped _ reason.Hash (data_with_key (store_of image) c.args.node c.args.entry dirty (fields_said c.args.words.now) key.value false _ key.is other refl)
+
+pub returns-then-not-reached-clause-verdict : goal.returns-then-not-reached-clause-verdict
+returns-then-not-reached-clause-verdict g c image there dirty agrees stored sums reached =
+    let key = has_value (List ℕ) (stored_key (store_of image) c.args.entry (fields_said c.args.words.now)) stored in
+    let same : (c.args.words.now.hash == hash key.value) ≡ true = eq-eqb _ _ (c.if-words-sum.false ∙ sums key.value key.is) in
+    dropped _ reason.Chain (data_with_key (store_of image) c.args.node c.args.entry dirty (fields_said c.args.words.now) key.value true false key.is same (sym reached ∙ c.if-not-reached.true))
+
+pub returns-clause-verdict : goal.returns-clause-verdict
+returns-clause-verdict g c =
+    ok_weaker c.load_streams.result _
+    (λ verdict. ForSome (g.F.Folder.told c.args.f.now).files (λ image. (dirty : ℕ) → Agrees c.args.files.now image → is_some (stored_key (store_of image) c.args.entry (fields_said c.args.words.now)) ≡ true → IsHashOfKey image c.args.entry c.args.words.now c.args.sum
+    → c.args.reached ≡ is_among (chain (store_of image) (bucket_of_hash c.args.words.now.hash)).reached c.args.entry → IsVerdict (loading.load_data (store_of image) c.args.node c.args.entry dirty (fields_said c.args.words.now)) verdict))
+    (λ verdict is image there dirty agrees stored sums reached.
+    let key = has_value (List ℕ) (stored_key (store_of image) c.args.entry (fields_said c.args.words.now)) stored in
+    let right : c.args.words.now.hash ≡ hash key.value = c.if-words-sum.false ∙ sums key.value key.is in
+    subst (λ (r : Result shown.Loaded reasons.Reason). IsVerdict r verdict) (sym (data_with_key (store_of image) c.args.node c.args.entry dirty (fields_said c.args.words.now) key.value true true key.is (eq-eqb _ _ right) (sym reached ∙ c.if-not-reached.false)))
+    (is image there dirty key.value agrees (sym (key_length image c.args.entry (fields_said c.args.words.now) key.value key.is)) right (λ part. absurd (c.requires.whole part))))
+    c.load_streams.ensures.verdict

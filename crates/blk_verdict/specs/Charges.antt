@@ -1,0 +1,18 @@
+-- What loaded nodes are charged.
+use Rattle.std.specs.Prelude.{ℕ, ◌≡◌, ◌+◌, slice_index}
+use Rattle.std.specs.declared.result.Result.TheVariants.{Ok}
+use Rattle.blk_image.specs.Image.{Image}
+use Rattle.blk_volume.specs.Found.{charge_of}
+use Rattle.blk_volume.specs.Loads as shown
+use Rattle.blk_volume.specs.Loads.{held_rule}
+use Rattle.blk_volume.specs.View.{store_of}
+use Rattle.blk_verdict.specs.Verdicts.{IsLoaded}
+use Rattle.blk_verdict.specs.declared.loading.Loaded.{Loaded}
+
+-- the lengths of the key and the three streams, as they are kept
+abbrev pub charge_said : Loaded → ℕ
+charge_said loaded = loaded.key_len + slice_index loaded.sizes 0 + slice_index loaded.sizes 1 + slice_index loaded.sizes 2
+
+-- where a node is loaded, that is what it is charged
+abbrev pub LoadedAreCharged : Type 0
+LoadedAreCharged = (image : Image) (node : ℕ) (loaded : shown.Loaded) (said : Loaded) → shown.load (store_of image) held_rule node ≡ Ok loaded → IsLoaded loaded said → charge_said said ≡ charge_of loaded

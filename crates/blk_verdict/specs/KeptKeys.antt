@@ -1,0 +1,22 @@
+-- The laws of the keys and the indexes of loaded records.
+use Rattle.std.specs.Prelude.{ℕ, ◌≡◌, slice_index}
+use Rattle.std.specs.declared.option.Option.TheVariants.{Some}
+use Rattle.std.specs.declared.result.Result.TheVariants.{Ok}
+use Rattle.blk_image.specs.Image.{Image}
+use Rattle.blk_format.specs.SparseIndex.{ParentIndex, read_parent_index}
+use Rattle.blk_volume.specs.Entries.{IsParent, stream}
+use Rattle.blk_volume.specs.Loads as shown
+use Rattle.blk_volume.specs.Loads.{held_rule}
+use Rattle.blk_volume.specs.View.{store_of, stored_at}
+use Rattle.blk_verdict.specs.Keyed.{IsKeyOf}
+use Rattle.blk_verdict.specs.Verdicts.{IsLoaded}
+use Rattle.blk_verdict.specs.declared.loading.Loaded.{Loaded}
+
+-- where a node is loaded, what is kept of it in memory leads to its key
+abbrev pub LoadedKeysAreFound : Type 0
+LoadedKeysAreFound = (image : Image) (node : ℕ) (loaded : shown.Loaded) (said : Loaded) → shown.load (store_of image) held_rule node ≡ Ok loaded → IsLoaded loaded said → IsKeyOf image said loaded.key
+
+-- and where it is a parent, to its index
+abbrev pub LoadedIndexesAreFound : Type 0
+LoadedIndexesAreFound = (image : Image) (node : ℕ) (loaded : shown.Loaded) (said : Loaded) (index : ParentIndex) → shown.load (store_of image) held_rule node ≡ Ok loaded → IsLoaded loaded said → loaded.role ≡ IsParent index
+    → (stored_at image 8256 (slice_index said.addrs 2) ≡ Some (stream 2 loaded.streams)) × (read_parent_index (stream 2 loaded.streams) ≡ Some index)

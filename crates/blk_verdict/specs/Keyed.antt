@@ -1,0 +1,35 @@
+-- The key of a record that is loaded.
+use Rattle.std.specs.Prelude.{ℕ, ◌≡◌, List, true}
+use Rattle.std.specs.declared.option.Option.TheVariants.{Some}
+use Rattle.blk_image.specs.Image.{Image}
+use Rattle.blk_volume.specs.Entries.{stored_key}
+use Rattle.blk_volume.specs.View.{RecordFields, store_of}
+use Rattle.blk_verdict.specs.declared.loading.Loaded.{Loaded}
+use Rattle.blk_audit.specs.declared.record_words.RecordWords.{RecordWords}
+
+-- the words of a record that say where its key lies, and what is kept of the others
+abbrev pub words_kept : Loaded → RecordWords
+words_kept loaded = record {
+  checks = true;
+  hash = loaded.hash;
+  next = 0;
+  node = loaded.node;
+  state = 0;
+  key_len = loaded.key_len;
+  long_key = loaded.long_key;
+  sizes = loaded.sizes;
+  addrs = loaded.addrs;
+  flags = 0;
+}
+
+-- an image has this key where a record with the same length of the key and the same word of a long key has it
+pub record IsKeyOf (image : Image) (loaded : Loaded) (key : List ℕ) : Type 0 where
+  pub fields : RecordFields
+  pub key_len : fields.key_len ≡ loaded.key_len
+  pub long_key : fields.long_key ≡ loaded.long_key
+  pub stored : stored_key (store_of image) loaded.entry fields ≡ Some key
+
+-- an image has some key of it
+pub record HasItsKey (image : Image) (loaded : Loaded) : Type 0 where
+  pub key : List ℕ
+  pub is : IsKeyOf image loaded key

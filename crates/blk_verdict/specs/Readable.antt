@@ -1,0 +1,36 @@
+-- What is kept in memory of a node suffices to read its key and its index.
+use Rattle.std.specs.Prelude.{ℕ, ◌≡◌, List, true, slice_index}
+use Rattle.std.specs.declared.option.Option.{Option}
+use Rattle.std.specs.declared.option.Option.TheVariants.{None, Some}
+use Rattle.blk_format.specs.Address.{blocks_256, kind_of}
+use Rattle.blk_disk.specs.declared.tables.BlockFiles.{BlockFiles}
+use Rattle.blk_disk.specs.Tables.{stands_among}
+use Rattle.blk_entry.specs.Keys.{IsPlaced, stores}
+use Rattle.blk_verdict.specs.declared.loading.Loaded.{Loaded}
+use Rattle.blk_verdict.specs.declared.loading.Verdict.{Verdict}
+use Rattle.blk_verdict.specs.declared.loading.Verdict.TheVariants as verdict
+use Rattle.blk_verdict.specs.declared.roles.Role.{Role}
+use Rattle.blk_verdict.specs.declared.roles.Role.TheVariants.{Plain, Parent, Part}
+
+-- the index of a parent is stored, with the length of one, where the sizes and the address words of its streams say
+abbrev pub HasIndex : BlockFiles → List ℕ → List ℕ → Role → Type 0
+HasIndex files sizes addrs Plain = Unit {0}
+HasIndex files sizes addrs (Parent head) = (slice_index sizes 2 ≡ 8256) × (stores files 8256 (slice_index addrs 2) ≡ true)
+HasIndex files sizes addrs (Part said) = Unit {0}
+
+-- so it is where there is a role
+abbrev pub HasIndexIf : BlockFiles → List ℕ → List ℕ → Option Role → Type 0
+HasIndexIf files sizes addrs None = Unit {0}
+HasIndexIf files sizes addrs (Some role) = HasIndex files sizes addrs role
+
+-- the record stands, its key has a place, and the index of a parent is stored
+pub record IsReadable (files : BlockFiles) (loaded : Loaded) : Type 0 where
+  pub kind : kind_of loaded.entry ≡ blocks_256
+  pub stands : stands_among files loaded.entry ≡ true
+  pub placed : IsPlaced files loaded.entry loaded.key_len loaded.long_key
+  pub index : HasIndex files loaded.sizes loaded.addrs loaded.role
+
+-- so it is for a node that is loaded
+abbrev pub IsReadableIf : BlockFiles → Verdict → Type 0
+IsReadableIf files (verdict.Loaded loaded) = IsReadable files loaded
+IsReadableIf files (verdict.Dropped reason) = Unit {0}

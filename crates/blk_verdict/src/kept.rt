@@ -1,0 +1,322 @@
+// The records that are kept so far, against which a further one is judged.
+ghost use Rattle.std.specs.Prelude.{◌≡◌, ◌≤◌, ◌<◌, ◌++◌, ◌||◌, [], ◌∷◌, List, ℕ, IfOk, None, OnOk, Ok, false, length, slice_get, true};
+ghost use Rattle.std.specs.List.{list_any};
+ghost use Rattle.std.specs.Option.{ForSome};
+ghost use Rattle.blk_image.specs.Told.{Rises, Stays};
+ghost use Rattle.blk_format.specs.Claims.{claims_of_all, overlap, repeats};
+ghost use Rattle.blk_format.specs.Hash.{hash as hash_of};
+ghost use Rattle.blk_volume.specs.Audit as audit;
+ghost use Rattle.blk_addr.specs.Claims.{IsClaimsOf};
+ghost use Rattle.blk_volume.specs.Loads as shown;
+ghost use Rattle.blk_volume.specs.View.{store_of};
+ghost use Rattle.blk_io.specs.Faults.{IfDamaged, IfDevice};
+ghost use Rattle.blk_disk.specs.Tables.{Agrees};
+ghost use Rattle.blk_audit.specs.Faults.{IfScanDamaged, IfScanDevice};
+ghost use Rattle.blk_verdict.specs.Kept.{AreShown, HasPartNumber, HaveKeys, IsAlwaysInOrder, IsSameAnswer, IsKeptInOrder, IsIndexed, IsLoadedFrom, NoneMayBe, addresses_of, addresses_of_all, is_sought, kept_with};
+ghost use Rattle.blk_verdict.specs.Keyed.{HasItsKey};
+ghost use Rattle.blk_verdict.specs.Readable.{IsReadable};
+ghost use Rattle.blk_verdict.specs.Reads.{IsCutRead};
+
+use crate::by_hash::ByHash;
+use crate::fitting::{Sought, fits};
+use crate::loading::Loaded;
+use crate::owning::{claim_all, is_claimed, owned_words, share_any};
+use crate::reason::Reason;
+use crate::roles::Role;
+use crate::same_keys::read_key_of;
+use blk_addr::{Claims, NoMemory};
+use blk_audit::ScanFault;
+use blk_disk::BlockFiles;
+use blk_io::{Fault, Folder};
+use blk_ranges::read_child_name;
+use blk_record::super_fast_hash;
+use std::alloc::Global;
+
+// The longest key: the name of a part.
+const MOST_NAME: usize = 32_796;
+
+// Where in a name the key begins.
+const KEY_OF_NAME: usize = 6;
+
+// The records that are kept so far, in the order in which they were tried, with what they own.
+#[derive(Drop)]
+pub(crate) struct KeptSoFar {
+    kept: Vec<Loaded>,
+    claims: Claims,
+    by_hash: ByHash,
+}
+
+impl KeptSoFar {
+    // No record is kept.
+    pub(crate) fn none(alloc: Global) -> KeptSoFar
+        ensures none { result.kept.items ≡ [] }
+        ensures order { IsAlwaysInOrder result }
+    {
+        KeptSoFar {
+            kept: Vec::new(alloc),
+            claims: Claims::new(alloc),
+            by_hash: ByHash::none(alloc),
+        }
+    }
+
+    // The number of kept records.
+    pub(crate) fn count(&self) -> usize
+        ensures { result ≡ length self.now.kept.items }
+    {
+        self.kept.len()
+    }
+
+    // One of the kept records, counted from 0.
+    pub(crate) fn at(&self, i: usize) -> Option<Loaded>
+        ensures { result ≡ slice_get self.now.kept.items i }
+    {
+        self.kept.get(i).copied()
+    }
+
+    // Judges a loaded record by the reasons `Claimed`, `Name` and `Parent`, and keeps it where none of them holds.
+    //
+    // No folder call is made for `Claimed`. For `Name` one call reads the record's key, and one more that of each kept
+    // record with the same child flag, hash and length of the key, where there are any. A part takes one call for its
+    // own key, and two for each kept parent that may be its: one for the key, and one for the bit. A damage is a read
+    // that gave too few bytes. Where memory was wanting, the kept records are of no more use.
+    pub(crate) fn admit<F: Folder>(
+        &mut self,
+        f: &mut F,
+        files: &BlockFiles,
+        loaded: Loaded,
+    ) -> Result<Option<Reason>, ScanFault>
+        requires order { IsKeptInOrder files.now self.old }
+        requires readable { IsReadable files.now loaded }
+        ensures answer { IfOk result (λ reason. ForSome (F.told f.old).files (λ image. Agrees files.now image → (kept : List shown.Loaded) (given : shown.Loaded) → AreShown image kept self.old.kept.items → IsLoadedFrom image given loaded → IsSameAnswer (audit.admit kept given) reason)) }
+        ensures shown { IfOk result (λ reason. ForSome (F.told f.old).files (λ image. Agrees files.now image → (kept : List shown.Loaded) (given : shown.Loaded) → AreShown image kept self.old.kept.items → IsLoadedFrom image given loaded → AreShown image (audit.with_verdict kept (audit.admit kept given)) self.new.kept.items)) }
+        ensures kept { IfOk result (λ reason. self.new.kept.items ≡ kept_with self.old.kept.items loaded reason) }
+        ensures order { OnOk result (IsKeptInOrder files.now self.new) }
+        ensures stays { Stays (F.told f.old) (F.told f.new) }
+        ensures short { IfScanDamaged result (IsCutRead files.now (F.told f.old)) }
+        ensures untold { ForSome (F.told f.old).files (Agrees files.now) → ForSome (F.told f.old).files (λ image. HaveKeys image (loaded ∷ self.old.kept.items)) → IfScanDamaged result (λ _. (F.told f.old).files ≡ None) }
+        ensures later { F.faults f.old ≤ F.faults f.new }
+        ensures device { IfScanDevice result (Rises (F.faults f.old) (F.faults f.new)) }
+    {
+        let reason = self.reason_for(f, files, &loaded)?;
+        if reason.is_none() {
+            self.keep(loaded)?;
+        }
+        Ok(reason)
+    }
+
+    // The first of the reasons that holds for a loaded record.
+    fn reason_for<F: Folder>(
+        &self,
+        f: &mut F,
+        files: &BlockFiles,
+        loaded: &Loaded,
+    ) -> Result<Option<Reason>, Fault>
+        requires order { IsKeptInOrder files.now self.now }
+        requires readable { IsReadable files.now loaded.now }
+        ensures answer { IfOk result (λ reason. ForSome (F.told f.old).files (λ image. Agrees files.now image → (kept : List shown.Loaded) (given : shown.Loaded) → AreShown image kept self.now.kept.items → IsLoadedFrom image given loaded.now → IsSameAnswer (audit.admit kept given) reason)) }
+        ensures apart { result ≡ Ok None → repeats (claims_of_all (addresses_of_all self.now.kept.items ++ addresses_of loaded.now)) ≡ false }
+        ensures stays { Stays (F.told f.old) (F.told f.new) }
+        ensures short { IfDamaged result (IsCutRead files.now (F.told f.old)) }
+        ensures untold { ForSome (F.told f.old).files (Agrees files.now) → ForSome (F.told f.old).files (λ image. HaveKeys image (loaded.now ∷ self.now.kept.items)) → IfDamaged result (λ _. (F.told f.old).files ≡ None) }
+        ensures later { F.faults f.old ≤ F.faults f.new }
+        ensures device { IfDevice result (Rises (F.faults f.old) (F.faults f.new)) }
+    {
+        if self.collides(loaded) {
+            return Ok(Some(Reason::Claimed));
+        }
+        if self.shares_key(f, files, loaded)? {
+            return Ok(Some(Reason::Name));
+        }
+        if self.is_orphan(f, files, loaded)? {
+            return Ok(Some(Reason::Parent));
+        }
+        Ok(None)
+    }
+
+    // Whether a record shares a block or an external file with one that is kept, or names one twice.
+    fn collides(&self, loaded: &Loaded) -> bool
+        ensures { IsClaimsOf self.now.claims (addresses_of_all self.now.kept.items) → result ≡ (repeats (claims_of_all (addresses_of loaded.now)) || overlap (claims_of_all (addresses_of_all self.now.kept.items)) (claims_of_all (addresses_of loaded.now))) }
+    {
+        let words = owned_words(loaded);
+        share_any(&words) || is_claimed(&self.claims, &words)
+    }
+
+    // Whether a kept record with the same child flag has the key of a record, which is read only where one may have it.
+    fn shares_key<F: Folder>(
+        &self,
+        f: &mut F,
+        files: &BlockFiles,
+        loaded: &Loaded,
+    ) -> Result<bool, Fault>
+        requires order { IsKeptInOrder files.now self.now }
+        requires readable { IsReadable files.now loaded.now }
+        ensures shares { IfOk result (λ shares. ForSome (F.told f.old).files (λ image. Agrees files.now image → (kept : List shown.Loaded) (given : shown.Loaded) → AreShown image kept self.now.kept.items → IsLoadedFrom image given loaded.now → shares ≡ audit.shares_key kept given)) }
+        ensures stays { Stays (F.told f.old) (F.told f.new) }
+        ensures short { IfDamaged result (IsCutRead files.now (F.told f.old)) }
+        ensures untold { ForSome (F.told f.old).files (Agrees files.now) → ForSome (F.told f.old).files (λ image. HaveKeys image (loaded.now ∷ self.now.kept.items)) → IfDamaged result (λ _. (F.told f.old).files ≡ None) }
+        ensures later { F.faults f.old ≤ F.faults f.new }
+        ensures device { IfDevice result (Rises (F.faults f.old) (F.faults f.new)) }
+    {
+        let sought = Sought::alike(loaded.role);
+        if !self.may_have(loaded.hash, loaded.key_len, sought) {
+            return Ok(false);
+        }
+        self.has_key_of(f, files, loaded, sought)
+    }
+
+    // Whether one of the kept records is what is sought, with the key of a record.
+    fn has_key_of<F: Folder>(
+        &self,
+        f: &mut F,
+        files: &BlockFiles,
+        loaded: &Loaded,
+        sought: Sought,
+    ) -> Result<bool, Fault>
+        requires order { IsKeptInOrder files.now self.now }
+        requires readable { IsReadable files.now loaded.now }
+        requires short { loaded.now.key_len ≤ 32796 }
+        requires part { HasPartNumber sought }
+        ensures has { IfOk result (λ has. ForSome (F.told f.old).files (λ image. Agrees files.now image → (kept : List shown.Loaded) (given : shown.Loaded) → AreShown image kept self.now.kept.items → IsLoadedFrom image given loaded.now → has ≡ list_any (is_sought sought given.key) kept)) }
+        ensures stays { Stays (F.told f.old) (F.told f.new) }
+        ensures short { IfDamaged result (IsCutRead files.now (F.told f.old)) }
+        ensures untold { ForSome (F.told f.old).files (Agrees files.now) → ForSome (F.told f.old).files (λ image. HaveKeys image (loaded.now ∷ self.now.kept.items)) → IfDamaged result (λ _. (F.told f.old).files ≡ None) }
+        ensures later { F.faults f.old ≤ F.faults f.new }
+        ensures device { IfDevice result (Rises (F.faults f.old) (F.faults f.new)) }
+    {
+        let mut buffer = [0u8; MOST_NAME];
+        let key = &mut buffer[..loaded.key_len as usize];
+        read_key_of(f, files, loaded, key)?;
+        self.has(f, files, loaded.hash, sought, key)
+    }
+
+    // Whether a record is a part, and no kept record is its parent with its bit.
+    fn is_orphan<F: Folder>(
+        &self,
+        f: &mut F,
+        files: &BlockFiles,
+        loaded: &Loaded,
+    ) -> Result<bool, Fault>
+        requires order { IsKeptInOrder files.now self.now }
+        requires readable { IsReadable files.now loaded.now }
+        ensures orphan { IfOk result (λ orphan. ForSome (F.told f.old).files (λ image. Agrees files.now image → (kept : List shown.Loaded) (given : shown.Loaded) → AreShown image kept self.now.kept.items → IsLoadedFrom image given loaded.now → orphan ≡ audit.is_orphan kept given)) }
+        ensures stays { Stays (F.told f.old) (F.told f.new) }
+        ensures short { IfDamaged result (IsCutRead files.now (F.told f.old)) }
+        ensures untold { ForSome (F.told f.old).files (Agrees files.now) → ForSome (F.told f.old).files (λ image. HaveKeys image (loaded.now ∷ self.now.kept.items)) → IfDamaged result (λ _. (F.told f.old).files ≡ None) }
+        ensures later { F.faults f.old ≤ F.faults f.new }
+        ensures device { IfDevice result (Rises (F.faults f.old) (F.faults f.new)) }
+    {
+        match loaded.role {
+            Role::Plain => Ok(false),
+            Role::Parent(_) => Ok(false),
+            Role::Part(_) => self.lacks_parent(f, files, loaded),
+        }
+    }
+
+    // Whether no kept record is the parent of a part, with its bit.
+    fn lacks_parent<F: Folder>(
+        &self,
+        f: &mut F,
+        files: &BlockFiles,
+        loaded: &Loaded,
+    ) -> Result<bool, Fault>
+        requires order { IsKeptInOrder files.now self.now }
+        requires readable { IsReadable files.now loaded.now }
+        requires short { loaded.now.key_len ≤ 32796 }
+        ensures orphan { IfOk result (λ orphan. ForSome (F.told f.old).files (λ image. Agrees files.now image → (kept : List shown.Loaded) (given : shown.Loaded) → AreShown image kept self.now.kept.items → IsLoadedFrom image given loaded.now → shown.is_part given ≡ true → orphan ≡ audit.is_orphan kept given)) }
+        ensures stays { Stays (F.told f.old) (F.told f.new) }
+        ensures short { IfDamaged result (IsCutRead files.now (F.told f.old)) }
+        ensures untold { ForSome (F.told f.old).files (Agrees files.now) → ForSome (F.told f.old).files (λ image. HaveKeys image (loaded.now ∷ self.now.kept.items)) → IfDamaged result (λ _. (F.told f.old).files ≡ None) }
+        ensures later { F.faults f.old ≤ F.faults f.new }
+        ensures device { IfDevice result (Rises (F.faults f.old) (F.faults f.new)) }
+    {
+        let mut buffer = [0u8; MOST_NAME];
+        let key = &mut buffer[..loaded.key_len as usize];
+        read_key_of(f, files, loaded, key)?;
+        self.lacks_parent_of(f, files, key)
+    }
+
+    // Whether no kept record is the parent of a part with this key, with its bit.
+    fn lacks_parent_of<F: Folder>(
+        &self,
+        f: &mut F,
+        files: &BlockFiles,
+        key: &[u8],
+    ) -> Result<bool, Fault>
+        requires order { IsKeptInOrder files.now self.now }
+        ensures orphan { IfOk result (λ orphan. ForSome (F.told f.old).files (λ image. Agrees files.now image → (kept : List shown.Loaded) (given : shown.Loaded) (node : ℕ) → AreShown image kept self.now.kept.items → shown.load (store_of image) shown.held_rule node ≡ Ok given → key.now ≡ given.key → shown.is_part given ≡ true → orphan ≡ audit.is_orphan kept given)) }
+        ensures stays { Stays (F.told f.old) (F.told f.new) }
+        ensures short { IfDamaged result (IsCutRead files.now (F.told f.old)) }
+        ensures untold { ForSome (F.told f.old).files (Agrees files.now) → ForSome (F.told f.old).files (λ image. HaveKeys image self.now.kept.items) → IfDamaged result (λ _. (F.told f.old).files ≡ None) }
+        ensures later { F.faults f.old ≤ F.faults f.new }
+        ensures device { IfDevice result (Rises (F.faults f.old) (F.faults f.new)) }
+    {
+        let Some(name) = read_child_name(key) else {
+            return Ok(true);
+        };
+        let behind = &key[KEY_OF_NAME..];
+        let parent = &behind[..name.key_len];
+        let hash = super_fast_hash(parent);
+        let found = self.has(f, files, hash, Sought::ParentOf(name), parent)?;
+        Ok(!found)
+    }
+
+    // Whether a kept record with this hash and length of the key is of a role that is sought.
+    fn may_have(&self, hash: u32, key_len: u32, sought: Sought) -> bool
+        requires { IsIndexed self.now }
+        ensures { result ≡ false → NoneMayBe self.now.kept.items hash key_len sought }
+    {
+        let mut place = self.by_hash.last(hash);
+        while let Some(i) = place {
+            let Some(kept) = self.at(i) else {
+                return true;
+            };
+            if kept.key_len == key_len && sought.admits(kept.role) {
+                return true;
+            }
+            place = self.by_hash.before(i);
+        }
+        false
+    }
+
+    // Whether one of the kept records is what is sought, with this key and its hash.
+    fn has<F: Folder>(
+        &self,
+        f: &mut F,
+        files: &BlockFiles,
+        hash: u32,
+        sought: Sought,
+        key: &[u8],
+    ) -> Result<bool, Fault>
+        requires order { IsKeptInOrder files.now self.now }
+        requires part { HasPartNumber sought }
+        ensures has { IfOk result (λ has. ForSome (F.told f.old).files (λ image. Agrees files.now image → hash ≡ hash_of key.now → (kept : List shown.Loaded) → AreShown image kept self.now.kept.items → has ≡ list_any (is_sought sought key.now) kept)) }
+        ensures stays { Stays (F.told f.old) (F.told f.new) }
+        ensures short { IfDamaged result (IsCutRead files.now (F.told f.old)) }
+        ensures untold { ForSome (F.told f.old).files (Agrees files.now) → ForSome (F.told f.old).files (λ image. HaveKeys image self.now.kept.items) → IfDamaged result (λ _. (F.told f.old).files ≡ None) }
+        ensures later { F.faults f.old ≤ F.faults f.new }
+        ensures device { IfDevice result (Rises (F.faults f.old) (F.faults f.new)) }
+    {
+        let mut place = self.by_hash.last(hash);
+        while let Some(i) = place {
+            let Some(kept) = self.at(i) else {
+                unreachable!();
+            };
+            if fits(f, files, &kept, sought, key)? {
+                return Ok(true);
+            }
+            place = self.by_hash.before(i);
+        }
+        Ok(false)
+    }
+
+    // Keeps a record that shares nothing with those that are kept, and names nothing twice.
+    fn keep(&mut self, loaded: Loaded) -> Result<(), NoMemory>
+        ensures kept { OnOk result (self.new.kept.items ≡ self.old.kept.items ++ loaded ∷ []) }
+        ensures indexed { OnOk result (IsIndexed self.old → repeats (claims_of_all (addresses_of_all self.old.kept.items ++ addresses_of loaded)) ≡ false → IsIndexed self.new) }
+    {
+        claim_all(&mut self.claims, &owned_words(&loaded))?;
+        self.by_hash.add(loaded.hash)?;
+        self.kept.push(loaded)?;
+        Ok(())
+    }
+}

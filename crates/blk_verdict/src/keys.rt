@@ -1,0 +1,70 @@
+// The key of a record that is judged.
+ghost use Rattle.std.specs.Prelude.{◌≡◌, ◌≤◌, ℕ, List, IfOk, IsTrue, None, OnErr, OnOk, Some, false, is_some, length, true};
+ghost use Rattle.std.specs.Option.{ForSome};
+ghost use Rattle.blk_image.specs.Told.{Rises, Stays};
+ghost use Rattle.blk_format.specs.Address.{blocks_256, kind_of};
+ghost use Rattle.blk_volume.specs.Entries.{stored_key};
+ghost use Rattle.blk_volume.specs.View.{store_of};
+ghost use Rattle.blk_io.specs.Faults.{IfDamaged, IfDevice};
+ghost use Rattle.blk_disk.specs.Tables.{Agrees, stands_among};
+ghost use Rattle.blk_entry.specs.Keys.{IsPlaced, is_short, may_hold, most_key};
+ghost use Rattle.blk_verdict.specs.Reads.{IsCutRead};
+ghost use Rattle.blk_audit.specs.Records.{fields_said};
+
+use crate::storage::is_stored;
+use blk_addr::Addr;
+use blk_audit::RecordWords;
+use blk_disk::BlockFiles;
+use blk_entry::read_data;
+use blk_io::{Failed, Fault, Folder};
+use blk_record::{EntryView, Record};
+
+// The longest key that lies in its record.
+const MOST_IN_RECORD: u32 = 927;
+
+// Whether the key of a record is stored as its length asks for; one folder call where it is an external file.
+pub(crate) fn has_key<F: Folder>(
+    f: &mut F,
+    files: &BlockFiles,
+    words: &RecordWords,
+) -> Result<bool, Failed>
+    requires short { words.now.key_len ≤ most_key }
+    ensures key { IfOk result (λ has. ForSome (F.told f.old).files (λ image. (entry : ℕ) → Agrees files.now image → has ≡ is_some (stored_key (store_of image) entry (fields_said words.now)))) }
+    ensures holds { IfOk result (λ has. IsTrue has → is_short words.now.key_len ≡ false → may_hold files.now words.now.key_len words.now.long_key ≡ true) }
+    ensures stays { Stays (F.told f.old) (F.told f.new) }
+    ensures later { F.faults f.old ≤ F.faults f.new }
+    ensures failed { OnErr result (Rises (F.faults f.old) (F.faults f.new)) }
+{
+    if words.key_len <= MOST_IN_RECORD {
+        return Ok(words.long_key == 0);
+    }
+    is_stored(f, files, words.key_len + 1, words.long_key)
+}
+
+// Reads the key of a record into a buffer of its length, by one folder call.
+pub(crate) fn read_key<F: Folder>(
+    f: &mut F,
+    files: &BlockFiles,
+    entry: Addr,
+    words: &RecordWords,
+    out: &mut [u8],
+) -> Result<(), Fault>
+    requires kind { kind_of entry ≡ blocks_256 }
+    requires stands { IsTrue (stands_among files.now entry) }
+    requires placed { IsPlaced files.now entry words.now.key_len words.now.long_key }
+    requires size { length out.old ≡ words.now.key_len }
+    ensures key { OnOk result (ForSome (F.told f.old).files (λ image. (key : List ℕ) → stored_key (store_of image) entry (fields_said words.now) ≡ Some key → out.new ≡ key)) }
+    ensures stays { Stays (F.told f.old) (F.told f.new) }
+    ensures short { IfDamaged result (IsCutRead files.now (F.told f.old)) }
+    ensures untold { ForSome (F.told f.old).files (λ image. Agrees files.now image) → ForSome (F.told f.old).files (λ image. is_some (stored_key (store_of image) entry (fields_said words.now)) ≡ true) → IfDamaged result (λ _. (F.told f.old).files ≡ None) }
+    ensures later { F.faults f.old ≤ F.faults f.new }
+    ensures device { IfDevice result (Rises (F.faults f.old) (F.faults f.new)) }
+{
+    if words.key_len <= MOST_IN_RECORD {
+        return read_data(f, files, entry, EntryView::SIZE as u32, out);
+    }
+    let Some(addr) = Addr::from_word(words.long_key) else {
+        unreachable!();
+    };
+    read_data(f, files, addr, 0, out)
+}

@@ -1,0 +1,44 @@
+// The bits of a parent's index.
+ghost use Rattle.std.specs.Prelude.{◌≡◌, ◌≤◌, ◌<◌, List, ℕ, IfOk, None, Some, true};
+ghost use Rattle.std.specs.Option.{ForSome};
+ghost use Rattle.blk_image.specs.Told.{Rises, Stays};
+ghost use Rattle.blk_model.specs.Sizes.{part_count};
+ghost use Rattle.blk_format.specs.SparseIndex.{ParentIndex, read_parent_index};
+ghost use Rattle.blk_volume.specs.View.{stored_at};
+ghost use Rattle.blk_io.specs.Faults.{IfDamaged, IfDevice};
+ghost use Rattle.blk_disk.specs.Tables.{Agrees};
+ghost use Rattle.blk_entry.specs.Keys.{stores};
+ghost use Rattle.blk_verdict.specs.Reads.{IsCutRead};
+
+use blk_addr::Addr;
+use blk_disk::BlockFiles;
+use blk_entry::read_data;
+use blk_io::{Fault, Folder};
+use blk_ranges::{has_part_bit, place_of_part};
+
+/// Whether the index of a parent has a part, where `word` is the word of the storage of the index.
+///
+/// One folder call reads the byte with the bit. A damage is a read that gave too few bytes; a folder whose files are
+/// those of `files` gives none.
+pub fn has_part<F: Folder>(
+    f: &mut F,
+    files: &BlockFiles,
+    word: u32,
+    part: u32,
+) -> Result<bool, Fault>
+    requires stored { stores files.now 8256 word ≡ true }
+    requires part { part < part_count }
+    ensures bit { IfOk result (λ has. ForSome (F.told f.old).files (λ image. (bytes : List ℕ) (index : ParentIndex) → stored_at image 8256 word ≡ Some bytes → read_parent_index bytes ≡ Some index → has ≡ index.has_part part)) }
+    ensures stays { Stays (F.told f.old) (F.told f.new) }
+    ensures short { IfDamaged result (IsCutRead files.now (F.told f.old)) }
+    ensures untold { ForSome (F.told f.old).files (Agrees files.now) → IfDamaged result (λ _. (F.told f.old).files ≡ None) }
+    ensures later { F.faults f.old ≤ F.faults f.new }
+    ensures device { IfDevice result (Rises (F.faults f.old) (F.faults f.new)) }
+{
+    let Some(addr) = Addr::from_word(word) else {
+        unreachable!();
+    };
+    let mut byte = [0u8; 1];
+    read_data(f, files, addr, place_of_part(part), &mut byte)?;
+    Ok(has_part_bit(byte[0], part))
+}

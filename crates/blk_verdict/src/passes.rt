@@ -1,0 +1,146 @@
+// The two passes over the walked nodes.
+ghost use Rattle.std.specs.Prelude.{◌≡◌, ◌≤◌, ◌++◌, ◌∷◌, [], ℕ, List, IfOk, None, OnOk, Some, slice_get, true};
+ghost use Rattle.std.specs.Option.{ForSome};
+ghost use Rattle.blk_image.specs.Told.{Rises, Stays};
+ghost use Rattle.blk_volume.specs.Audit as audit;
+ghost use Rattle.blk_format.specs.BlockFiles.{is_among};
+ghost use Rattle.blk_volume.specs.Loads.{held_rule};
+ghost use Rattle.blk_volume.specs.ListImages.{completed_walk};
+ghost use Rattle.blk_volume.specs.View.{store_of};
+ghost use Rattle.blk_disk.specs.Tables.{Agrees};
+ghost use Rattle.blk_audit.specs.Faults.{IfScanDamaged, IfScanDevice};
+ghost use Rattle.blk_audit.specs.ReadLists.{AreListsOf};
+ghost use Rattle.blk_audit.specs.Walking.{nodes_walked};
+ghost use Rattle.blk_verdict.specs.Kept.{HaveKeys, IsKeptInOrder};
+ghost use Rattle.blk_verdict.specs.Passes as passing;
+ghost use Rattle.blk_verdict.specs.Passes.{AreTried, CanBeTried, IsAnswered, of_pass};
+ghost use Rattle.blk_verdict.specs.Reads.{IsCutRead};
+
+use crate::judging::judge_walked;
+use crate::kept::KeptSoFar;
+use crate::reason::Reason;
+use crate::walked_nodes::is_child;
+use blk_addr::NoMemory;
+use blk_audit::{Lists, ScanFault};
+use blk_disk::BlockFiles;
+use blk_io::Folder;
+use std::alloc::Global;
+
+// What came of a walked node.
+#[derive(Clone, Copy, Debug)]
+pub(crate) struct Tried {
+    // which of the walked nodes it is, counted from 0
+    place: usize,
+    // why it is dropped, or none where it is kept
+    reason: Option<Reason>,
+}
+
+// The walked nodes in the order in which they were tried, and the records that are kept.
+#[derive(Drop)]
+pub(crate) struct Judged {
+    pub(crate) kept: KeptSoFar,
+    pub(crate) tried: Vec<Tried>,
+}
+
+// Judges the walked nodes in two passes: first those whose record is not a child, then the children.
+//
+// The folder calls are those of two passes. A damage is a read that gave too few bytes; a folder whose files are those
+// of `files`, and of which the lists were read, gives none.
+pub(crate) fn judge_nodes<F: Folder>(
+    alloc: Global,
+    f: &mut F,
+    files: &BlockFiles,
+    lists: &Lists,
+) -> Result<Judged, ScanFault>
+    ensures judged { IfOk result (λ judged. ForSome (F.told f.old).files (λ image. Agrees files.now image → AreListsOf image lists.now → AreTried image (completed_walk image) (audit.tried (store_of image) (completed_walk image)) judged.kept.kept.items judged.tried.items)) }
+
+    // What came of each walked node is the verdict on it.
+    ensures answered { IfOk result (λ judged. ForSome (F.told f.old).files (λ image. Agrees files.now image → AreListsOf image lists.now → (node : ℕ) → is_among (completed_walk image) node ≡ true → IsAnswered (completed_walk image) judged.tried.items node (audit.verdict_on (audit.judged (store_of image) held_rule (completed_walk image)) node))) }
+
+    ensures order { IfOk result (λ judged. IsKeptInOrder files.now judged.kept) }
+    ensures stays { Stays (F.told f.old) (F.told f.new) }
+    ensures short { IfScanDamaged result (IsCutRead files.now (F.told f.old)) }
+    ensures untold { ForSome (F.told f.old).files (Agrees files.now) → ForSome (F.told f.old).files (λ image. AreListsOf image lists.now) → IfScanDamaged result (λ _. (F.told f.old).files ≡ None) }
+    ensures later { F.faults f.old ≤ F.faults f.new }
+    ensures device { IfScanDevice result (Rises (F.faults f.old) (F.faults f.new)) }
+{
+    let mut kept = KeptSoFar::none(alloc);
+    let mut tried = Vec::new(alloc);
+    try_pass(f, files, lists, false, &mut kept, &mut tried)?;
+    try_pass(f, files, lists, true, &mut kept, &mut tried)?;
+    Ok(Judged { kept, tried })
+}
+
+// Tries the walked nodes of a pass in their order: the children, or the others.
+//
+// The folder calls are those of `is_child` for each walked node, and those of `judge_walked` for each of the pass. Where
+// it does not succeed, what was tried and is kept is of no more use.
+pub(crate) fn try_pass<F: Folder>(
+    f: &mut F,
+    files: &BlockFiles,
+    lists: &Lists,
+    children: bool,
+    kept: &mut KeptSoFar,
+    tried: &mut Vec<Tried>,
+) -> Result<(), ScanFault>
+    requires order { IsKeptInOrder files.now kept.old }
+    ensures tried { OnOk result (ForSome (F.told f.old).files (λ image. Agrees files.now image → AreListsOf image lists.now → (before : List ℕ) → AreTried image (nodes_walked lists.now.walked) before kept.old.kept.items tried.old.items → AreTried image (nodes_walked lists.now.walked) (before ++ of_pass (store_of image) children (nodes_walked lists.now.walked)) kept.new.kept.items tried.new.items)) }
+    ensures keys { OnOk result (ForSome (F.told f.old).files (λ image. CanBeTried files.now lists.now kept.old.kept.items image → HaveKeys image kept.new.kept.items)) }
+    ensures order { OnOk result (IsKeptInOrder files.now kept.new) }
+    ensures stays { Stays (F.told f.old) (F.told f.new) }
+    ensures short { IfScanDamaged result (IsCutRead files.now (F.told f.old)) }
+    ensures untold { ForSome (F.told f.old).files (CanBeTried files.now lists.now kept.old.kept.items) → IfScanDamaged result (λ _. (F.told f.old).files ≡ None) }
+    ensures later { F.faults f.old ≤ F.faults f.new }
+    ensures device { IfScanDevice result (Rises (F.faults f.old) (F.faults f.new)) }
+{
+    for i in 0..lists.walked.count() {
+        try_at(f, files, lists, i, children, kept, tried)?;
+    }
+    Ok(())
+}
+
+// Tries one of the walked nodes, if it is one of the pass.
+fn try_at<F: Folder>(
+    f: &mut F,
+    files: &BlockFiles,
+    lists: &Lists,
+    i: usize,
+    children: bool,
+    kept: &mut KeptSoFar,
+    tried: &mut Vec<Tried>,
+) -> Result<(), ScanFault>
+    requires order { IsKeptInOrder files.now kept.old }
+    ensures tried { OnOk result (ForSome (F.told f.old).files (λ image. Agrees files.now image → AreListsOf image lists.now → (before : List ℕ) (w : ℕ) → slice_get (nodes_walked lists.now.walked) i ≡ Some w → AreTried image (nodes_walked lists.now.walked) before kept.old.kept.items tried.old.items → AreTried image (nodes_walked lists.now.walked) (before ++ of_pass (store_of image) children (w ∷ [])) kept.new.kept.items tried.new.items)) }
+    ensures keys { OnOk result (ForSome (F.told f.old).files (λ image. CanBeTried files.now lists.now kept.old.kept.items image → HaveKeys image kept.new.kept.items)) }
+    ensures order { OnOk result (IsKeptInOrder files.now kept.new) }
+    ensures stays { Stays (F.told f.old) (F.told f.new) }
+    ensures short { IfScanDamaged result (IsCutRead files.now (F.told f.old)) }
+    ensures untold { ForSome (F.told f.old).files (CanBeTried files.now lists.now kept.old.kept.items) → IfScanDamaged result (λ _. (F.told f.old).files ≡ None) }
+    ensures later { F.faults f.old ≤ F.faults f.new }
+    ensures device { IfScanDevice result (Rises (F.faults f.old) (F.faults f.new)) }
+{
+    let Some(here) = lists.node(i) else {
+        return Ok(());
+    };
+    let child = is_child(f, files, lists, &here)?;
+    if is_of_pass(children, child) {
+        let reason = judge_walked(f, files, lists, kept, &here)?;
+        push(tried, Tried { place: i, reason })?;
+    }
+    Ok(())
+}
+
+// Whether a node is one of a pass.
+fn is_of_pass(children: bool, child: bool) -> bool
+    ensures { result ≡ passing.is_of_pass children child }
+{
+    if children { child } else { !child }
+}
+
+// Adds what came of a node.
+fn push(tried: &mut Vec<Tried>, one: Tried) -> Result<(), NoMemory>
+    ensures { OnOk result (tried.new.items ≡ tried.old.items ++ one ∷ []) }
+{
+    tried.push(one)?;
+    Ok(())
+}

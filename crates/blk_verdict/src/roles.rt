@@ -1,0 +1,181 @@
+// What its flags and its index make a record.
+ghost use Rattle.std.specs.Prelude.{◌≡◌, ◌≤◌, ◌<◌, ◌==◌, ◌&&◌, if◌then◌else◌, ℕ, List, IfOk, None, OnOk, Some, length, slice_index, take, true};
+ghost use Rattle.std.specs.Option.{ForSome};
+ghost use Rattle.blk_image.specs.Told.{Rises, Stays};
+ghost use Rattle.blk_format.specs.Records.{child};
+ghost use Rattle.blk_volume.specs.Entries as entries;
+ghost use Rattle.blk_volume.specs.Entries.{stored_streams};
+ghost use Rattle.blk_volume.specs.View.{store_of, stored_at};
+ghost use Rattle.blk_io.specs.Faults.{IfDamaged, IfDevice};
+ghost use Rattle.blk_disk.specs.Tables.{Agrees};
+ghost use Rattle.blk_entry.specs.Keys.{stores};
+ghost use Rattle.blk_verdict.specs.Readable.{HasIndexIf};
+ghost use Rattle.blk_verdict.specs.Reads.{IsCutRead};
+ghost use Rattle.blk_audit.specs.Records.{fields_said};
+ghost use Rattle.blk_verdict.specs.Roles.{IsRoleIf};
+ghost use Rattle.blk_verdict.specs.declared.roles.Role.TheVariants as role;
+ghost use Rattle.blk_ranges.specs.PartMaps.{index_of, map_signature};
+ghost use Rattle.std.specs.Int.{cast_unsigned, w64};
+
+use crate::covers::{is_covered, is_named};
+use blk_addr::Addr;
+use blk_audit::RecordWords;
+use blk_disk::BlockFiles;
+use blk_entry::read_data;
+use blk_io::{Fault, Folder};
+use blk_ranges::{ChildName, ParentHead, PartMap, read_child_name};
+
+// The flags of a parent and of a part.
+const PARENT: u32 = 1;
+
+const CHILD: u32 = 2;
+
+// The bytes of a parent's index, of its head, and of a part's index.
+const PARENT_INDEX: u32 = 8256;
+
+const HEAD: usize = 64;
+
+const PART_INDEX: u32 = 192;
+
+// The most bytes of a part's data.
+const PART_SIZE: u32 = 1_048_576;
+
+/// What a record is.
+#[derive(Clone, Copy, Debug, PartialEq, Eq)]
+pub enum Role {
+    /// An entry without sparse data.
+    Plain,
+    /// A sparse entry, with the head of its index.
+    Parent(ParentHead),
+    /// A part of a sparse entry, by its name.
+    Part(ChildName),
+}
+
+// What a record with three streams is, if its index is right; a parent or a part takes one folder call. Of a part
+// this is the key; no other key is looked at.
+pub(crate) fn read_role<F: Folder>(
+    f: &mut F,
+    files: &BlockFiles,
+    words: &RecordWords,
+    key: &[u8],
+) -> Result<Option<Role>, Fault>
+    requires stored { stores files.now (slice_index words.now.sizes 2) (slice_index words.now.addrs 2) ≡ true }
+    ensures role { IfOk result (λ role. ForSome (F.told f.old).files (λ image. (stored : List ℕ) (streams : List (List ℕ)) → (words.now.flags ≡ child → stored ≡ key.now) → stored_streams (store_of image) (fields_said words.now) ≡ Some streams → IsRoleIf stored (entries.role_of (fields_said words.now) stored streams) role)) }
+    ensures index { IfOk result (HasIndexIf files.now words.now.sizes words.now.addrs) }
+    ensures stays { Stays (F.told f.old) (F.told f.new) }
+    ensures short { IfDamaged result (IsCutRead files.now (F.told f.old)) }
+    ensures untold { ForSome (F.told f.old).files (Agrees files.now) → IfDamaged result (λ _. (F.told f.old).files ≡ None) }
+    ensures later { F.faults f.old ≤ F.faults f.new }
+    ensures device { IfDevice result (Rises (F.faults f.old) (F.faults f.new)) }
+{
+    if words.flags == PARENT {
+        parent_role(f, files, words)
+    } else if words.flags == CHILD {
+        part_role(f, files, words, key)
+    } else {
+        Ok(Some(Role::Plain))
+    }
+}
+
+// A parent, where its index is right.
+fn parent_role<F: Folder>(
+    f: &mut F,
+    files: &BlockFiles,
+    words: &RecordWords,
+) -> Result<Option<Role>, Fault>
+    requires stored { stores files.now (slice_index words.now.sizes 2) (slice_index words.now.addrs 2) ≡ true }
+    ensures role { IfOk result (λ role. ForSome (F.told f.old).files (λ image. (key : List ℕ) (streams : List (List ℕ)) → stored_streams (store_of image) (fields_said words.now) ≡ Some streams → IsRoleIf key (entries.parent_role (fields_said words.now) streams) role)) }
+    ensures index { IfOk result (HasIndexIf files.now words.now.sizes words.now.addrs) }
+    ensures stays { Stays (F.told f.old) (F.told f.new) }
+    ensures short { IfDamaged result (IsCutRead files.now (F.told f.old)) }
+    ensures untold { ForSome (F.told f.old).files (Agrees files.now) → IfDamaged result (λ _. (F.told f.old).files ≡ None) }
+    ensures later { F.faults f.old ≤ F.faults f.new }
+    ensures device { IfDevice result (Rises (F.faults f.old) (F.faults f.new)) }
+{
+    if words.sizes[1] != 0 || words.sizes[2] != PARENT_INDEX {
+        return Ok(None);
+    }
+    let mut bytes = [0u8; HEAD];
+    read_front(f, files, words.sizes[2], words.addrs[2], &mut bytes)?;
+    match ParentHead::read(&bytes) {
+        Some(head) => Ok(parent_with(head, words.key_len)),
+        None => Ok(None),
+    }
+}
+
+// A parent with this head, where it has the length of the key.
+fn parent_with(head: ParentHead, key_len: u32) -> Option<Role>
+    ensures { result ≡ (if head.key_len == key_len then Some (role.Parent head) else None) }
+{
+    if head.key_len == key_len {
+        Some(Role::Parent(head))
+    } else {
+        None
+    }
+}
+
+// A part, where its key is a name, and its index goes with the name and its data.
+fn part_role<F: Folder>(
+    f: &mut F,
+    files: &BlockFiles,
+    words: &RecordWords,
+    key: &[u8],
+) -> Result<Option<Role>, Fault>
+    requires stored { stores files.now (slice_index words.now.sizes 2) (slice_index words.now.addrs 2) ≡ true }
+    ensures role { IfOk result (λ role. ForSome (F.told f.old).files (λ image. (streams : List (List ℕ)) → stored_streams (store_of image) (fields_said words.now) ≡ Some streams → IsRoleIf key.now (entries.part_role key.now streams) role)) }
+    ensures index { IfOk result (HasIndexIf files.now words.now.sizes words.now.addrs) }
+    ensures stays { Stays (F.told f.old) (F.told f.new) }
+    ensures short { IfDamaged result (IsCutRead files.now (F.told f.old)) }
+    ensures untold { ForSome (F.told f.old).files (Agrees files.now) → IfDamaged result (λ _. (F.told f.old).files ≡ None) }
+    ensures later { F.faults f.old ≤ F.faults f.new }
+    ensures device { IfDevice result (Rises (F.faults f.old) (F.faults f.new)) }
+{
+    if words.sizes[0] != 0 || words.sizes[1] > PART_SIZE || words.sizes[2] != PART_INDEX {
+        return Ok(None);
+    }
+    let Some(name) = read_child_name(key) else {
+        return Ok(None);
+    };
+    let mut bytes = [0u8; PART_INDEX as usize];
+    read_front(f, files, words.sizes[2], words.addrs[2], &mut bytes)?;
+    match PartMap::read(&bytes) {
+        Some(map) => Ok(part_with(&map, name, words.sizes[1])),
+        None => Ok(None),
+    }
+}
+
+// A part of this name, where its map goes with the name and so many bytes of data.
+fn part_with(map: &PartMap, name: ChildName, size: u32) -> Option<Role>
+    ensures { result ≡ (if (map_signature map.now == cast_unsigned w64 name.signature) && (map.now.key_len == name.key_len) && entries.is_covered (index_of map.now) size then Some (role.Part name) else None) }
+{
+    if is_named(map, &name) && is_covered(map, size) {
+        Some(Role::Part(name))
+    } else {
+        None
+    }
+}
+
+// Reads the front of data in blocks, which is stored as its address word says, by one folder call.
+fn read_front<F: Folder>(
+    f: &mut F,
+    files: &BlockFiles,
+    size: u32,
+    word: u32,
+    out: &mut [u8],
+) -> Result<(), Fault>
+    requires some { 0 < size }
+    requires blocks { size ≤ 16384 }
+    requires stored { stores files.now size word ≡ true }
+    requires inside { length out.old ≤ size }
+    ensures front { OnOk result (ForSome (F.told f.old).files (λ image. (bytes : List ℕ) → stored_at image size word ≡ Some bytes → out.new ≡ take (length out.old) bytes)) }
+    ensures stays { Stays (F.told f.old) (F.told f.new) }
+    ensures short { IfDamaged result (IsCutRead files.now (F.told f.old)) }
+    ensures untold { ForSome (F.told f.old).files (Agrees files.now) → IfDamaged result (λ _. (F.told f.old).files ≡ None) }
+    ensures later { F.faults f.old ≤ F.faults f.new }
+    ensures device { IfDevice result (Rises (F.faults f.old) (F.faults f.new)) }
+{
+    let Some(addr) = Addr::from_word(word) else {
+        unreachable!();
+    };
+    read_data(f, files, addr, 0, out)
+}

@@ -1,0 +1,107 @@
+// Whether a record that is loaded has a key.
+ghost use Rattle.std.specs.Prelude.{◌≡◌, ◌≤◌, List, ℕ, IfOk, None, OnOk, length};
+ghost use Rattle.std.specs.Option.{ForSome};
+ghost use Rattle.std.specs.Str.{bytes_eq};
+ghost use Rattle.blk_image.specs.Told.{Rises, Stays};
+ghost use Rattle.blk_io.specs.Faults.{IfDamaged, IfDevice};
+ghost use Rattle.blk_disk.specs.Tables.{Agrees};
+ghost use Rattle.blk_verdict.specs.Keyed.{HasItsKey, IsKeyOf, words_kept};
+ghost use Rattle.blk_verdict.specs.Readable.{IsReadable};
+ghost use Rattle.blk_verdict.specs.Reads.{IsCutRead};
+
+use crate::keys::read_key;
+use crate::loading::Loaded;
+use blk_audit::RecordWords;
+use blk_disk::BlockFiles;
+use blk_io::{Fault, Folder};
+
+// The longest key: the name of a part.
+const MOST_NAME: usize = 32_796;
+
+/// Whether a record that is loaded has this key.
+///
+/// Only where its length is that of the key is the record's key read, by one folder call. A damage is a read that gave
+/// too few bytes; a folder whose files are those of `files`, and that has the key, gives none.
+pub fn has_this_key<F: Folder>(
+    f: &mut F,
+    files: &BlockFiles,
+    loaded: &Loaded,
+    key: &[u8],
+) -> Result<bool, Fault>
+    requires readable { IsReadable files.now loaded.now }
+    ensures same { IfOk result (λ same. ForSome (F.told f.old).files (λ image. (stored : List ℕ) → Agrees files.now image → IsKeyOf image loaded.now stored → same ≡ bytes_eq stored key.now)) }
+    ensures stays { Stays (F.told f.old) (F.told f.new) }
+    ensures short { IfDamaged result (IsCutRead files.now (F.told f.old)) }
+    ensures untold { ForSome (F.told f.old).files (Agrees files.now) → ForSome (F.told f.old).files (λ image. HasItsKey image loaded.now) → IfDamaged result (λ _. (F.told f.old).files ≡ None) }
+    ensures later { F.faults f.old ≤ F.faults f.new }
+    ensures device { IfDevice result (Rises (F.faults f.old) (F.faults f.new)) }
+{
+    if loaded.key_len as usize != key.len() {
+        return Ok(false);
+    }
+    if key.len() > MOST_NAME {
+        return Ok(false);
+    }
+    is_stored_key(f, files, loaded, key)
+}
+
+// Whether the key of a record, which has the length of this one, is this one.
+fn is_stored_key<F: Folder>(
+    f: &mut F,
+    files: &BlockFiles,
+    loaded: &Loaded,
+    key: &[u8],
+) -> Result<bool, Fault>
+    requires readable { IsReadable files.now loaded.now }
+    requires len { loaded.now.key_len ≡ length key.now }
+    requires short { length key.now ≤ 32796 }
+    ensures same { IfOk result (λ same. ForSome (F.told f.old).files (λ image. (stored : List ℕ) → IsKeyOf image loaded.now stored → same ≡ bytes_eq stored key.now)) }
+    ensures stays { Stays (F.told f.old) (F.told f.new) }
+    ensures short { IfDamaged result (IsCutRead files.now (F.told f.old)) }
+    ensures untold { ForSome (F.told f.old).files (Agrees files.now) → ForSome (F.told f.old).files (λ image. HasItsKey image loaded.now) → IfDamaged result (λ _. (F.told f.old).files ≡ None) }
+    ensures later { F.faults f.old ≤ F.faults f.new }
+    ensures device { IfDevice result (Rises (F.faults f.old) (F.faults f.new)) }
+{
+    let mut buffer = [0u8; MOST_NAME];
+    let stored = &mut buffer[..key.len()];
+    read_key_of(f, files, loaded, stored)?;
+    Ok(*stored == *key)
+}
+
+// Reads the key of a record that is loaded into a buffer of its length, by one folder call.
+pub(crate) fn read_key_of<F: Folder>(
+    f: &mut F,
+    files: &BlockFiles,
+    loaded: &Loaded,
+    out: &mut [u8],
+) -> Result<(), Fault>
+    requires readable { IsReadable files.now loaded.now }
+    requires size { length out.old ≡ loaded.now.key_len }
+    ensures key { OnOk result (ForSome (F.told f.old).files (λ image. (key : List ℕ) → IsKeyOf image loaded.now key → out.new ≡ key)) }
+    ensures stays { Stays (F.told f.old) (F.told f.new) }
+    ensures short { IfDamaged result (IsCutRead files.now (F.told f.old)) }
+    ensures untold { ForSome (F.told f.old).files (Agrees files.now) → ForSome (F.told f.old).files (λ image. HasItsKey image loaded.now) → IfDamaged result (λ _. (F.told f.old).files ≡ None) }
+    ensures later { F.faults f.old ≤ F.faults f.new }
+    ensures device { IfDevice result (Rises (F.faults f.old) (F.faults f.new)) }
+{
+    let words = words_of(loaded);
+    read_key(f, files, loaded.entry, &words, out)
+}
+
+// The words that are kept of a record.
+fn words_of(loaded: &Loaded) -> RecordWords
+    ensures { result ≡ words_kept loaded.now }
+{
+    RecordWords {
+        checks: true,
+        hash: loaded.hash,
+        next: 0,
+        node: loaded.node.word(),
+        state: 0,
+        key_len: loaded.key_len,
+        long_key: loaded.long_key,
+        sizes: loaded.sizes,
+        addrs: loaded.addrs,
+        flags: 0,
+    }
+}

@@ -1,0 +1,62 @@
+// The streams of a record that is judged.
+ghost use Rattle.std.specs.Prelude.{◌≡◌, ◌≤◌, IfOk, IsTrue, OnErr, is_some, true, slice_index};
+ghost use Rattle.std.specs.Option.{ForSome};
+ghost use Rattle.blk_image.specs.Told.{Rises, Stays};
+ghost use Rattle.blk_volume.specs.Entries.{stored_streams};
+ghost use Rattle.blk_volume.specs.View.{store_of};
+ghost use Rattle.blk_disk.specs.Tables.{Agrees};
+ghost use Rattle.blk_entry.specs.Keys.{stores};
+ghost use Rattle.blk_audit.specs.Records.{fields_said};
+ghost use Rattle.blk_verdict.specs.Streams.{is_stream};
+
+use crate::storage::is_stored;
+use blk_audit::RecordWords;
+use blk_disk::BlockFiles;
+use blk_io::{Failed, Folder};
+
+// The most bytes of a stream.
+const MOST_BYTES: u32 = 2_147_483_647;
+
+// Whether the three streams of a record are stored as their sizes ask for, and it has no fourth; one folder call for
+// each that is an external file.
+pub(crate) fn has_streams<F: Folder>(
+    f: &mut F,
+    files: &BlockFiles,
+    words: &RecordWords,
+) -> Result<bool, Failed>
+    ensures streams { IfOk result (λ has. ForSome (F.told f.old).files (λ image. Agrees files.now image → has ≡ is_some (stored_streams (store_of image) (fields_said words.now)))) }
+    ensures stores { IfOk result (λ has. IsTrue has → stores files.now (slice_index words.now.sizes 2) (slice_index words.now.addrs 2) ≡ true) }
+    ensures stays { Stays (F.told f.old) (F.told f.new) }
+    ensures later { F.faults f.old ≤ F.faults f.new }
+    ensures failed { OnErr result (Rises (F.faults f.old) (F.faults f.new)) }
+{
+    if words.sizes[3] != 0 || words.addrs[3] != 0 {
+        return Ok(false);
+    }
+    if !has_stream(f, files, words.sizes[0], words.addrs[0])? {
+        return Ok(false);
+    }
+    if !has_stream(f, files, words.sizes[1], words.addrs[1])? {
+        return Ok(false);
+    }
+    has_stream(f, files, words.sizes[2], words.addrs[2])
+}
+
+// Whether a stream with this size and this address word is stored.
+fn has_stream<F: Folder>(
+    f: &mut F,
+    files: &BlockFiles,
+    size: u32,
+    word: u32,
+) -> Result<bool, Failed>
+    ensures stream { IfOk result (λ has. ForSome (F.told f.old).files (λ image. Agrees files.now image → has ≡ is_stream image size word)) }
+    ensures stores { IfOk result (λ has. IsTrue has → stores files.now size word ≡ true) }
+    ensures stays { Stays (F.told f.old) (F.told f.new) }
+    ensures later { F.faults f.old ≤ F.faults f.new }
+    ensures failed { OnErr result (Rises (F.faults f.old) (F.faults f.new)) }
+{
+    if size > MOST_BYTES {
+        return Ok(false);
+    }
+    is_stored(f, files, size, word)
+}

@@ -1,0 +1,83 @@
+// The verdict on walked nodes, by what was read with the lists.
+ghost use Rattle.std.specs.Prelude.{◌≡◌, ◌≤◌, ◌&&◌, ◌==◌, IfOk, None, Some};
+ghost use Rattle.std.specs.Option.{ForSome};
+ghost use Rattle.blk_image.specs.Told.{Rises, Stays};
+ghost use Rattle.blk_format.specs.Records.{child};
+ghost use Rattle.blk_io.specs.Faults.{IfDamaged, IfDevice};
+ghost use Rattle.blk_volume.specs.Audit as audit;
+ghost use Rattle.blk_volume.specs.Loads as shown;
+ghost use Rattle.blk_volume.specs.Loads.{held_rule};
+ghost use Rattle.blk_volume.specs.View.{store_of};
+ghost use Rattle.blk_disk.specs.Tables.{Agrees};
+ghost use Rattle.blk_audit.specs.Faults.{IsRecordDamage};
+ghost use Rattle.blk_audit.specs.ReadLists.{AreListsOf, IsSaidAt};
+ghost use Rattle.blk_verdict.specs.Readable.{IsReadableIf};
+ghost use Rattle.blk_verdict.specs.Reads.{IsCutRead};
+ghost use Rattle.blk_verdict.specs.Verdicts.{IsVerdict};
+
+use crate::loading::{Verdict, load_words};
+use crate::reason::Reason;
+use blk_audit::{Lists, RecordWords, WalkedNode};
+use blk_disk::BlockFiles;
+use blk_io::{Fault, Folder};
+
+// The flags of a part.
+const CHILD: u32 = 2;
+
+/// The verdict on a walked node by itself.
+///
+/// The calls are those of `load_words`, and one more where the record was not read with the lists. A damage is a read
+/// that gave too few bytes; a folder whose files are those of `files` gives none.
+pub fn load_walked<F: Folder>(
+    f: &mut F,
+    files: &BlockFiles,
+    lists: &Lists,
+    node: &WalkedNode,
+) -> Result<Verdict, Fault>
+    ensures verdict { IfOk result (λ verdict. ForSome (F.told f.old).files (λ image. Agrees files.now image → AreListsOf image lists.now → IsSaidAt image node.now → IsVerdict (shown.load (store_of image) held_rule node.now.addr) verdict)) }
+    ensures readable { IfOk result (IsReadableIf files.now) }
+    ensures stays { Stays (F.told f.old) (F.told f.new) }
+    ensures short { IfDamaged result (IsCutRead files.now (F.told f.old)) }
+    ensures untold { ForSome (F.told f.old).files (Agrees files.now) → IfDamaged result (λ _. (F.told f.old).files ≡ None) }
+    ensures later { F.faults f.old ≤ F.faults f.new }
+    ensures device { IfDevice result (Rises (F.faults f.old) (F.faults f.new)) }
+{
+    let Some(entry) = files.entry(node.contents) else {
+        return Ok(Verdict::Dropped(Reason::Contents));
+    };
+    let said = lists.record_at(f, files, entry)?;
+    let reached = lists.reached.contains(entry.word());
+    load_words(f, files, node.addr, entry, node.dirty, &said, reached)
+}
+
+/// Whether a walked node names a record that checks and is a part's; such nodes are judged behind the others.
+///
+/// One folder call reads a record that was not read with the lists; no other call is made. A damage is a read that
+/// gave too few bytes; a folder whose files are those of `files` gives none.
+pub fn is_child<F: Folder>(
+    f: &mut F,
+    files: &BlockFiles,
+    lists: &Lists,
+    node: &WalkedNode,
+) -> Result<bool, Fault>
+    ensures child { IfOk result (λ is. ForSome (F.told f.old).files (λ image. Agrees files.now image → AreListsOf image lists.now → IsSaidAt image node.now → is ≡ audit.is_child (store_of image) node.now.addr)) }
+    ensures stays { Stays (F.told f.old) (F.told f.new) }
+    ensures damaged { IfDamaged result (IsRecordDamage files.now (F.told f.new)) }
+    ensures untold { ForSome (F.told f.new).files (Agrees files.now) → IfDamaged result (λ _. (F.told f.new).files ≡ None) }
+    ensures later { F.faults f.old ≤ F.faults f.new }
+    ensures device { IfDevice result (Rises (F.faults f.old) (F.faults f.new)) }
+{
+    let Some(entry) = files.entry(node.contents) else {
+        return Ok(false);
+    };
+    let said = lists.record_at(f, files, entry)?;
+    let is = is_part(&said.words);
+    Ok(is)
+}
+
+// Whether a record checks and is a part's.
+fn is_part(words: &RecordWords) -> bool
+    ensures { result ≡ (words.now.checks && (words.now.flags == child)) }
+{
+    words.checks && words.flags == CHILD
+}
