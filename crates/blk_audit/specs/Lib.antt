@@ -7,4 +7,5 @@ pub mod Filling
 pub mod Nodes
 pub mod ReadLists
 pub mod Records
+pub mod Sealable
 pub mod Walking

@@ -38,7 +38,8 @@ use Rattle.blk_repair.specs.Damages.{AllCheck}
 use Rattle.blk_volume.specs.Found.{kept}
 use Rattle.blk_repair_laws.specs.Mended.{AreKeptSealed}
 use Rattle.blk_repair_laws.proofs.Seals as laws
-use Rattle.blk_repair.specs.Seals.{AreOthersSealed, AreSealedNow, HasMendedLinksOf, IsNextSealed, IsOfKept, seals_steps}
+use Rattle.blk_repair_laws.specs.KeptSeals.{AreOthersSealed, IsOfKept}
+use Rattle.blk_repair.specs.Seals.{AreSealedNow, HasMendedLinksOf, IsNextSealed, seals_steps}
 use Rattle.blk_repair.proofs.Progress.{Leads}
 
 -- an image of which a word is written can be written still

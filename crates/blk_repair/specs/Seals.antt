@@ -1,17 +1,15 @@
 -- Nodes and records that are sealed, while the links stay mended.
-use Rattle.std.specs.Prelude.{ℕ, ◌≡◌, ◌⊎◌, List, [], ◌∷◌, ◌++◌, All, Contains, map, true}
+use Rattle.std.specs.Prelude.{ℕ, List, [], ◌∷◌, ◌++◌, All}
 use Rattle.blk_image.specs.Image.{Image}
 use Rattle.blk_image.specs.Steps.{TrailStep, after}
 use Rattle.blk_image.specs.Told.{Told}
-use Rattle.blk_format.specs.BlockFiles.{is_among}
-use Rattle.blk_format.specs.Sealed.{BeginsWithRecord, record_size, seal_steps}
-use Rattle.blk_volume.specs.Found.{kept}
+use Rattle.blk_format.specs.Sealed.{record_size, seal_steps}
 use Rattle.blk_volume.specs.ListImages.{IsWritable}
 use Rattle.blk_io.specs.declared.fault.Damage.{Damage}
 use Rattle.blk_disk.specs.declared.tables.BlockFiles.{BlockFiles}
 use Rattle.blk_disk.specs.Damages.{IsFailedRecord}
-use Rattle.blk_disk.specs.Tables.{stands_among}
-use Rattle.blk_repair_laws.specs.ChainRepair.{is_kept_record}
+use Rattle.blk_audit.specs.Sealable.{CanBeSealed}
+use Rattle.blk_repair_laws.specs.KeptSeals.{AreOthersSealed, IsOfKept}
 use Rattle.blk_repair_laws.specs.Mended.{AreKeptSealed, HasMendedFiles, HasOnlyKeptFiles}
 use Rattle.blk_repair_laws.specs.MendedChanges.{KeepsMendedLinks}
 use Rattle.blk_repair_laws.specs.RecordSeals.{IsSealedAt, KeepsRecordsSealed}
@@ -21,28 +19,15 @@ pub record HasMendedLinksOf (entry image : Image) : Type 0 where
   pub writable : IsWritable image
   pub keeps : KeepsMendedLinks entry image
 
--- the blocks of an address stand, and begin with a node or a record
-pub record CanBeSealed (files : BlockFiles) (w : ℕ) : Type 0 where
-  pub stands : stands_among files w ≡ true
-  pub begins : BeginsWithRecord w
-
 -- the records of some addresses are sealed, one after the other
 abbrev pub seals_steps : List ℕ → Image → List TrailStep
 seals_steps [] image = []
 seals_steps (w ∷ words) image = seal_steps image w ++ seals_steps words (after (seal_steps image w) image)
 
--- an address is that of a node or of a record of what is kept
-abbrev pub IsOfKept : Image → ℕ → Type 0
-IsOfKept entry w = (is_among (map (λ k. k.node) (kept entry)) w ≡ true) ⊎ (is_kept_record (kept entry) w ≡ true)
-
 -- the links are mended, and nodes and records of what is kept are sealed next
 pub record IsNextSealed (entry : Image) (words : List ℕ) (image : Image) : Type 0 where
   pub holds : HasMendedLinksOf entry image
   pub are_kept : All (IsOfKept entry) words
-
--- each node and each record of what is kept is sealed, or is one of these
-abbrev pub AreOthersSealed : Image → List ℕ → Image → Type 0
-AreOthersSealed entry words image = (w : ℕ) → IsOfKept entry w → IsSealedAt image w ⊎ Contains words w
 
 -- some nodes and records are sealed, so all are where the others were; what was sealed is so still, and files that were mended are mended still
 pub record AreSealedNow (entry from : Image) (words : List ℕ) (image : Image) : Type 0 where

@@ -5,7 +5,8 @@ ghost use Rattle.blk_image.specs.Image.{Image};
 ghost use Rattle.blk_image.specs.Told.{Applies, MakesPartOf, Passes, Rises};
 ghost use Rattle.blk_io.specs.Faults.{IfDamaged, IfDevice};
 ghost use Rattle.blk_disk.specs.Open.{IsOpen};
-ghost use Rattle.blk_repair.specs.Seals.{AreSealedNow, CanBeSealed, HasMendedLinksOf, IsNextSealed, IsWrongSealed, seals_steps};
+ghost use Rattle.blk_audit.specs.Sealable.{CanBeSealed};
+ghost use Rattle.blk_repair.specs.Seals.{AreSealedNow, HasMendedLinksOf, IsNextSealed, IsWrongSealed, seals_steps};
 
 use blk_addr::Addr;
 use blk_disk::BlockFiles;

@@ -1,0 +1,101 @@
+-- What the audit of a folder tells.
+use Rattle.std.specs.Prelude.{ℕ, ◌≡◌, ◌<◌, Bool, true, false, List, [], length, map, All, slice_index_or}
+use Rattle.std.specs.List.{flat_map, sum_by}
+use Rattle.std.specs.declared.option.Option.{Option}
+use Rattle.std.specs.declared.option.Option.TheVariants.{None, Some}
+use Rattle.blk_image.specs.Image.{Image}
+use Rattle.blk_format.specs.Headers.{table_length}
+use Rattle.blk_volume.specs.Chains.{IsChain}
+use Rattle.blk_volume.specs.Found.{charge_of, dropped, kept}
+use Rattle.blk_volume.specs.ListImages.{completed_walk}
+use Rattle.blk_volume.specs.Loads as shown
+use Rattle.blk_volume.specs.Loads.{is_part}
+use Rattle.blk_volume.specs.Reasons as reasons
+use Rattle.blk_volume.specs.Sound.{words_of}
+use Rattle.blk_volume.specs.View.{store_of}
+use Rattle.blk_addr.specs.Claims.{IsClaimsOf}
+use Rattle.blk_disk.specs.declared.tables.BlockFiles.{BlockFiles}
+use Rattle.blk_disk.specs.Tables.{is_node_among, is_record_among}
+use Rattle.blk_audit.specs.Sealable.{CanBeSealed}
+use Rattle.blk_repair_laws.specs.BucketEnds.{AreEnds, records_of}
+use Rattle.blk_repair_laws.specs.ChainRepair.{kept_records}
+use Rattle.blk_repair_laws.specs.KeptSeals.{AreOthersSealed, IsOfKept}
+use Rattle.blk_verdict.specs.Reasons.{reason_of}
+use Rattle.blk_scan.specs.declared.chains.KeptChains.{KeptChains}
+use Rattle.blk_scan.specs.declared.scan.Dropped.{Dropped}
+use Rattle.blk_scan.specs.declared.scan.Kept.{Kept}
+use Rattle.blk_scan.specs.declared.scan.Scan.{Scan}
+
+-- What is told of an image.
+
+-- what is told of a kept node: itself, its record, and whether that is a part
+abbrev pub kept_as_told : shown.Loaded → Kept
+kept_as_told loaded = record { node = loaded.node; entry = loaded.contents; child = is_part loaded }
+
+-- what a dropped node or record is told to be dropped for
+abbrev pub dropped_by_told : Dropped → ℕ × reasons.Reason
+dropped_by_told told = (told.place, reason_of told.reason)
+
+-- these are the kept records of all buckets, and each bucket that is told whole is the chain of its own
+pub record AreKeptChains (image : Image) (records ends : List ℕ) (whole : List Bool) : Type 0 where
+  pub ends : AreEnds records ends
+  pub told : length whole ≡ table_length
+  pub are_kept : (bucket : ℕ) → bucket < table_length → records_of records ends bucket ≡ kept_records image bucket
+  pub are_whole : (bucket : ℕ) → bucket < table_length → slice_index_or whole bucket false ≡ true → IsChain (store_of image) bucket (records_of records ends bucket)
+
+-- each bucket is the chain of its kept records
+abbrev pub AreChainsWhole : Image → Type 0
+AreChainsWhole image = (bucket : ℕ) → bucket < table_length → IsChain (store_of image) bucket (kept_records image bucket)
+
+-- so it is where no chains are told, and otherwise they are the kept ones
+abbrev pub AreChainsTold : Image → Option KeptChains → Type 0
+AreChainsTold image None = AreChainsWhole image
+AreChainsTold image (Some chains) = AreKeptChains image chains.records.items chains.ends.items chains.whole.items
+
+-- these are nodes and records of what is kept, and all others of it are sealed
+pub record AreBare (image : Image) (words : List ℕ) : Type 0 where
+  pub are_kept : All (IsOfKept image) words
+  pub others : AreOthersSealed image words image
+
+-- a scan tells what an image holds
+pub record IsScanOf (image : Image) (scan : Scan) : Type 0 where
+  pub walked : scan.walked.items ≡ completed_walk image
+  pub kept : scan.kept.items ≡ map kept_as_told (kept image)
+  pub kept_nodes : scan.kept_nodes.items ≡ map (λ k. k.node) (kept image)
+  pub dropped : map dropped_by_told scan.dropped.items ≡ dropped image
+  pub claims : IsClaimsOf scan.claims (flat_map words_of (kept image))
+  pub bytes : scan.bytes ≡ sum_by charge_of (kept image)
+  pub chains : AreChainsTold image scan.chains
+  pub bare : AreBare image scan.bare.items
+
+-- What is told of any folder.
+
+-- the records of the chains stand among the block files, and those of each bucket end among them
+pub record ChainsStandAmong (files : BlockFiles) (chains : KeptChains) : Type 0 where
+  pub records : All (λ w. is_record_among files w ≡ true) chains.records.items
+  pub ends : AreEnds chains.records.items chains.ends.items
+  pub told : length chains.whole.items ≡ table_length
+
+-- so it is where there are some
+abbrev pub ChainsStandIf : BlockFiles → Option KeptChains → Type 0
+ChainsStandIf files None = Unit {0}
+ChainsStandIf files (Some chains) = ChainsStandAmong files chains
+
+-- the nodes and the records of a scan stand among the block files
+pub record StandAmong (files : BlockFiles) (scan : Scan) : Type 0 where
+  pub walked : All (λ w. is_node_among files w ≡ true) scan.walked.items
+  pub chains : ChainsStandIf files scan.chains
+  pub bare : All (CanBeSealed files) scan.bare.items
+
+-- A folder that was just made.
+
+-- nothing is told
+pub record IsEmptyScan (scan : Scan) : Type 0 where
+  pub walked : scan.walked.items ≡ []
+  pub kept : scan.kept.items ≡ []
+  pub kept_nodes : scan.kept_nodes.items ≡ []
+  pub dropped : scan.dropped.items ≡ []
+  pub claims : IsClaimsOf scan.claims []
+  pub bytes : scan.bytes ≡ 0
+  pub chains : scan.chains ≡ None
+  pub bare : scan.bare.items ≡ []

@@ -1,0 +1,8 @@
+//! What a cache folder holds, told as a whole: the audit of its use list, its chains and their records.
+#![tactic(auto)]
+
+mod chains;
+mod scan;
+
+pub use chains::KeptChains;
+pub use scan::{Dropped, Kept, Scan};
