@@ -29,7 +29,7 @@ abbrev told_of : Option Image → Option Trail → Told
 told_of files trail = record { files = files; trail = trail }
 
 -- no step was made
-told_same : (a b : Told) → Applies a b [] → b ≡ a
+pub told_same : (a b : Told) → Applies a b [] → b ≡ a
 told_same a b applies = ap₂ told_of (applies.files ∙ files_none a.files) (applies.trail ∙ trail_none a.trail)
   where
     files_none : (o : Option Image) → option_map (after []) o ≡ o

@@ -8,3 +8,4 @@ pub mod CounterRuns
 pub mod MapRuns
 pub mod WholeChains
 pub mod TableRuns
+pub mod DeletionRuns

@@ -63,7 +63,7 @@ four false false true d k e = refl
 four false false false true k e = refl
 four false false false false k e = cc
 
-same-kind : (files : BlockFiles) (image : Image) (n : ℕ) → Agrees files image → kind_among (files_of files) n ≡ linked_as image n
+pub same-kind : (files : BlockFiles) (image : Image) (n : ℕ) → Agrees files image → kind_among (files_of files) n ≡ linked_as image n
 unfolding kind_among
 same-kind files image n agrees = rw (agrees.links 1 refl, agrees.links 2 refl, agrees.links 3 refl, agrees.links 4 refl) refl
 

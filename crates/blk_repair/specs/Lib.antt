@@ -4,3 +4,4 @@ pub mod Removals
 pub mod Seals
 pub mod Counters
 pub mod Maps
+pub mod Deletions

@@ -3,11 +3,13 @@
 //! The call that repairs a whole folder is not there yet, but parts of it are: `list` repairs the use list, for which
 //! `removals` takes the nodes out that are not kept, `chains` makes a bucket the chain of its kept records, and
 //! `tables` does so with every bucket; behind them `maps` makes lengths, maps and counters of the block files right,
-//! `seals` seals what is kept, and `counters` makes the words of the index right. Nothing else calls them so far.
+//! `deletions` deletes the files that nothing names, `seals` seals what is kept, and `counters` makes the words of the
+//! index right. Nothing else calls them so far.
 #![tactic(auto)]
 
 mod chains;
 mod counters;
+mod deletions;
 mod links;
 mod list;
 mod maps;
@@ -17,6 +19,7 @@ mod tables;
 
 pub use chains::mend_chain;
 pub use counters::mend_index;
+pub use deletions::{delete_unclaimed, delete_unlinked};
 pub use list::mend_list;
 pub use maps::mend_files;
 pub use removals::remove_others;

@@ -41,7 +41,7 @@ use Rattle.blk_repair_laws.specs.Mended.{HasMendedFiles}
 use Rattle.blk_repair_laws.specs.MendedParts.{KeptWordsStand, KeptWordsClaim, IsRebuiltFor, RebuiltFilesAreMended, OtherWordsLeaveCounters, UnlinkedFilesLeaveTheOthers, ExternalFilesLeaveTheBlocks, MendedFilesStand, IndexWordsLeaveSeals}
 
 -- linked files that are the same are mended alike
-blocks-alike : (from image : Image) → ((n : ℕ) → linked_as image n ≡ linked_as from n) → ((n : ℕ) → is_some (linked_as from n) ≡ true → image (Block n) ≡ from (Block n)) → kept image ≡ kept from → HasMendedFiles from → HasMendedFiles image
+pub blocks-alike : (from image : Image) → ((n : ℕ) → linked_as image n ≡ linked_as from n) → ((n : ℕ) → is_some (linked_as from n) ≡ true → image (Block n) ≡ from (Block n)) → kept image ≡ kept from → HasMendedFiles from → HasMendedFiles image
 unfolding EmptyAgrees max_entries_in
 blocks-alike from image links same keeps files = record {
   maps = λ n b linked small. ap (λ (o : Option (List ℕ)). is_block_marked_at (content (unwrap_or o [])) b) (at n linked) ∙ files.maps n b (was n linked) small ∙ ap (λ (ks : List Loaded). has (claims_of_loaded ks) n b) (sym keeps);

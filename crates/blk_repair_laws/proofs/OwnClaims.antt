@@ -109,7 +109,7 @@ unfolding words_at entry_in
 addresses-no_nodes image c s = (s.first, (s.second, (s.third, (s.fourth, tt))))
 
 -- a claim of a word of blocks is of its file
-claim-file : (w : ℕ) (c : Claim) → has_claim (claims_of w) c ≡ true → ((kind_of w ≡ external) × (c ≡ ExternalOf (external_number w))) ⊎ ((kind_of w ≢ external) × ((b : ℕ) × (c ≡ BlockOf (file_selector w) b)))
+pub claim-file : (w : ℕ) (c : Claim) → has_claim (claims_of w) c ≡ true → ((kind_of w ≡ external) × (c ≡ ExternalOf (external_number w))) ⊎ ((kind_of w ≢ external) × ((b : ℕ) × (c ≡ BlockOf (file_selector w) b)))
 unfolding claims_of has_claim
 claim-file w c h = go (w == 0) (kind_of w == external) refl h where
   clash : false ≡ true → ⊥

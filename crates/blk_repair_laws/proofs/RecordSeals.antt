@@ -186,7 +186,7 @@ writes-keep (write ∷ writes) from ready can =
 -- ---- growth and files that go
 
 -- a record whose bytes are the same stays sealed
-same-sealed : (from image : Image) (w : ℕ) → ((i : ℕ) → place w ≤ i → i < place w + record_size w → byte image (Block (file_selector w)) i ≡ byte from (Block (file_selector w)) i) → IsSealedAt from w → IsSealedAt image w
+pub same-sealed : (from image : Image) (w : ℕ) → ((i : ℕ) → place w ≤ i → i < place w + record_size w → byte image (Block (file_selector w)) i ≡ byte from (Block (file_selector w)) i) → IsSealedAt from w → IsSealedAt image w
 unfolding record_at
 same-sealed from image w same was =
     ap (is_sealed (seal_place w)) (same-range (record_size w) (place w) (byte image (Block (file_selector w))) (byte from (Block (file_selector w))) same) ∙ was
@@ -194,7 +194,7 @@ same-sealed from image w same was =
 place-behind : (w : ℕ) → BeginsWithRecord w → 8192 ≤ place w
 place-behind w begins = ⊎_elim (λ (k : kind_of w ≡ rankings). let a = node_at_place w k in omega (arith, a)) (λ (k : kind_of w ≡ blocks_256). let a = record-at w k in omega (arith, a)) begins
 
-linked-of : (from : Image) (w : ℕ) → stands_in from w ≡ true → BeginsWithRecord w → linked_as from (file_selector w) ≡ Some (kind_of w)
+pub linked-of : (from : Image) (w : ℕ) → stands_in from w ≡ true → BeginsWithRecord w → linked_as from (file_selector w) ≡ Some (kind_of w)
 linked-of from w st begins = stands-linked from w st (no-external w begins)
 
 pub growth-leaves : GrowthLeavesSeals

@@ -160,10 +160,10 @@ module _ (image : Image) (m : ℕ) (free : linked_as image m ≡ None) where
   abbrev gone : Image
   gone = applied (Delete (Block m)) image
 
-  none-linked : (is_among (linked image 1) m ≡ false) × (is_among (linked image 2) m ≡ false) × (is_among (linked image 3) m ≡ false) × (is_among (linked image 4) m ≡ false)
+  pub none-linked : (is_among (linked image 1) m ≡ false) × (is_among (linked image 2) m ≡ false) × (is_among (linked image 3) m ≡ false) × (is_among (linked image 4) m ≡ false)
   none-linked = none-among (linked image) m free
 
-  other-file : (n : ℕ) → (n == m) ≡ false → gone (Block n) ≡ image (Block n)
+  pub other-file : (n : ℕ) → (n == m) ≡ false → gone (Block n) ≡ image (Block n)
   other-file n apart = ⊎_elim (λ (e : (m == n) ≡ true). absurd (let is : (n == m) ≡ true = eq-eqb n m (sym (eqb-true m n e)) in clash (sym is ∙ apart))) (λ (e : (m == n) ≡ false). rw e refl) (cases_Bool (m == n)) where
     clash : true ≡ false → ⊥
     clash e = cc
@@ -177,7 +177,7 @@ module _ (image : Image) (m : ℕ) (free : linked_as image m ≡ None) where
     clash : true ≡ false → ⊥
     clash e = cc
 
-  list-same : (kind : ℕ) → is_among (linked image kind) m ≡ false → linked gone kind ≡ linked image kind
+  pub list-same : (kind : ℕ) → is_among (linked image kind) m ≡ false → linked gone kind ≡ linked image kind
   unfolding linked
   list-same kind lacks = files-same (next_file_in image) (next_file_in gone) 59 (kind - 1) (λ n has. next-same n (apart-from (files_along (next_file_in image) 59 (kind - 1)) n lacks has))
 
@@ -239,11 +239,11 @@ module _ (image : Image) (m : ℕ) (free : linked_as image m ≡ None) where
   unfolding checks_of_kind linked
   type-checks kind met lacks = ap (λ (xs : List ℕ). checks_along gone kind xs 59 (kind - 1)) met ∙ checks-same kind 59 (kind - 1) (linked_up_to image (kind - 1)) lacks
 
+  pub blocks-same : block_checks gone ≡ block_checks image
+  blocks-same = rw (type-checks 1 up-same.0 none-linked.0, type-checks 2 up-same.1 none-linked.1, type-checks 3 up-same.2 none-linked.2, type-checks 4 up-same.3 none-linked.3) refl
+
   gone-well : IsWellFormed image → IsWellFormed gone
-  gone-well well =
-      let blocks : block_checks gone ≡ block_checks image =
-      rw (type-checks 1 up-same.0 none-linked.0, type-checks 2 up-same.1 none-linked.1, type-checks 3 up-same.2 none-linked.2, type-checks 4 up-same.3 none-linked.3) refl in
-      ap (λ (cs : List (Option Damage)). first_of (head_checks (byte image Index) (length_of image Index) ++ list_checks (byte image Index) ++ cs)) blocks ∙ well
+  gone-well well = ap (λ (cs : List (Option Damage)). first_of (head_checks (byte image Index) (length_of image Index) ++ list_checks (byte image Index) ++ cs)) blocks-same ∙ well
 
 pub unlinked-go : UnlinkedFilesMayGo
 unlinked-go image m free = record { shown = agreeing-views (λ claim. false) image (gone image m free) (gone-agree image m free); linked = linked-same image m free; well_formed = gone-well image m free }

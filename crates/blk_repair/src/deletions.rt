@@ -1,0 +1,148 @@
+// The files that nothing names go: block files that aren't linked, and external files that aren't claimed.
+ghost use Rattle.std.specs.Prelude.{◌≡◌, ◌<◌, ◌≤◌, ℕ, None, Some, Ok, OnOk, OnErr, IfOk, false};
+ghost use Rattle.std.specs.Option.{ForSome};
+ghost use Rattle.blk_image.specs.Image.{Image, has_file, Block as block, External as external};
+ghost use Rattle.blk_image.specs.Order.{IsBefore, IsNextFile};
+ghost use Rattle.blk_image.specs.Told.{Applies, Passes, Rises, Stays};
+ghost use Rattle.blk_io.specs.FileNames.{file_of};
+ghost use Rattle.blk_volume.specs.Found.{kept};
+ghost use Rattle.blk_volume.specs.Loads.{claims_of_loaded};
+ghost use Rattle.blk_volume.specs.Sound.{OnlyClaimed, OnlyLinked};
+ghost use Rattle.blk_disk.specs.declared.tables.BlockFiles.{BlockFiles as Kept};
+ghost use Rattle.blk_disk.specs.Open.{IsOpen};
+ghost use Rattle.blk_repair.specs.Deletions.{DeletesAll, DeletesSome, IsMidDeletion, deletion_of, is_number_claimed, is_unclaimed, is_unlinked};
+ghost use Rattle.blk_repair.specs.Maps.{IsNextRebuilt};
+ghost use Rattle.blk_repair.specs.Seals.{HasMendedLinksOf};
+
+use blk_addr::{Addr, Claims};
+use blk_disk::BlockFiles;
+use blk_io::{Failed, FileId, Folder};
+
+// The last of the first four block files, which are always linked.
+const LAST_FIRST_FILE: u8 = 3;
+
+// The number behind the last one that the addresses of external files have.
+const NUMBERS: u32 = 0x1000_0000;
+
+/// Deletes each block file that is there and isn't linked.
+///
+/// This takes one `list` call, one more for each block file from `data_4` on, and one for each file that goes. `Failed`
+/// comes only where the folder failed in this call; a front of the deletions has then lasted.
+pub fn delete_unlinked<F: Folder>(f: &mut F, files: &BlockFiles) -> Result<(), Failed>
+    requires is_open { ForSome (F.told f.old).files (IsOpen files.now) }
+    ensures linked { OnOk result (ForSome (F.told f.new).files OnlyLinked) }
+    ensures steps { OnOk result (DeletesAll (is_unlinked files.now) (block 3) (F.told f.old) (F.told f.new)) }
+    ensures prefix { DeletesSome (is_unlinked files.now) (block 3) (F.told f.old) (F.told f.new) }
+
+    // Where the links are mended they stay so at each deletion, with the same kept and found; and what was mended of the files and of the seals is so still.
+    ensures stops { ForSome (F.told f.old).files (λ from. (entry : Image) → HasMendedLinksOf entry from → Passes (F.told f.old) (F.told f.new) (IsMidDeletion entry from)) }
+
+    ensures is_open { ForSome (F.told f.new).files (IsOpen files.now) }
+
+    // Where only linked block files are there, no step is made.
+    ensures clean { ForSome (F.told f.old).files (λ from. OnlyLinked from → Stays (F.told f.old) (F.told f.new)) }
+
+    ensures later { F.faults f.old ≤ F.faults f.new }
+    ensures failed { OnErr result (Rises (F.faults f.old) (F.faults f.new)) }
+{
+    let mut last = LAST_FIRST_FILE;
+    while let Some(n) = next_block(f, last)? {
+        delete_block(f, files, n)?;
+        last = n;
+    }
+    Ok(())
+}
+
+/// Deletes each external file that is there and whose number isn't claimed.
+///
+/// A number that no address has is claimed by none. This takes one `list` call, one more for each external file, and
+/// one for each file that goes. `Failed` comes only where the folder failed in this call; a front of the deletions has
+/// then lasted.
+pub fn delete_unclaimed<F: Folder>(f: &mut F, claims: &Claims) -> Result<(), Failed>
+    // With the claims of what is kept, the external files that are there are those that it claims.
+    ensures claimed { OnOk result (ForSome (F.told f.old).files (λ from. (entry : Image) → IsNextRebuilt entry claims.now from → ForSome (F.told f.new).files (λ image. OnlyClaimed image (claims_of_loaded (kept image))))) }
+    ensures steps { OnOk result (DeletesAll (is_unclaimed claims.now) (block 255) (F.told f.old) (F.told f.new)) }
+    ensures prefix { DeletesSome (is_unclaimed claims.now) (block 255) (F.told f.old) (F.told f.new) }
+
+    // The links then stay mended at each deletion, with the same kept and found; and what was mended of the files and of the seals is so still.
+    ensures stops { ForSome (F.told f.old).files (λ from. (entry : Image) → IsNextRebuilt entry claims.now from → Passes (F.told f.old) (F.told f.new) (IsMidDeletion entry from)) }
+
+    ensures is_open { (files : Kept) → ForSome (F.told f.old).files (IsOpen files) → ForSome (F.told f.new).files (IsOpen files) }
+
+    // Where only those are there already, no step is made.
+    ensures clean { ForSome (F.told f.old).files (λ from. (entry : Image) → IsNextRebuilt entry claims.now from → OnlyClaimed from (claims_of_loaded (kept from)) → Stays (F.told f.old) (F.told f.new)) }
+
+    ensures later { F.faults f.old ≤ F.faults f.new }
+    ensures failed { OnErr result (Rises (F.faults f.old) (F.faults f.new)) }
+{
+    let mut last = FileId::Block(u8::MAX);
+    while let Some(number) = next_external(f, last)? {
+        delete_external(f, claims, number)?;
+        last = FileId::External(number);
+    }
+    Ok(())
+}
+
+// The least block file that is there after one.
+fn next_block<F: Folder>(f: &mut F, last: u8) -> Result<Option<u8>, Failed>
+    ensures after { IfOk result (λ next. ForSome next (λ n. last < n)) }
+    ensures next { IfOk result (λ next. ForSome next (λ n. ForSome (F.told f.old).files (λ image. IsNextFile image (Some (block last)) (Some (block n))))) }
+    ensures none { result ≡ Ok None → ForSome (F.told f.old).files (λ image. (n : ℕ) → last < n → has_file image (block n) ≡ false) }
+    ensures stays { Stays (F.told f.old) (F.told f.new) }
+    ensures later { F.faults f.old ≤ F.faults f.new }
+    ensures failed { OnErr result (Rises (F.faults f.old) (F.faults f.new)) }
+{
+    match f.list(Some(FileId::Block(last)))? {
+        Some(FileId::Block(n)) => Ok(Some(n)),
+        _ => Ok(None),
+    }
+}
+
+// Deletes a block file that isn't linked.
+fn delete_block<F: Folder>(f: &mut F, files: &BlockFiles, n: u8) -> Result<(), Failed>
+    ensures steps { OnOk result (Applies (F.told f.old) (F.told f.new) (deletion_of (is_unlinked files.now) (block n))) }
+    ensures undone { OnErr result (Stays (F.told f.old) (F.told f.new)) }
+    ensures later { F.faults f.old ≤ F.faults f.new }
+    ensures failed { OnErr result (Rises (F.faults f.old) (F.faults f.new)) }
+{
+    if files.max_entries(n).is_some() {
+        return Ok(());
+    }
+    f.delete(FileId::Block(n))
+}
+
+// The least external file that is there after a file, behind which no block file is.
+fn next_external<F: Folder>(f: &mut F, last: FileId) -> Result<Option<u32>, Failed>
+    requires past { IsBefore (file_of last) (block 255) → ⊥ }
+    ensures after { IfOk result (λ next. ForSome next (λ number. IsBefore (file_of last) (external number))) }
+    ensures next { IfOk result (λ next. ForSome next (λ number. ForSome (F.told f.old).files (λ image. IsNextFile image (Some (file_of last)) (Some (external number))))) }
+    ensures none { result ≡ Ok None → ForSome (F.told f.old).files (λ image. (number : ℕ) → IsBefore (file_of last) (external number) → has_file image (external number) ≡ false) }
+    ensures stays { Stays (F.told f.old) (F.told f.new) }
+    ensures later { F.faults f.old ≤ F.faults f.new }
+    ensures failed { OnErr result (Rises (F.faults f.old) (F.faults f.new)) }
+{
+    match f.list(Some(last))? {
+        Some(FileId::External(number)) => Ok(Some(number)),
+        _ => Ok(None),
+    }
+}
+
+// Deletes an external file whose number isn't claimed.
+fn delete_external<F: Folder>(f: &mut F, claims: &Claims, number: u32) -> Result<(), Failed>
+    ensures steps { OnOk result (Applies (F.told f.old) (F.told f.new) (deletion_of (is_unclaimed claims.now) (external number))) }
+    ensures undone { OnErr result (Stays (F.told f.old) (F.told f.new)) }
+    ensures later { F.faults f.old ≤ F.faults f.new }
+    ensures failed { OnErr result (Rises (F.faults f.old) (F.faults f.new)) }
+{
+    if is_claimed(claims, number) {
+        return Ok(());
+    }
+    f.delete(FileId::External(number))
+}
+
+// Whether an external number is one that addresses have, and is claimed.
+fn is_claimed(claims: &Claims, number: u32) -> bool
+    ensures { result ≡ is_number_claimed claims.now number }
+{
+    0 < number && number < NUMBERS && claims.has(Addr::of_external(number))
+}
