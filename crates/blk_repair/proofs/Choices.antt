@@ -52,23 +52,23 @@ pub next-other : (image : Image) (entry w now : ℕ) → now ≡ (store_of image
 next-other image entry w now e apart = next-by image entry w now e false (ne_eqb now w apart)
 
 -- both leave the folder open
-choice-open : (files : BlockFiles) (image : Image) (b : Bool) (steps : List TrailStep) → IsOpen files image → Along (IsOpen files) image steps → Along (IsOpen files) image (if b then [] else steps)
+pub choice-open : (files : BlockFiles) (image : Image) (b : Bool) (steps : List TrailStep) → IsOpen files image → Along (IsOpen files) image steps → Along (IsOpen files) image (if b then [] else steps)
 choice-open files image true steps is all = is
 choice-open files image false steps is all = all
 
--- a word of the table is written into an open folder, which stays open
-table-open : (files : BlockFiles) (number w : ℕ) (image : Image) → IsOpen files image → Along (IsOpen files) image (word_step Index (place_of_bucket number) w)
+-- a word of the index is written into an open folder, which stays open
+pub index_word-open : (files : BlockFiles) (at x : ℕ) (image : Image) → IsOpen files image → Along (IsOpen files) image (word_step Index at x)
 unfolding word_step
-table-open files number w image is = (
+index_word-open files at x image is = (
   is,
   record {
-    whole_index = length-after_write image Index Index (place_of_bucket number) (word_bytes w) ∙ is.whole_index;
-    agrees = agrees_still (range Index (place_of_bucket number) (length (word_bytes w))) image (applied (Word Index (place_of_bucket number) (word_bytes w)) image) (record { bytes = λ n i small. refl }) (outside_write Index (place_of_bucket number) (word_bytes w) image) files (λ n. refl) is.agrees;
+    whole_index = length-after_write image Index Index at (word_bytes x) ∙ is.whole_index;
+    agrees = agrees_still (range Index at (length (word_bytes x))) image (applied (Word Index at (word_bytes x)) image) (record { bytes = λ n i small. refl }) (outside_write Index at (word_bytes x) image) files (λ n. refl) is.agrees;
   },
 )
 
 pub bucket-open : (files : BlockFiles) (number w : ℕ) (image : Image) → IsOpen files image → Along (IsOpen files) image (bucket_steps number w image)
-bucket-open files number w image is = choice-open files image ((store_of image).table number == w) (word_step Index (place_of_bucket number) w) is (table-open files number w image is)
+bucket-open files number w image is = choice-open files image ((store_of image).table number == w) (word_step Index (place_of_bucket number) w) is (index_word-open files (place_of_bucket number) w image is)
 
 pub next-open : (files : BlockFiles) (entry w : ℕ) (image : Image) → IsOpen files image → Along (IsOpen files) image (next_steps entry w image)
 next-open files entry w image is = choice-open files image ((store_of image).chain_next entry == w) (sealed_steps image entry ((entry_next_place, w) ∷ [])) is (kept_sealed files entry ((entry_next_place, w) ∷ []) image is)

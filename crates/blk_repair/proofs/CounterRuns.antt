@@ -21,6 +21,8 @@ use Rattle.std.specs.List.{sum_by}
 use Rattle.blk_volume.specs.Found.{charge_of, kept}
 use Rattle.blk_volume.specs.Loads.{Loaded}
 use Rattle.blk_laws.proofs.updates.NodeRecords.{are_bytes-word}
+use Rattle.blk_disk.specs.declared.tables.BlockFiles.{BlockFiles}
+use Rattle.blk_disk.specs.Open.{IsOpen}
 use Rattle.blk_repair_laws.specs.Mended.{AreKeptSealed, HasMendedFiles, HasOnlyKeptFiles}
 use Rattle.blk_repair_laws.specs.MendedChanges.{KeepsMendedLinks}
 use Rattle.blk_repair_laws.proofs.MendedChanges.{hidden-change, links-on}
@@ -28,6 +30,7 @@ use Rattle.blk_repair_laws.proofs.MendedParts.{files-mended, words-leave}
 use Rattle.blk_repair_laws.proofs.RecordSeals.{words-behind}
 use Rattle.blk_repair.specs.Counters.{HasIndexWords, IsHiddenWord, IsIndexMended, IsNextCounted, counted_words, crash_place, index_steps, index_word_steps, index_words_steps}
 use Rattle.blk_repair.specs.Seals.{HasMendedLinksOf}
+use Rattle.blk_repair.proofs.Choices.{choice-open, index_word-open}
 use Rattle.blk_repair.proofs.Progress.{Leads}
 
 -- ---- the steps of one word
@@ -75,6 +78,22 @@ whole-index items bytes id image is =
     let first : List TrailStep = index_words_steps words image in
     let all : Along HasWholeIndex image first = whole-words words image is in
     until-append HasWholeIndex HasWholeIndex first (word_step Index crash_place 1) image all (whole-word (after first image) crash_place 1 (until_last HasWholeIndex HasWholeIndex first image all))
+
+-- ---- the folder stays open
+
+words-open : (files : BlockFiles) (words : List (ℕ × ℕ)) (image : Image) → IsOpen files image → Along (IsOpen files) image (index_words_steps words image)
+words-open files [] image is = is
+words-open files (w ∷ words) image is =
+    let first : List TrailStep = index_word_steps w.0 w.1 image in
+    let all : Along (IsOpen files) image first = choice-open files image (word image Index w.0 == w.1) (word_step Index w.0 w.1) is (index_word-open files w.0 w.1 image is) in
+    until-append (IsOpen files) (IsOpen files) first (index_words_steps words (after first image)) image all (words-open files words (after first image) (until_last (IsOpen files) (IsOpen files) first image all))
+
+pub index-open : (files : BlockFiles) (items bytes id : ℕ) (image : Image) → IsOpen files image → Along (IsOpen files) image (index_steps items bytes id image)
+index-open files items bytes id image is =
+    let words : List (ℕ × ℕ) = counted_words items bytes id in
+    let first : List TrailStep = index_words_steps words image in
+    let all : Along (IsOpen files) image first = words-open files words image is in
+    until-append (IsOpen files) (IsOpen files) first (word_step Index crash_place 1) image all (index_word-open files crash_place 1 (after first image) (until_last (IsOpen files) (IsOpen files) first image all))
 
 -- ---- the values
 
@@ -137,7 +156,7 @@ hidden-entries = record { aligned = refl; inside = omega arith; unshown = refl; 
 hidden-bytes : IsHiddenWord 12
 hidden-bytes = record { aligned = refl; inside = omega arith; unshown = refl; unchecked = refl }
 
-hidden-id : IsHiddenWord 20
+pub hidden-id : IsHiddenWord 20
 hidden-id = record { aligned = refl; inside = omega arith; unshown = refl; unchecked = refl }
 
 pub hidden-crash : IsHiddenWord 32

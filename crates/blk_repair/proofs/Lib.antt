@@ -9,3 +9,4 @@ pub mod MapRuns
 pub mod WholeChains
 pub mod TableRuns
 pub mod DeletionRuns
+pub mod RepairRuns

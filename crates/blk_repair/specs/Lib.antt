@@ -5,3 +5,4 @@ pub mod Seals
 pub mod Counters
 pub mod Maps
 pub mod Deletions
+pub mod Repair

@@ -14,7 +14,7 @@ use blk_io::{Fault, Folder};
 use blk_record::IndexHead;
 
 // The place of the number of the session in the index.
-const THIS_ID: u64 = 20;
+pub(crate) const THIS_ID: u64 = 20;
 
 // The place of the crash word in the index.
 const CRASH: u64 = 32;

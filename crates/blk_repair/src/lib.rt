@@ -14,6 +14,7 @@ mod links;
 mod list;
 mod maps;
 mod removals;
+mod repairing;
 mod seals;
 mod tables;
 
@@ -23,5 +24,6 @@ pub use deletions::{delete_unclaimed, delete_unlinked};
 pub use list::mend_list;
 pub use maps::mend_files;
 pub use removals::remove_others;
+pub use repairing::repair;
 pub use seals::seal_records;
 pub use tables::mend_chains;

@@ -1,0 +1,20 @@
+use Rattle.std.proofs.Common.{Option, Some, sym, subst}
+use Rattle.std.proofs.lemmas.Result.{on_ok_weaker}
+use Rattle.blk_scan.specs.declared.chains.KeptChains.{KeptChains}
+use Rattle.blk_repair.specs.Repair.{AreBucketsScanned}
+use Rattle.blk_repair.proofs.RepairRuns.{chains-told}
+use Rattle.blk_repair.proofs.repairing.mend_buckets.Goals as goal
+
+pub returns-in-Some-clause-mended : goal.returns-in-Some-clause-mended
+returns-in-Some-clause-mended g c =
+    on_ok_weaker c.mend_chains.result
+    (λ made from there is.
+    made from there
+    (chains-told c.in-Some.chains.now c.records.result.now c.ends.result.now c.whole.result.now from c.records.ensures c.ends.ensures c.whole.ensures (subst (λ (o : Option KeptChains). AreBucketsScanned o from) (sym c.in-Some.ensures) is))) c.mend_chains.ensures.mended
+
+pub returns-in-Some-clause-untold : goal.returns-in-Some-clause-untold
+returns-in-Some-clause-untold g c scanned =
+    c.mend_chains.ensures.untold
+    (λ from there.
+    chains-told c.in-Some.chains.now c.records.result.now c.ends.result.now c.whole.result.now from c.records.ensures c.ends.ensures c.whole.ensures
+    (subst (λ (o : Option KeptChains). AreBucketsScanned o from) (sym c.in-Some.ensures) (scanned from there)))

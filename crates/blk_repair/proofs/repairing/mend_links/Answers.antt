@@ -1,0 +1,49 @@
+use Rattle.std.proofs.Common.{◌≡◌, Some}
+use Rattle.std.proofs.lemmas.Result.{on_ok_weaker}
+use Rattle.std.specs.Option.{ForSome}
+use Rattle.blk_image.specs.Image.{Image}
+use Rattle.blk_image.specs.Told.{Passes}
+use Rattle.blk_io.proofs.Carried.{if_damaged_weaker, told_at_end}
+use Rattle.blk_repair_laws.specs.ListRepair.{HoldsTheSame, IsListMended}
+use Rattle.blk_repair.specs.Removals.{IsListScanned}
+use Rattle.blk_repair.specs.Repair.{AreBucketsScanned, IsRepairable}
+use Rattle.blk_repair.proofs.RepairRuns.{can-write, chains-next, links-done, links-stops, list-scanned, list-stops, none-before, still-told}
+use Rattle.blk_repair.proofs.repairing.mend_links.Given as given
+use Rattle.blk_repair.proofs.repairing.mend_links.Goals as goal
+
+pub returns-in_err-mend_list-clause-stops : goal.returns-in_err-mend_list-clause-stops
+returns-in_err-mend_list-clause-stops g c from there is =
+    list-stops c.args.scan.now (g.F.Folder.told c.args.f.now) (g.F.Folder.told c.mend_list.new.f) from there is
+    (c.mend_list.ensures.stops from there
+    (list-scanned c.args.scan.now c.walked_nodes.result.now c.kept_nodes.result.now from c.walked_nodes.ensures c.kept_nodes.ensures (can-write c.args.files.now from (g.met.F.Folder.are_bytes c.args.f.now from there) (c.requires.is_open from there)) is))
+
+module _ (g : given.Over) (c : goal.After-mend_buckets g) (from : Image) (there : (g.F.Folder.told c.args.f.now).files ≡ Some from) (is : IsRepairable c.args.scan.now from) where
+  scanned : IsListScanned c.walked_nodes.result.now c.kept_nodes.result.now from
+  scanned =
+      list-scanned c.args.scan.now c.walked_nodes.result.now c.kept_nodes.result.now from c.walked_nodes.ensures c.kept_nodes.ensures (can-write c.args.files.now from (g.met.F.Folder.are_bytes c.args.f.now from there) (c.requires.is_open from there))
+      is
+
+  held : Passes (g.F.Folder.told c.args.f.now) (g.F.Folder.told c.mend_list.new.f) (HoldsTheSame from)
+  held = c.mend_list.ensures.stops from there scanned
+
+  mended : ForSome (g.F.Folder.told c.mend_list.new.f).files (IsListMended from)
+  mended = c.in_ok-mend_list.ensures.mended from there scanned
+
+pub returns-clause-mended : goal.returns-clause-mended
+returns-clause-mended g c =
+    on_ok_weaker c.mend_buckets.result
+    (λ made from there is.
+    links-done c.args.scan.now (g.F.Folder.told c.args.f.now) (g.F.Folder.told c.mend_list.new.f) from there is (held g c from there is) (mended g c from there is) (g.F.Folder.told c.mend_buckets.new.f) c.mend_buckets.ensures.stops made)
+    c.mend_buckets.ensures.mended
+
+pub returns-clause-stops : goal.returns-clause-stops
+returns-clause-stops g c from there is =
+    links-stops c.args.scan.now (g.F.Folder.told c.args.f.now) (g.F.Folder.told c.mend_list.new.f) from there is (held g c from there is) (mended g c from there is) (g.F.Folder.told c.mend_buckets.new.f) c.mend_buckets.ensures.stops
+
+pub returns-clause-untold : goal.returns-clause-untold
+returns-clause-untold g c all =
+    if_damaged_weaker c.mend_buckets.result _ _
+    (λ damage none. none-before (g.F.Folder.told c.args.f.now) (g.F.Folder.told c.mend_list.new.f) (λ from there. still-told from there (held g c from there (all from there))) none)
+    (c.mend_buckets.ensures.untold
+    (told_at_end (g.F.Folder.told c.args.f.now).files (g.F.Folder.told c.mend_list.new.f).files (AreBucketsScanned c.args.scan.now.chains) c.mend_list.ensures.prefix.silent
+    (λ from there. chains-next c.args.scan.now (g.F.Folder.told c.args.f.now) (g.F.Folder.told c.mend_list.new.f) from there (all from there) (held g c from there (all from there)) (mended g c from there (all from there)))))

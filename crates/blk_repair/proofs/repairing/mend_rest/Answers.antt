@@ -1,0 +1,38 @@
+use Rattle.std.proofs.Common.{◌∙◌, ap, ◌%◌, ◌^◌, ℕ}
+use Rattle.blk_io.proofs.Carried.{if_damaged_weaker}
+use Rattle.blk_repair.specs.Counters.{index_steps}
+use Rattle.blk_repair.proofs.CounterRuns.{index-open}
+use Rattle.blk_repair.proofs.Progress.{stays-open}
+use Rattle.blk_repair.proofs.RepairRuns.{none-before, on_ok-both, rest-done, rest-stops, seals-next, seals-stop, still-told}
+use Rattle.blk_repair.proofs.repairing.mend_rest.Goals as goal
+
+pub returns-in_err-seal_records-clause-stops : goal.returns-in_err-seal_records-clause-stops
+returns-in_err-seal_records-clause-stops g c from there entry next =
+    seals-stop c.args.scan.now c.bare.result.now c.bare.ensures (g.F.Folder.told c.args.f.now) (g.F.Folder.told c.seal_records.new.f) entry from there next
+    (c.seal_records.ensures.stops from there entry (seals-next c.args.scan.now c.bare.result.now c.bare.ensures entry from next))
+
+pub returns-clause-mended : goal.returns-clause-mended
+returns-clause-mended g c =
+    on_ok-both c.mend_index.result
+    (λ mended words from there entry next.
+    rest-done c.args.scan.now c.bare.result.now c.bare.ensures (g.F.Folder.told c.args.f.now) (g.F.Folder.told c.seal_records.new.f) entry from there next
+    (c.seal_records.ensures.stops from there entry (seals-next c.args.scan.now c.bare.result.now c.bare.ensures entry from next)) (g.F.Folder.told c.mend_index.new.f) c.low_word-items.result c.low_word-bytes.result c.args.this_id
+    (c.low_word-items.ensures ∙ ap (λ (n : ℕ). n % 2 ^ 32) c.items.ensures) (c.low_word-bytes.ensures ∙ ap (λ (n : ℕ). n % 2 ^ 32) c.bytes.ensures)
+    (c.in_ok-seal_records.ensures.sealed from there entry (seals-next c.args.scan.now c.bare.result.now c.bare.ensures entry from next)) mended words) c.mend_index.ensures.mended c.mend_index.ensures.words
+
+pub returns-clause-stops : goal.returns-clause-stops
+returns-clause-stops g c from there entry next =
+    rest-stops c.args.scan.now c.bare.result.now c.bare.ensures (g.F.Folder.told c.args.f.now) (g.F.Folder.told c.seal_records.new.f) entry from there next
+    (c.seal_records.ensures.stops from there entry (seals-next c.args.scan.now c.bare.result.now c.bare.ensures entry from next)) (g.F.Folder.told c.mend_index.new.f) c.mend_index.ensures.stops
+
+pub returns-clause-is_open : goal.returns-clause-is_open
+returns-clause-is_open g c =
+    stays-open c.args.files.now (g.F.Folder.told c.seal_records.new.f) (g.F.Folder.told c.mend_index.new.f) (index_steps c.low_word-items.result c.low_word-bytes.result c.args.this_id) (index-open c.args.files.now c.low_word-items.result c.low_word-bytes.result c.args.this_id)
+    c.seal_records.ensures.is_open c.mend_index.ensures.prefix.made c.mend_index.ensures.prefix.silent
+
+pub returns-clause-untold : goal.returns-clause-untold
+returns-clause-untold g c some =
+    if_damaged_weaker c.mend_index.result _ _
+    (λ damage none.
+    none-before (g.F.Folder.told c.args.f.now) (g.F.Folder.told c.seal_records.new.f)
+    (λ from there. still-told from there (c.seal_records.ensures.stops from there (some from there).0 (seals-next c.args.scan.now c.bare.result.now c.bare.ensures (some from there).0 from (some from there).1))) none) c.mend_index.ensures.untold

@@ -1,0 +1,30 @@
+use Rattle.std.proofs.Common.{ℕ, List, sym, subst}
+use Rattle.blk_image.proofs.Runs.{passes_weaker}
+use Rattle.blk_io.proofs.Carried.{carried, if_damaged_weaker}
+use Rattle.blk_alloc.specs.Rebuilding.{IsShortReadOf}
+use Rattle.blk_repair_laws.proofs.MendedChanges.{keeps-mid}
+use Rattle.blk_repair.proofs.RepairRuns.{same-files, store-done, store-stops}
+use Rattle.blk_repair.proofs.repairing.mend_store.Goals as goal
+
+pub returns-in_err-mend_files-clause-stops : goal.returns-in_err-mend_files-clause-stops
+returns-in_err-mend_files-clause-stops g c from there entry next = passes_weaker (c.mend_files.ensures.stops from there entry next.holds.keeps) (keeps-mid entry) (keeps-mid entry)
+
+pub returns-in_err-mend_files-clause-damaged : goal.returns-in_err-mend_files-clause-damaged
+returns-in_err-mend_files-clause-damaged g c =
+    carried c.mend_files.result c.from_residual.result c.in_err-mend_files.field-0.0 _ c.in_err-mend_files.was c.from_residual.ensures.1
+    (if_damaged_weaker c.mend_files.result _ _ (λ damage short. subst (λ (l : List ℕ). IsShortReadOf (g.F.Folder.told c.mend_files.new.f) l damage) (sym (same-files c.args.files.now c.mend_files.new.files c.mend_files.ensures.all)) short) c.mend_files.ensures.damaged)
+
+pub returns-in_err-delete_others-clause-stops : goal.returns-in_err-delete_others-clause-stops
+returns-in_err-delete_others-clause-stops g c from there entry next =
+    store-stops c.args.claims.now (g.F.Folder.told c.args.f.now) (g.F.Folder.told c.mend_files.new.f) (g.F.Folder.told c.delete_others.new.f) entry from there next (c.mend_files.ensures.stops from there entry next.holds.keeps) (c.in_ok-mend_files.ensures.mended from there entry next)
+    c.delete_others.ensures.stops
+
+pub returns-clause-mended : goal.returns-clause-mended
+returns-clause-mended g c from there entry next =
+    store-done c.args.claims.now (g.F.Folder.told c.args.f.now) (g.F.Folder.told c.mend_files.new.f) (g.F.Folder.told c.delete_others.new.f) entry from there next (c.mend_files.ensures.stops from there entry next.holds.keeps) (c.in_ok-mend_files.ensures.mended from there entry next)
+    c.in_ok-delete_others.ensures.mended
+
+pub returns-clause-stops : goal.returns-clause-stops
+returns-clause-stops g c from there entry next =
+    store-stops c.args.claims.now (g.F.Folder.told c.args.f.now) (g.F.Folder.told c.mend_files.new.f) (g.F.Folder.told c.delete_others.new.f) entry from there next (c.mend_files.ensures.stops from there entry next.holds.keeps) (c.in_ok-mend_files.ensures.mended from there entry next)
+    c.delete_others.ensures.stops

@@ -1,0 +1,26 @@
+use Rattle.std.proofs.Common.{◌≡◌, ℕ, None, sym, ◌∙◌, ap, subst}
+use Rattle.std.proofs.lemmas.Result.{on_ok_weaker}
+use Rattle.std.specs.Option.{ForSome}
+use Rattle.blk_image.specs.Told.{Told}
+use Rattle.blk_io.proofs.Carried.{if_damaged_weaker}
+use Rattle.blk_disk.specs.Open.{IsOpen}
+use Rattle.blk_repair.specs.Repair.{IsRepairable, IsRepairedFor, next_id}
+use Rattle.blk_repair.proofs.repairing.repair.Goals as goal
+
+pub returns-in_err-this_id-clause-is_open : goal.returns-in_err-this_id-clause-is_open
+returns-in_err-this_id-clause-is_open g c = subst (λ (t : Told). ForSome t.files (IsOpen c.args.files.now)) (sym c.in_err-this_id.ensures.stays) c.requires.is_open
+
+pub mend_all-requires-clause-is_open : goal.mend_all-requires-clause-is_open
+mend_all-requires-clause-is_open g c = subst (λ (t : Told). ForSome t.files (IsOpen c.args.files.now)) (sym c.in_ok-this_id.ensures.stays) c.requires.is_open
+
+pub returns-clause-mended : goal.returns-clause-mended
+returns-clause-mended g c =
+    on_ok_weaker c.mend_all.result
+    (λ made from there is.
+    subst (λ (id : ℕ). ForSome (g.F.Folder.told c.mend_all.new.f).files (IsRepairedFor id from)) (c.next_id.ensures ∙ ap next_id (c.in_ok-this_id.ensures.word from there))
+    (made from (ap (λ (t : Told). t.files) c.in_ok-this_id.ensures.stays ∙ there) is)) c.mend_all.ensures.mended
+
+pub returns-clause-untold : goal.returns-clause-untold
+returns-clause-untold g c all =
+    if_damaged_weaker c.mend_all.result _ _ (λ damage none. sym (ap (λ (t : Told). t.files) c.in_ok-this_id.ensures.stays) ∙ none)
+    (c.mend_all.ensures.untold (subst (λ (t : Told). ForSome t.files (IsRepairable c.args.scan.now)) (sym c.in_ok-this_id.ensures.stays) all))

@@ -1,0 +1,230 @@
+// The whole repair of a folder.
+ghost use Rattle.std.specs.Prelude.{◌≡◌, ◌≤◌, ◌%◌, ◌^◌, ℕ, None, OnOk, OnErr, All};
+ghost use Rattle.std.specs.Option.{ForSome};
+ghost use Rattle.blk_image.specs.Image.{Image};
+ghost use Rattle.blk_image.specs.Told.{Passes, Rises};
+ghost use Rattle.blk_io.specs.Faults.{IfDamaged, IfDevice};
+ghost use Rattle.blk_disk.specs.Open.{IsOpen};
+ghost use Rattle.blk_disk.specs.Tables.{all_files, files_of};
+ghost use Rattle.blk_alloc.specs.Extending.{KeepsStanding};
+ghost use Rattle.blk_alloc.specs.Rebuilding.{IsShortReadOf};
+ghost use Rattle.blk_audit.specs.Sealable.{CanBeSealed};
+ghost use Rattle.blk_repair_laws.specs.ChainRepair.{AreChainsMended};
+ghost use Rattle.blk_repair_laws.specs.ListRepair.{HoldsTheSame};
+ghost use Rattle.blk_repair_laws.specs.MendedChanges.{IsMidRepair};
+ghost use Rattle.blk_scan.specs.Scans.{ChainsStandIf, StandAmong};
+ghost use Rattle.blk_repair.specs.Damages.{IsChainsRepairDamage};
+ghost use Rattle.blk_repair.specs.Maps.{IsNextRebuilt};
+ghost use Rattle.blk_repair.specs.Repair.{AreBucketsScanned, AreLinksMended, AreOnlyKeptLeft, AreOthersDeleted, IsBehindRepairDamage, IsLinksRepairDamage, IsNextFinished, IsRepairDamage, IsRepairable, IsRepaired, IsRepairedFor, IsRestRepairDamage, next_id as id_after};
+
+use crate::counters::{mend_index, THIS_ID};
+use crate::deletions::{delete_unclaimed, delete_unlinked};
+use crate::list::mend_list;
+use crate::maps::mend_files;
+use crate::seals::seal_records;
+use crate::tables::mend_chains;
+use blk_addr::Claims;
+use blk_disk::BlockFiles;
+use blk_index::word;
+use blk_io::{Failed, Fault, Folder};
+use blk_scan::Scan;
+
+// The number of the words that there are.
+const WORDS: u64 = 0x1_0000_0000;
+
+/// Repairs a folder by what its audit told: the use list, the chains, the block files, the files that nothing names,
+/// the seals, and the words of the index. The last step makes the crash word 1, in a session with the next number.
+///
+/// It takes no memory and walks nothing. At each word the same is kept and found, so it may be stopped anywhere and
+/// begun again. A damage is one of a part. A folder that tells its files gives none where the scan is its own.
+pub fn repair<F: Folder>(f: &mut F, files: &mut BlockFiles, scan: &Scan) -> Result<(), Fault>
+    requires stand { StandAmong files.old scan.now }
+    requires is_open { ForSome (F.told f.old).files (IsOpen files.old) }
+
+    // In any case the same files are linked, and what stood still does.
+    ensures all { (kind : ℕ) → files_of files.new kind ≡ files_of files.old kind }
+    ensures keeps { KeepsStanding files.old files.new }
+
+    // With the scan of a well-formed folder nothing is left to mend in the end, and at each word the same is kept and found.
+    ensures mended { OnOk result (ForSome (F.told f.old).files (λ from. IsRepairable scan.now from → ForSome (F.told f.new).files (IsRepaired from))) }
+    ensures stops { ForSome (F.told f.old).files (λ from. IsRepairable scan.now from → Passes (F.told f.old) (F.told f.new) (IsMidRepair from)) }
+
+    ensures is_open { ForSome (F.told f.new).files (IsOpen files.new) }
+
+    // A folder that tells its files gives a damage only where the scan isn't its own.
+    ensures damaged { IfDamaged result (IsRepairDamage files.new (F.told f.new)) }
+    ensures untold { ForSome (F.told f.old).files (IsRepairable scan.now) → IfDamaged result (λ _. (F.told f.old).files ≡ None) }
+
+    ensures silent { (F.told f.old).files ≡ None → (F.told f.new).files ≡ None }
+    ensures later { F.faults f.old ≤ F.faults f.new }
+    ensures device { IfDevice result (Rises (F.faults f.old) (F.faults f.new)) }
+{
+    let this_id = word(f, THIS_ID)?;
+    mend_all(f, files, scan, next_id(this_id))
+}
+
+// The number of the session after one: never 0.
+fn next_id(this_id: u32) -> u32
+    ensures { result ≡ id_after this_id }
+{
+    match this_id.wrapping_add(1) {
+        0 => 1,
+        next => next,
+    }
+}
+
+// Repairs the links, and then what is behind them, for a session with this number.
+fn mend_all<F: Folder>(
+    f: &mut F,
+    files: &mut BlockFiles,
+    scan: &Scan,
+    this_id: u32,
+) -> Result<(), Fault>
+    requires stand { StandAmong files.old scan.now }
+    requires is_open { ForSome (F.told f.old).files (IsOpen files.old) }
+    ensures all { (kind : ℕ) → files_of files.new kind ≡ files_of files.old kind }
+    ensures keeps { KeepsStanding files.old files.new }
+    ensures mended { OnOk result (ForSome (F.told f.old).files (λ from. IsRepairable scan.now from → ForSome (F.told f.new).files (IsRepairedFor this_id from))) }
+    ensures stops { ForSome (F.told f.old).files (λ from. IsRepairable scan.now from → Passes (F.told f.old) (F.told f.new) (IsMidRepair from)) }
+    ensures is_open { ForSome (F.told f.new).files (IsOpen files.new) }
+    ensures damaged { IfDamaged result (IsRepairDamage files.new (F.told f.new)) }
+    ensures untold { ForSome (F.told f.old).files (IsRepairable scan.now) → IfDamaged result (λ _. (F.told f.old).files ≡ None) }
+    ensures silent { (F.told f.old).files ≡ None → (F.told f.new).files ≡ None }
+    ensures later { F.faults f.old ≤ F.faults f.new }
+    ensures device { IfDevice result (Rises (F.faults f.old) (F.faults f.new)) }
+{
+    mend_links(f, files, scan)?;
+    mend_behind(f, files, scan, this_id)
+}
+
+// Repairs what is behind the links: the files, and then the rest.
+fn mend_behind<F: Folder>(
+    f: &mut F,
+    files: &mut BlockFiles,
+    scan: &Scan,
+    this_id: u32,
+) -> Result<(), Fault>
+    requires stand { All (CanBeSealed files.old) scan.now.bare.items }
+    requires is_open { ForSome (F.told f.old).files (IsOpen files.old) }
+    ensures all { (kind : ℕ) → files_of files.new kind ≡ files_of files.old kind }
+    ensures keeps { KeepsStanding files.old files.new }
+    ensures mended { OnOk result (ForSome (F.told f.old).files (λ from. (entry : Image) → AreLinksMended scan.now entry from → ForSome (F.told f.new).files (IsRepairedFor this_id entry))) }
+    ensures stops { ForSome (F.told f.old).files (λ from. (entry : Image) → AreLinksMended scan.now entry from → Passes (F.told f.old) (F.told f.new) (IsMidRepair entry)) }
+    ensures is_open { ForSome (F.told f.new).files (IsOpen files.new) }
+    ensures damaged { IfDamaged result (IsBehindRepairDamage files.new (F.told f.new)) }
+    ensures untold { ForSome (F.told f.old).files (λ from. (entry : Image) × AreLinksMended scan.now entry from) → IfDamaged result (λ _. (F.told f.old).files ≡ None) }
+    ensures silent { (F.told f.old).files ≡ None → (F.told f.new).files ≡ None }
+    ensures later { F.faults f.old ≤ F.faults f.new }
+    ensures device { IfDevice result (Rises (F.faults f.old) (F.faults f.new)) }
+{
+    mend_store(f, files, scan.claims())?;
+    mend_rest(f, files, scan, this_id)
+}
+
+// Mends the block files for what is claimed, and then deletes the files that nothing names.
+fn mend_store<F: Folder>(
+    f: &mut F,
+    files: &mut BlockFiles,
+    claims: &Claims,
+) -> Result<(), Fault>
+    requires is_open { ForSome (F.told f.old).files (IsOpen files.old) }
+    ensures all { (kind : ℕ) → files_of files.new kind ≡ files_of files.old kind }
+    ensures keeps { KeepsStanding files.old files.new }
+    ensures mended { OnOk result (ForSome (F.told f.old).files (λ from. (entry : Image) → IsNextRebuilt entry claims.now from → ForSome (F.told f.new).files (AreOnlyKeptLeft entry from))) }
+    ensures stops { ForSome (F.told f.old).files (λ from. (entry : Image) → IsNextRebuilt entry claims.now from → Passes (F.told f.old) (F.told f.new) (IsMidRepair entry)) }
+    ensures is_open { ForSome (F.told f.new).files (IsOpen files.new) }
+    ensures damaged { IfDamaged result (IsShortReadOf (F.told f.new) (all_files files.new)) }
+    ensures untold { IfDamaged result (λ _. (F.told f.old).files ≡ None) }
+    ensures silent { (F.told f.old).files ≡ None → (F.told f.new).files ≡ None }
+    ensures later { F.faults f.old ≤ F.faults f.new }
+    ensures device { IfDevice result (Rises (F.faults f.old) (F.faults f.new)) }
+{
+    mend_files(f, files, claims)?;
+    delete_others(f, files, claims)?;
+    Ok(())
+}
+
+// Deletes the block files that aren't linked, and then the external files that aren't claimed.
+fn delete_others<F: Folder>(
+    f: &mut F,
+    files: &BlockFiles,
+    claims: &Claims,
+) -> Result<(), Failed>
+    requires is_open { ForSome (F.told f.old).files (IsOpen files.now) }
+    ensures mended { OnOk result (ForSome (F.told f.old).files (λ from. (entry : Image) → IsNextRebuilt entry claims.now from → ForSome (F.told f.new).files (AreOthersDeleted entry from))) }
+    ensures stops { ForSome (F.told f.old).files (λ from. (entry : Image) → IsNextRebuilt entry claims.now from → Passes (F.told f.old) (F.told f.new) (IsMidRepair entry)) }
+    ensures is_open { ForSome (F.told f.new).files (IsOpen files.now) }
+    ensures silent { (F.told f.old).files ≡ None → (F.told f.new).files ≡ None }
+    ensures later { F.faults f.old ≤ F.faults f.new }
+    ensures failed { OnErr result (Rises (F.faults f.old) (F.faults f.new)) }
+{
+    delete_unlinked(f, files)?;
+    delete_unclaimed(f, claims)
+}
+
+// Repairs the use list, and then the chains.
+fn mend_links<F: Folder>(f: &mut F, files: &BlockFiles, scan: &Scan) -> Result<(), Fault>
+    requires stand { StandAmong files.now scan.now }
+    requires is_open { ForSome (F.told f.old).files (IsOpen files.now) }
+    ensures mended { OnOk result (ForSome (F.told f.old).files (λ from. IsRepairable scan.now from → ForSome (F.told f.new).files (AreLinksMended scan.now from))) }
+    ensures stops { ForSome (F.told f.old).files (λ from. IsRepairable scan.now from → Passes (F.told f.old) (F.told f.new) (IsMidRepair from)) }
+    ensures is_open { ForSome (F.told f.new).files (IsOpen files.now) }
+    ensures damaged { IfDamaged result (IsLinksRepairDamage files.now (F.told f.new)) }
+    ensures untold { ForSome (F.told f.old).files (IsRepairable scan.now) → IfDamaged result (λ _. (F.told f.old).files ≡ None) }
+    ensures silent { (F.told f.old).files ≡ None → (F.told f.new).files ≡ None }
+    ensures later { F.faults f.old ≤ F.faults f.new }
+    ensures device { IfDevice result (Rises (F.faults f.old) (F.faults f.new)) }
+{
+    mend_list(f, files, scan.walked_nodes(), scan.kept_nodes())?;
+    mend_buckets(f, files, scan)
+}
+
+// Makes each bucket the chain of its kept records, where the scan tells of one that isn't.
+fn mend_buckets<F: Folder>(f: &mut F, files: &BlockFiles, scan: &Scan) -> Result<(), Fault>
+    requires stand { ChainsStandIf files.now scan.now.chains }
+    requires is_open { ForSome (F.told f.old).files (IsOpen files.now) }
+    ensures mended { OnOk result (ForSome (F.told f.old).files (λ from. AreBucketsScanned scan.now.chains from → ForSome (F.told f.new).files (AreChainsMended from))) }
+    ensures stops { ForSome (F.told f.old).files (λ from. AreBucketsScanned scan.now.chains from → Passes (F.told f.old) (F.told f.new) (HoldsTheSame from)) }
+    ensures is_open { ForSome (F.told f.new).files (IsOpen files.now) }
+    ensures damaged { IfDamaged result (IsChainsRepairDamage files.now (F.told f.new)) }
+    ensures untold { ForSome (F.told f.old).files (AreBucketsScanned scan.now.chains) → IfDamaged result (λ _. (F.told f.old).files ≡ None) }
+    ensures silent { (F.told f.old).files ≡ None → (F.told f.new).files ≡ None }
+    ensures later { F.faults f.old ≤ F.faults f.new }
+    ensures device { IfDevice result (Rises (F.faults f.old) (F.faults f.new)) }
+{
+    match scan.chains() {
+        Some(chains) => mend_chains(f, files, chains.records(), chains.ends(), chains.whole()),
+        None => Ok(()),
+    }
+}
+
+// Seals what is kept, and makes the words of the index right.
+fn mend_rest<F: Folder>(
+    f: &mut F,
+    files: &BlockFiles,
+    scan: &Scan,
+    this_id: u32,
+) -> Result<(), Fault>
+    requires stand { All (CanBeSealed files.now) scan.now.bare.items }
+    requires is_open { ForSome (F.told f.old).files (IsOpen files.now) }
+    ensures mended { OnOk result (ForSome (F.told f.old).files (λ from. (entry : Image) → IsNextFinished scan.now entry from → ForSome (F.told f.new).files (IsRepairedFor this_id entry))) }
+    ensures stops { ForSome (F.told f.old).files (λ from. (entry : Image) → IsNextFinished scan.now entry from → Passes (F.told f.old) (F.told f.new) (IsMidRepair entry)) }
+    ensures is_open { ForSome (F.told f.new).files (IsOpen files.now) }
+    ensures damaged { IfDamaged result (IsRestRepairDamage files.now (F.told f.new)) }
+    ensures untold { ForSome (F.told f.old).files (λ from. (entry : Image) × IsNextFinished scan.now entry from) → IfDamaged result (λ _. (F.told f.old).files ≡ None) }
+    ensures silent { (F.told f.old).files ≡ None → (F.told f.new).files ≡ None }
+    ensures later { F.faults f.old ≤ F.faults f.new }
+    ensures device { IfDevice result (Rises (F.faults f.old) (F.faults f.new)) }
+{
+    seal_records(f, files, scan.bare())?;
+    let items = low_word(scan.items());
+    let bytes = low_word(scan.bytes());
+    mend_index(f, items, bytes, this_id)
+}
+
+// A number modulo 2^32.
+fn low_word(value: u64) -> u32
+    ensures { result ≡ value % 2 ^ 32 }
+{
+    (value % WORDS) as u32
+}
