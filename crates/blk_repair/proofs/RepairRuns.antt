@@ -1,6 +1,6 @@
 -- How the parts of repair go one after the other, and what each hands on.
-use Rattle.std.proofs.Common.{◌≡◌, ◌⊎◌, inl, inr, ⊎_elim, ℕ, ◌<◌, ◌≤◌, ◌%◌, ◌^◌, Bool, true, List, Option, None, Some, Result, Ok, Err, OnOk, refl, sym, ◌∙◌, ap, subst, arith}
-use Rattle.std.specs.Prelude.{All, slice_index_or, map, length, false, Contains}
+use Rattle.std.proofs.Common.{◌≡◌, inl, inr, ⊎_elim, ℕ, ◌≤◌, ◌%◌, ◌^◌, Bool, List, Option, None, Some, Result, Ok, Err, OnOk, refl, sym, ◌∙◌, ap, subst, arith}
+use Rattle.std.specs.Prelude.{All, map, length, Contains}
 use Rattle.std.specs.List.{filter, flat_map}
 use Rattle.std.specs.Option.{ForSome, option_map}
 use Rattle.std.proofs.lemmas.List.{length-map}
@@ -8,10 +8,9 @@ use Rattle.std.proofs.lemmas.List.Elements.{All-weaker}
 use Rattle.blk_image.specs.Image.{File, Image, AreBytes}
 use Rattle.blk_image.specs.Steps.{after}
 use Rattle.blk_image.specs.Told.{Told, Passes}
-use Rattle.blk_image.proofs.Runs.{passes_end, passes_none, passes_then, passes_weaker, some_inj}
+use Rattle.blk_image.proofs.Runs.{passes_end, passes_then, passes_weaker}
 use Rattle.blk_model.specs.Holding.{open_state}
 use Rattle.blk_model.specs.Items.{Row}
-use Rattle.blk_format.specs.BlockFiles.{IsWellFormed}
 use Rattle.blk_format.specs.Headers.{HasWholeIndex}
 use Rattle.blk_volume.specs.Chains.{IsChain}
 use Rattle.blk_volume.specs.Found.{kept}

@@ -1,4 +1,4 @@
-use Rattle.std.proofs.Common.{Option, Some, sym, subst}
+use Rattle.std.proofs.Common.{Option, sym, subst}
 use Rattle.std.proofs.lemmas.Result.{on_ok_weaker}
 use Rattle.blk_scan.specs.declared.chains.KeptChains.{KeptChains}
 use Rattle.blk_repair.specs.Repair.{AreBucketsScanned}
