@@ -1,8 +1,9 @@
 -- The whole repair of a folder, by what its audit told.
-use Rattle.std.specs.Prelude.{ℕ, ◌≡◌, ◌⊎◌, ◌+◌, ◌%◌, ◌^◌, ◌==◌, if◌then◌else◌, List}
+use Rattle.std.specs.Prelude.{ℕ, ◌≡◌, ◌⊎◌, ◌+◌, ◌%◌, ◌^◌, ◌==◌, if◌then◌else◌, List, ◌++◌}
 use Rattle.std.specs.declared.option.Option.{Option}
 use Rattle.blk_image.specs.Image.{Image, Index, byte}
-use Rattle.blk_image.specs.Told.{Told}
+use Rattle.blk_image.specs.Steps.{TrailStep, word_step}
+use Rattle.blk_image.specs.Told.{Told, Applies}
 use Rattle.blk_model.specs.Holding.{open_state}
 use Rattle.blk_model.specs.State.{Bounds}
 use Rattle.blk_format.specs.BlockFiles.{IsWellFormed}
@@ -20,7 +21,7 @@ use Rattle.blk_repair_laws.specs.Mended.{HasMendedFiles, HasOnlyKeptFiles, IsMen
 use Rattle.blk_scan.specs.declared.chains.KeptChains.{KeptChains}
 use Rattle.blk_scan.specs.declared.scan.Scan.{Scan}
 use Rattle.blk_scan.specs.Scans.{AreChainsTold, IsScanOf}
-use Rattle.blk_repair.specs.Counters.{IsShortIndexWord}
+use Rattle.blk_repair.specs.Counters.{IsShortIndexWord, crash_place}
 use Rattle.blk_repair.specs.Damages.{IsChainsRepairDamage, IsListRepairDamage}
 use Rattle.blk_repair.specs.Seals.{HasMendedLinksOf, IsWrongSealed}
 
@@ -45,6 +46,11 @@ pub record IsRepairedFor (id : ℕ) (entry image : Image) : Type 0 where
 -- the session is the one after that of the entry
 abbrev pub IsRepaired : Image → Image → Type 0
 IsRepaired entry image = IsRepairedFor (next_id (this_id_of (byte entry Index))) entry image
+
+-- the last step made the crash word 1
+pub record EndsWithCrashWord (old new : Told) : Type 0 where
+  pub before : List TrailStep
+  pub applies : Applies old new (before ++ word_step Index crash_place 1)
 
 -- Between the parts.
 

@@ -1,10 +1,9 @@
-//! Repair of a folder, part by part.
+//! Repair of a folder, by what its audit told.
 //!
-//! The call that repairs a whole folder is not there yet, but parts of it are: `list` repairs the use list, for which
-//! `removals` takes the nodes out that are not kept, `chains` makes a bucket the chain of its kept records, and
-//! `tables` does so with every bucket; behind them `maps` makes lengths, maps and counters of the block files right,
-//! `deletions` deletes the files that nothing names, `seals` seals what is kept, and `counters` makes the words of the
-//! index right. Nothing else calls them so far.
+//! `repairing` is the whole of it, joined of its parts: `list` repairs the use list, for which `removals` takes the nodes
+//! out that are not kept, `chains` makes a bucket the chain of its kept records, and `tables` does so with every bucket;
+//! behind them `maps` makes lengths, maps and counters of the block files right, `deletions` deletes the files that
+//! nothing names, `seals` seals what is kept, and `counters` makes the words of the index right.
 #![tactic(auto)]
 
 mod chains;

@@ -15,7 +15,7 @@ ghost use Rattle.blk_repair_laws.specs.MendedChanges.{IsMidRepair};
 ghost use Rattle.blk_scan.specs.Scans.{ChainsStandIf, StandAmong};
 ghost use Rattle.blk_repair.specs.Damages.{IsChainsRepairDamage};
 ghost use Rattle.blk_repair.specs.Maps.{IsNextRebuilt};
-ghost use Rattle.blk_repair.specs.Repair.{AreBucketsScanned, AreLinksMended, AreOnlyKeptLeft, AreOthersDeleted, IsBehindRepairDamage, IsLinksRepairDamage, IsNextFinished, IsRepairDamage, IsRepairable, IsRepaired, IsRepairedFor, IsRestRepairDamage, next_id as id_after};
+ghost use Rattle.blk_repair.specs.Repair.{AreBucketsScanned, AreLinksMended, AreOnlyKeptLeft, AreOthersDeleted, EndsWithCrashWord, IsBehindRepairDamage, IsLinksRepairDamage, IsNextFinished, IsRepairDamage, IsRepairable, IsRepaired, IsRepairedFor, IsRestRepairDamage, next_id as id_after};
 
 use crate::counters::{mend_index, THIS_ID};
 use crate::deletions::{delete_unclaimed, delete_unlinked};
@@ -45,9 +45,10 @@ pub fn repair<F: Folder>(f: &mut F, files: &mut BlockFiles, scan: &Scan) -> Resu
     ensures all { (kind : ℕ) → files_of files.new kind ≡ files_of files.old kind }
     ensures keeps { KeepsStanding files.old files.new }
 
-    // With the scan of a well-formed folder nothing is left to mend in the end, and at each word the same is kept and found.
+    // With the scan of a well-formed folder nothing is left to mend in the end, and at each word the same is kept and found; the last makes the crash word 1.
     ensures mended { OnOk result (ForSome (F.told f.old).files (λ from. IsRepairable scan.now from → ForSome (F.told f.new).files (IsRepaired from))) }
     ensures stops { ForSome (F.told f.old).files (λ from. IsRepairable scan.now from → Passes (F.told f.old) (F.told f.new) (IsMidRepair from)) }
+    ensures last { OnOk result (ForSome (F.told f.old).files (λ from. IsRepairable scan.now from → EndsWithCrashWord (F.told f.old) (F.told f.new))) }
 
     ensures is_open { ForSome (F.told f.new).files (IsOpen files.new) }
 
@@ -86,6 +87,7 @@ fn mend_all<F: Folder>(
     ensures keeps { KeepsStanding files.old files.new }
     ensures mended { OnOk result (ForSome (F.told f.old).files (λ from. IsRepairable scan.now from → ForSome (F.told f.new).files (IsRepairedFor this_id from))) }
     ensures stops { ForSome (F.told f.old).files (λ from. IsRepairable scan.now from → Passes (F.told f.old) (F.told f.new) (IsMidRepair from)) }
+    ensures last { OnOk result (ForSome (F.told f.old).files (λ from. IsRepairable scan.now from → EndsWithCrashWord (F.told f.old) (F.told f.new))) }
     ensures is_open { ForSome (F.told f.new).files (IsOpen files.new) }
     ensures damaged { IfDamaged result (IsRepairDamage files.new (F.told f.new)) }
     ensures untold { ForSome (F.told f.old).files (IsRepairable scan.now) → IfDamaged result (λ _. (F.told f.old).files ≡ None) }
@@ -110,6 +112,7 @@ fn mend_behind<F: Folder>(
     ensures keeps { KeepsStanding files.old files.new }
     ensures mended { OnOk result (ForSome (F.told f.old).files (λ from. (entry : Image) → AreLinksMended scan.now entry from → ForSome (F.told f.new).files (IsRepairedFor this_id entry))) }
     ensures stops { ForSome (F.told f.old).files (λ from. (entry : Image) → AreLinksMended scan.now entry from → Passes (F.told f.old) (F.told f.new) (IsMidRepair entry)) }
+    ensures last { OnOk result (ForSome (F.told f.old).files (λ from. (entry : Image) → AreLinksMended scan.now entry from → EndsWithCrashWord (F.told f.old) (F.told f.new))) }
     ensures is_open { ForSome (F.told f.new).files (IsOpen files.new) }
     ensures damaged { IfDamaged result (IsBehindRepairDamage files.new (F.told f.new)) }
     ensures untold { ForSome (F.told f.old).files (λ from. (entry : Image) × AreLinksMended scan.now entry from) → IfDamaged result (λ _. (F.told f.old).files ≡ None) }
@@ -209,6 +212,7 @@ fn mend_rest<F: Folder>(
     requires is_open { ForSome (F.told f.old).files (IsOpen files.now) }
     ensures mended { OnOk result (ForSome (F.told f.old).files (λ from. (entry : Image) → IsNextFinished scan.now entry from → ForSome (F.told f.new).files (IsRepairedFor this_id entry))) }
     ensures stops { ForSome (F.told f.old).files (λ from. (entry : Image) → IsNextFinished scan.now entry from → Passes (F.told f.old) (F.told f.new) (IsMidRepair entry)) }
+    ensures last { OnOk result (ForSome (F.told f.old).files (λ _. EndsWithCrashWord (F.told f.old) (F.told f.new))) }
     ensures is_open { ForSome (F.told f.new).files (IsOpen files.now) }
     ensures damaged { IfDamaged result (IsRestRepairDamage files.now (F.told f.new)) }
     ensures untold { ForSome (F.told f.old).files (λ from. (entry : Image) × IsNextFinished scan.now entry from) → IfDamaged result (λ _. (F.told f.old).files ≡ None) }

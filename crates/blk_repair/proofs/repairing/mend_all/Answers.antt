@@ -2,7 +2,7 @@ use Rattle.std.proofs.lemmas.Result.{on_ok_weaker}
 use Rattle.blk_image.specs.Image.{Image}
 use Rattle.blk_io.proofs.Carried.{if_damaged_weaker, told_at_end}
 use Rattle.blk_repair.specs.Repair.{AreLinksMended, IsRepairedFor}
-use Rattle.blk_repair.proofs.RepairRuns.{joined, led, none-before, still-told}
+use Rattle.blk_repair.proofs.RepairRuns.{joined, led, none-before, still-told, then-ends}
 use Rattle.blk_repair.proofs.repairing.mend_all.Goals as goal
 
 pub returns-clause-mended : goal.returns-clause-mended
@@ -22,3 +22,7 @@ returns-clause-untold g c all =
     (c.mend_behind.ensures.untold
     (told_at_end (g.F.Folder.told c.args.f.now).files (g.F.Folder.told c.mend_links.new.f).files (λ mid. (entry : Image) × AreLinksMended c.args.scan.now entry mid) c.mend_links.ensures.silent
     (λ from there mid here. (from, c.in_ok-mend_links.ensures.mended from there (all from there) mid here))))
+
+pub returns-clause-last : goal.returns-clause-last
+returns-clause-last g c =
+    on_ok_weaker c.mend_behind.result (λ made from there is. then-ends from there (c.mend_links.ensures.stops from there is) (λ mid here. made mid here from (c.in_ok-mend_links.ensures.mended from there is mid here))) c.mend_behind.ensures.last

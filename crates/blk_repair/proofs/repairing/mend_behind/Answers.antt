@@ -6,7 +6,7 @@ use Rattle.blk_image.specs.Told.{Passes}
 use Rattle.blk_io.proofs.Carried.{if_damaged_weaker, told_at_end}
 use Rattle.blk_repair_laws.specs.MendedChanges.{IsMidRepair}
 use Rattle.blk_repair.specs.Repair.{AreLinksMended, IsNextFinished, IsRepairedFor}
-use Rattle.blk_repair.proofs.RepairRuns.{files-next, finished-next, joined, led, none-before, still-told}
+use Rattle.blk_repair.proofs.RepairRuns.{files-next, finished-next, joined, led, none-before, still-told, then-ends}
 use Rattle.blk_repair.proofs.repairing.mend_behind.Given as given
 use Rattle.blk_repair.proofs.repairing.mend_behind.Goals as goal
 
@@ -37,3 +37,6 @@ returns-clause-untold g c some =
     (c.mend_rest.ensures.untold
     (told_at_end (g.F.Folder.told c.args.f.now).files (g.F.Folder.told c.mend_store.new.f).files (λ mid. (entry : Image) × IsNextFinished c.args.scan.now entry mid) c.mend_store.ensures.silent
     (λ from there mid here. ((some from there).0, handed g c from there (some from there).0 (some from there).1 mid here))))
+
+pub returns-clause-last : goal.returns-clause-last
+returns-clause-last g c = on_ok_weaker c.mend_rest.result (λ made from there entry links. then-ends from there (first g c from there entry links) made) c.mend_rest.ensures.last

@@ -1,9 +1,10 @@
 use Rattle.std.proofs.Common.{◌∙◌, ap, ◌%◌, ◌^◌, ℕ}
+use Rattle.std.proofs.lemmas.Result.{on_ok_weaker}
 use Rattle.blk_io.proofs.Carried.{if_damaged_weaker}
 use Rattle.blk_repair.specs.Counters.{index_steps}
 use Rattle.blk_repair.proofs.CounterRuns.{index-open}
 use Rattle.blk_repair.proofs.Progress.{stays-open}
-use Rattle.blk_repair.proofs.RepairRuns.{none-before, on_ok-both, rest-done, rest-stops, seals-next, seals-stop, still-told}
+use Rattle.blk_repair.proofs.RepairRuns.{none-before, on_ok-both, rest-done, rest-ends, rest-stops, seals-next, seals-stop, still-told}
 use Rattle.blk_repair.proofs.repairing.mend_rest.Goals as goal
 
 pub returns-in_err-seal_records-clause-stops : goal.returns-in_err-seal_records-clause-stops
@@ -36,3 +37,10 @@ returns-clause-untold g c some =
     (λ damage none.
     none-before (g.F.Folder.told c.args.f.now) (g.F.Folder.told c.seal_records.new.f)
     (λ from there. still-told from there (c.seal_records.ensures.stops from there (some from there).0 (seals-next c.args.scan.now c.bare.result.now c.bare.ensures (some from there).0 from (some from there).1))) none) c.mend_index.ensures.untold
+
+pub returns-clause-last : goal.returns-clause-last
+returns-clause-last g c =
+    on_ok_weaker c.mend_index.result
+    (λ made from there.
+    rest-ends (g.F.Folder.told c.args.f.now) (g.F.Folder.told c.seal_records.new.f) (g.F.Folder.told c.mend_index.new.f) c.bare.result.now c.low_word-items.result c.low_word-bytes.result c.args.this_id from there
+    (c.in_ok-seal_records.ensures.steps from there) made) c.mend_index.ensures.steps

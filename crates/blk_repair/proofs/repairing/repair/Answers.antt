@@ -4,7 +4,7 @@ use Rattle.std.specs.Option.{ForSome}
 use Rattle.blk_image.specs.Told.{Told}
 use Rattle.blk_io.proofs.Carried.{if_damaged_weaker}
 use Rattle.blk_disk.specs.Open.{IsOpen}
-use Rattle.blk_repair.specs.Repair.{IsRepairable, IsRepairedFor, next_id}
+use Rattle.blk_repair.specs.Repair.{EndsWithCrashWord, IsRepairable, IsRepairedFor, next_id}
 use Rattle.blk_repair.proofs.repairing.repair.Goals as goal
 
 pub returns-in_err-this_id-clause-is_open : goal.returns-in_err-this_id-clause-is_open
@@ -24,3 +24,8 @@ pub returns-clause-untold : goal.returns-clause-untold
 returns-clause-untold g c all =
     if_damaged_weaker c.mend_all.result _ _ (λ damage none. sym (ap (λ (t : Told). t.files) c.in_ok-this_id.ensures.stays) ∙ none)
     (c.mend_all.ensures.untold (subst (λ (t : Told). ForSome t.files (IsRepairable c.args.scan.now)) (sym c.in_ok-this_id.ensures.stays) all))
+
+pub returns-clause-last : goal.returns-clause-last
+returns-clause-last g c =
+    on_ok_weaker c.mend_all.result
+    (λ made from there is. subst (λ (t : Told). EndsWithCrashWord t (g.F.Folder.told c.mend_all.new.f)) c.in_ok-this_id.ensures.stays (made from (ap (λ (t : Told). t.files) c.in_ok-this_id.ensures.stays ∙ there) is)) c.mend_all.ensures.last
