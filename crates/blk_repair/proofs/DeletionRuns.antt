@@ -69,7 +69,7 @@ some-of false false false true = refl
 some-of false false false false = refl
 
 -- a file is linked where it is kept as one
-linked-among : (files : BlockFiles) (image : Image) (n : ℕ) → Agrees files image → is_some (linked_as image n) ≡ is_among (all_files files) n
+pub linked-among : (files : BlockFiles) (image : Image) (n : ℕ) → Agrees files image → is_some (linked_as image n) ≡ is_among (all_files files) n
 unfolding kind_among
 linked-among files image n agrees =
     ap is_some (sym (same-kind files image n agrees)) ∙ some-of (is_among (files_of files 1) n) (is_among (files_of files 2) n) (is_among (files_of files 3) n) (is_among (files_of files 4) n) ∙ sym (among_kinds files n)

@@ -83,7 +83,7 @@ module _ (image : Image) (nodes others : List ℕ) (scanned : IsListScanned node
       ∙ ap (λ (w : List ListWrite). steps_of_writes w done ++ removal_steps (all_but nodes others) (after (steps_of_writes w done) done)) end-writes
 
   -- so the parts are the repair of the list
-  steps-are : list_repair_steps image ≡ mending_steps nodes others image
+  pub steps-are : list_repair_steps image ≡ mending_steps nodes others image
   steps-are = ap (λ (l : List TrailStep). completion_steps image ++ l) from-end
 
   repaired : Along (HoldsTheSame image) image (mending_steps nodes others image) × IsListMended image (after (mending_steps nodes others image) image)

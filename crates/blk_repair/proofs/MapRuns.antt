@@ -10,24 +10,26 @@ use Rattle.blk_image.proofs.Footprints.{same_file_outside}
 use Rattle.blk_image.proofs.Runs.{passes_end, passes_weaker}
 use Rattle.blk_format.specs.Address.{block_place, block_size}
 use Rattle.blk_format.specs.BlockFiles.{is_among, kind_among, linked_as, max_entries_in, stands_in}
-use Rattle.blk_format.specs.Claims.{is_in_file}
+use Rattle.blk_format.specs.Claims.{Claim, BlockOf, has_claim, is_in_file}
 use Rattle.blk_format.specs.Headers.{HasWholeIndex}
 use Rattle.blk_format.specs.Maps.{AreAllocations}
 use Rattle.blk_format.proofs.LinkedHeads.{linked_head}
 use Rattle.blk_volume.specs.Found.{kept}
 use Rattle.blk_volume.specs.Loads.{Loaded}
 use Rattle.blk_volume.specs.Sound.{AreLongEnough, words_of}
+use Rattle.blk_addr.specs.Claims.{IsClaimsOf}
 use Rattle.blk_addr.specs.declared.claim_set.Claims.{Claims}
 use Rattle.blk_disk.specs.declared.tables.BlockFiles.{BlockFiles}
 use Rattle.blk_disk.specs.Growth.{size_as, whole_length}
 use Rattle.blk_disk.specs.Tables.{Agrees, all_files, blocks_of, files_of, length_in}
 use Rattle.blk_disk.proofs.Joined.{among_kinds}
 use Rattle.blk_alloc.specs.Mending.{PassesNeeded}
-use Rattle.blk_alloc.specs.Rebuilding.{AreFitted, AreItsAllocations, IsRebuilding, IsRebuilt, is_block_file, rebuilding_of, words_of_file}
+use Rattle.blk_alloc.specs.Rebuilding.{AreFitted, AreItsAllocations, AreRight, IsRebuilding, IsRebuilt, is_block_file, rebuilding_of, words_of_file}
+use Rattle.blk_repair_laws.specs.Mended.{HasMendedFiles}
 use Rattle.blk_repair_laws.specs.MendedChanges.{KeepsMendedLinks}
 use Rattle.blk_repair_laws.specs.MendedParts.{IsRebuiltFor}
 use Rattle.blk_repair_laws.proofs.MendedChanges.{links-grow, links-on}
-use Rattle.blk_repair_laws.proofs.MendedParts.{rebuilt-mended, words-stand}
+use Rattle.blk_repair_laws.proofs.MendedParts.{rebuilt-mended, words-claim, words-stand}
 use Rattle.blk_repair_laws.proofs.RecordSeals.{growth-leaves}
 use Rattle.blk_repair.specs.Maps.{AreFilesMended, IsNextRebuilt}
 
@@ -71,7 +73,7 @@ among-of : (files : BlockFiles) (n kind : ℕ) → kind_among (files_of files) n
 unfolding kind_among
 among-of files n kind e = among_kinds files n ∙ four (is_among (files_of files 1) n) (is_among (files_of files 2) n) (is_among (files_of files 3) n) (is_among (files_of files 4) n) kind e
 
-some-kind : (o : Option ℕ) → is_some o ≡ true → (kind : ℕ) × (o ≡ Some kind)
+pub some-kind : (o : Option ℕ) → is_some o ≡ true → (kind : ℕ) × (o ≡ Some kind)
 some-kind (Some kind) e = (kind, refl)
 some-kind None e = cc
 
@@ -129,3 +131,27 @@ module _ (entry from image : Image) (claims : Claims) (old new : BlockFiles) (ne
     files = rebuilt-mended image each long;
     seals = growth-leaves from image moment.stays.grown;
   }
+
+-- ---- files that are mended already
+
+-- where the files are mended they are right for the claims of what is kept
+pub right-files : (claims : Claims) (files : BlockFiles) (image : Image) → ((n : ℕ) → is_some (linked_as image n) ≡ is_among (all_files files) n) → Agrees files image → HasMendedFiles image → IsClaimsOf claims (flat_map words_of (kept image)) → AreRight claims files image
+unfolding whole_length block_place
+right-files claims files image linked agrees mended claimed n among =
+    let there : is_some (linked_as image n) ≡ true = linked n ∙ among in
+    let kind = some-kind (linked_as image n) there in
+    let counted = mended.counted n there in
+    let long : 8192 + max_entries_in image n * block_size kind.0 ≤ length_of image (Block n) = mended.long_enough n kind.0 kind.1 in
+    let whole : 8192 + blocks_of files n * size_as (kind_among (files_of files) n) ≡ 8192 + max_entries_in image n * block_size kind.0 =
+    ap (λ (b : ℕ). 8192 + b * size_as (kind_among (files_of files) n)) (agrees.blocks n among) ∙ ap (λ (o : Option ℕ). 8192 + max_entries_in image n * size_as o) (same-kind files image n agrees ∙ kind.1) in
+    let room : 8192 + max_entries_in image n * block_size kind.0 ≤ length_in files n = subst (λ (y : ℕ). 8192 + max_entries_in image n * block_size kind.0 ≤ y) (sym (agrees.lengths n among)) long in (
+      subst (λ (x : ℕ). x ≤ length_in files n) (sym whole) room,
+      record {
+        right = record {
+          marks = λ b small. mended.maps n b there small ∙ sym (claimed.claims (BlockOf n b) ∙ ap (λ (cs : List Claim). has_claim cs (BlockOf n b)) (words-claim image));
+          allocations = counted.num_entries ∙ sym (claimed.allocations n);
+          empty = counted.empty;
+        };
+        updating = counted.updating;
+      },
+    )

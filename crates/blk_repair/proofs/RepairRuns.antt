@@ -1,5 +1,5 @@
 -- How the parts of repair go one after the other, and what each hands on.
-use Rattle.std.proofs.Common.{◌≡◌, inl, inr, ⊎_elim, ℕ, ◌≤◌, ◌%◌, ◌^◌, Bool, List, Option, None, Some, Result, Ok, Err, OnOk, refl, sym, ◌∙◌, ap, subst, arith, append_assoc, ◌++◌}
+use Rattle.std.proofs.Common.{◌≡◌, inl, inr, ⊎_elim, ℕ, ◌≤◌, ◌%◌, ◌^◌, Bool, List, Option, None, Some, Result, Ok, Err, OnOk, refl, sym, ◌∙◌, ap, subst, arith, append_assoc, [], ◌∷◌, ◌++◌}
 use Rattle.std.specs.Prelude.{All, map, length, Contains}
 use Rattle.std.specs.List.{filter, flat_map}
 use Rattle.std.specs.Option.{ForSome, option_map}
@@ -28,11 +28,14 @@ use Rattle.blk_index.specs.Making.{deletions}
 use Rattle.blk_alloc.specs.Extending.{KeepsStanding}
 use Rattle.blk_audit.specs.Sealable.{CanBeSealed}
 use Rattle.blk_repair_laws.specs.BucketEnds.{records_of}
-use Rattle.blk_repair_laws.specs.ChainRepair.{AreChainsMended, kept_records}
+use Rattle.blk_alloc.specs.Rebuilding.{AreRight}
+use Rattle.blk_alloc.proofs.Rebuilt.{told_same}
+use Rattle.blk_repair_laws.specs.ChainRepair.{AreChainsMended, chain_repair_steps, kept_records}
 use Rattle.blk_repair_laws.specs.KeptSeals.{AreOthersSealed, IsOfKept}
-use Rattle.blk_repair_laws.specs.ListRepair.{HoldsTheSame, IsListMended}
-use Rattle.blk_repair_laws.specs.Mended.{IsMended}
+use Rattle.blk_repair_laws.specs.ListRepair.{HoldsTheSame, IsListMended, list_repair_steps}
+use Rattle.blk_repair_laws.specs.Mended.{HasMendedFiles, IsMended}
 use Rattle.blk_repair_laws.specs.MendedChanges.{IsMidRepair, KeepsMendedLinks}
+use Rattle.blk_repair_laws.specs.MendedLinks.{HasMendedLinks}
 use Rattle.blk_repair_laws.specs.RecordSeals.{IsSealedAt, KeepsRecordsSealed, StaysSealed}
 use Rattle.blk_repair_laws.proofs.ChainRepair.{chains-stay, records-stay}
 use Rattle.blk_repair_laws.proofs.LinkRepair.{chains-links, kept-walked}
@@ -40,6 +43,7 @@ use Rattle.blk_repair_laws.proofs.ListRepair.{holds-trans}
 use Rattle.blk_repair_laws.proofs.Mended.{mended-folders}
 use Rattle.blk_repair_laws.proofs.MendedChanges.{holds-mid, keeps-mid, repaired-kept}
 use Rattle.blk_repair_laws.proofs.RecordSeals.{keeps-more, keeps-none}
+use Rattle.blk_repair_laws.proofs.SoundFolders.{mended-none}
 use Rattle.blk_scan.specs.declared.chains.KeptChains.{KeptChains}
 use Rattle.blk_scan.specs.declared.scan.Scan.{Scan}
 use Rattle.blk_scan.specs.Scans.{AreChainsTold, IsScanOf, kept_as_told}
@@ -47,9 +51,12 @@ use Rattle.blk_repair.specs.Chains.{AreChainsScanned}
 use Rattle.blk_repair.specs.Counters.{HasIndexWords, IsIndexMended, IsNextCounted, counted_words, crash_place, index_steps, index_words_steps}
 use Rattle.blk_repair.specs.Deletions.{DeletesSome, IsMidDeletion}
 use Rattle.blk_repair.specs.Maps.{AreFilesMended, IsNextRebuilt}
-use Rattle.blk_repair.specs.Removals.{IsListScanned}
-use Rattle.blk_repair.specs.Repair.{AreBucketsScanned, AreLinksMended, AreOnlyKeptLeft, AreOthersDeleted, EndsWithCrashWord, IsNextFinished, IsRepairable, IsRepairedFor}
+use Rattle.blk_repair.specs.Removals.{IsListScanned, mending_steps}
+use Rattle.blk_repair.specs.Repair.{AreBucketsScanned, AreLinksMended, AreOnlyKeptLeft, AreOthersDeleted, EndsWithCrashWord, IsNextFinished, IsRepairable, IsRepairedFor, counting_steps}
 use Rattle.blk_repair.specs.Seals.{AreSealedNow, HasMendedLinksOf, IsNextSealed, seals_steps}
+use Rattle.blk_repair.proofs.DeletionRuns.{linked-among}
+use Rattle.blk_repair.proofs.ListRuns.{steps-are}
+use Rattle.blk_repair.proofs.MapRuns.{right-files}
 use Rattle.blk_repair.proofs.SealRuns.{MayBeSealed, one-may}
 
 -- ---- two parts
@@ -354,3 +361,44 @@ then-ends {a} {b} {c} {P} from there first second =
       before = first.steps ++ rest.before;
       applies = subst (Applies a c) (sym (append_assoc first.steps rest.before (word_step Index crash_place 1))) (grows_then first.applies rest.applies);
     }
+
+-- ---- where nothing is to be mended
+
+nil-parts : (xs ys : List TrailStep) → xs ++ ys ≡ [] → (xs ≡ []) × (ys ≡ [])
+nil-parts [] ys e = (refl, e)
+nil-parts (x ∷ xs) ys e = absurd (no_steps e)
+  where
+    no_steps : x ∷ (xs ++ ys) ≡ [] → ⊥
+    no_steps is = cc
+
+-- mended links need no step, neither of the list nor of the chains
+links-none : (image : Image) → HasMendedLinks image → (list_repair_steps image ≡ []) × (chain_repair_steps image ≡ [])
+links-none image mended =
+    let parts = nil-parts (list_repair_steps image) (chain_repair_steps (after (list_repair_steps image) image)) (mended-none image mended) in
+    (parts.0, subst (λ (s : List TrailStep). chain_repair_steps (after s image) ≡ []) parts.0 parts.1)
+
+pub chains-clean : (a b : Told) (from : Image) → HasMendedLinks from → Applies a b (chain_repair_steps from) → b ≡ a
+chains-clean a b from mended made = told_same a b (subst (Applies a b) (links-none from mended).1 made)
+
+pub list-clean : (a b : Told) (nodes others : List ℕ) (from : Image) → IsListScanned nodes others from → HasMendedLinks from → Applies a b (mending_steps nodes others from) → b ≡ a
+list-clean a b nodes others from scanned mended made = told_same a b (subst (Applies a b) (sym (steps-are from nodes others scanned) ∙ (links-none from mended).0) made)
+
+-- a call that stayed leaves the files
+pub here-still : {a b : Told} (from : Image) → a.files ≡ Some from → b ≡ a → b.files ≡ Some from
+here-still from there same = ap (λ (t : Told). t.files) same ∙ there
+
+-- what is kept has these claims at each word
+pub claims-kept : (entry from : Image) (claims : Claims) → IsNextRebuilt entry claims from → IsClaimsOf claims (flat_map words_of (kept from))
+claims-kept entry from claims next = subst (λ (ks : List Loaded). IsClaimsOf claims (flat_map words_of ks)) (sym next.holds.keeps.kept_same) next.claimed
+
+pub files-right : (entry from : Image) (claims : Claims) (files : BlockFiles) → IsNextRebuilt entry claims from → IsOpen files from → HasMendedFiles from → AreRight claims files from
+files-right entry from claims files next is mended = right-files claims files from (λ n. linked-among files from n is.agrees) is.agrees mended (claims-kept entry from claims next)
+
+-- no seals, and then the words of the index
+pub rest-clean : (scan : Scan) (entry from : Image) (a b c : Told) (words : List ℕ) (items bytes id : ℕ) → words ≡ scan.bare.items → items ≡ length scan.kept.items % 2 ^ 32 → bytes ≡ scan.bytes % 2 ^ 32 → a.files ≡ Some from → IsNextFinished scan entry from
+    → scan.bare.items ≡ [] → Applies a b (seals_steps words from) → ForSome b.files (λ mid. Applies b c (index_steps items bytes id mid)) → Applies a c (counting_steps entry id from)
+rest-clean scan entry from a b c words items bytes id w i bs there next bare first second =
+    let same : b ≡ a = told_same a b (subst (λ (ws : List ℕ). Applies a b (seals_steps ws from)) (w ∙ bare) first) in
+    let counted : IsNextCounted entry items bytes from = counted-told scan entry from items bytes i bs next.links.scanned next.links.holds in
+    let made : Applies a c (index_steps items bytes id from) = subst (λ (t : Told). Applies t c (index_steps items bytes id from)) same (second from (here-still from there same)) in
+    subst (λ (n : ℕ). Applies a c (index_steps (length (kept entry)) n id from)) counted.bytes_are (subst (λ (n : ℕ). Applies a c (index_steps n bytes id from)) counted.items_are made)

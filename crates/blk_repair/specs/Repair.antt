@@ -1,5 +1,6 @@
 -- The whole repair of a folder, by what its audit told.
-use Rattle.std.specs.Prelude.{ℕ, ◌≡◌, ◌⊎◌, ◌+◌, ◌%◌, ◌^◌, ◌==◌, if◌then◌else◌, List, ◌++◌}
+use Rattle.std.specs.Prelude.{ℕ, ◌≡◌, ◌⊎◌, ◌+◌, ◌%◌, ◌^◌, ◌==◌, if◌then◌else◌, List, [], ◌++◌, length}
+use Rattle.std.specs.List.{sum_by}
 use Rattle.std.specs.declared.option.Option.{Option}
 use Rattle.blk_image.specs.Image.{Image, Index, byte}
 use Rattle.blk_image.specs.Steps.{TrailStep, word_step}
@@ -8,7 +9,7 @@ use Rattle.blk_model.specs.Holding.{open_state}
 use Rattle.blk_model.specs.State.{Bounds}
 use Rattle.blk_format.specs.BlockFiles.{IsWellFormed}
 use Rattle.blk_format.specs.Headers.{crash_of, this_id_of}
-use Rattle.blk_volume.specs.Found.{found, kept}
+use Rattle.blk_volume.specs.Found.{charge_of, found, kept}
 use Rattle.blk_volume.specs.ListImages.{IsWritable}
 use Rattle.blk_volume.specs.StandsFor.{StandsFor}
 use Rattle.blk_io.specs.declared.fault.Damage.{Damage}
@@ -18,10 +19,11 @@ use Rattle.blk_alloc.specs.Rebuilding.{IsShortReadOf}
 use Rattle.blk_repair_laws.specs.ChainRepair.{KeepsAllWalked}
 use Rattle.blk_repair_laws.specs.KeptSeals.{AreOthersSealed}
 use Rattle.blk_repair_laws.specs.Mended.{HasMendedFiles, HasOnlyKeptFiles, IsMended}
+use Rattle.blk_repair_laws.specs.MendedLinks.{HasMendedLinks}
 use Rattle.blk_scan.specs.declared.chains.KeptChains.{KeptChains}
 use Rattle.blk_scan.specs.declared.scan.Scan.{Scan}
 use Rattle.blk_scan.specs.Scans.{AreChainsTold, IsScanOf}
-use Rattle.blk_repair.specs.Counters.{IsShortIndexWord, crash_place}
+use Rattle.blk_repair.specs.Counters.{IsShortIndexWord, crash_place, index_steps}
 use Rattle.blk_repair.specs.Damages.{IsChainsRepairDamage, IsListRepairDamage}
 use Rattle.blk_repair.specs.Seals.{HasMendedLinksOf, IsWrongSealed}
 
@@ -51,6 +53,17 @@ IsRepaired entry image = IsRepairedFor (next_id (this_id_of (byte entry Index)))
 pub record EndsWithCrashWord (old new : Told) : Type 0 where
   pub before : List TrailStep
   pub applies : Applies old new (before ++ word_step Index crash_place 1)
+
+-- nothing is to be mended but words of the index, and no seal was told to be
+pub record NeedsOnlyWords (scan : Scan) (image : Image) : Type 0 where
+  pub links : HasMendedLinks image
+  pub files : HasMendedFiles image
+  pub only : HasOnlyKeptFiles image
+  pub bare : scan.bare.items ≡ []
+
+-- the words of the index are mended for what is kept at the entry, and for a session with this number
+abbrev pub counting_steps : Image → ℕ → Image → List TrailStep
+counting_steps entry id image = index_steps (length (kept entry)) (sum_by charge_of (kept entry) % 2 ^ 32) id image
 
 -- Between the parts.
 

@@ -1,8 +1,9 @@
 // The whole repair of a folder.
 ghost use Rattle.std.specs.Prelude.{◌≡◌, ◌≤◌, ◌%◌, ◌^◌, ℕ, None, OnOk, OnErr, All};
 ghost use Rattle.std.specs.Option.{ForSome};
-ghost use Rattle.blk_image.specs.Image.{Image};
-ghost use Rattle.blk_image.specs.Told.{Passes, Rises};
+ghost use Rattle.blk_image.specs.Image.{Image, Index as index, byte};
+ghost use Rattle.blk_image.specs.Told.{Applies, Passes, Rises, Stays};
+ghost use Rattle.blk_format.specs.Headers.{this_id_of};
 ghost use Rattle.blk_io.specs.Faults.{IfDamaged, IfDevice};
 ghost use Rattle.blk_disk.specs.Open.{IsOpen};
 ghost use Rattle.blk_disk.specs.Tables.{all_files, files_of};
@@ -11,11 +12,13 @@ ghost use Rattle.blk_alloc.specs.Rebuilding.{IsShortReadOf};
 ghost use Rattle.blk_audit.specs.Sealable.{CanBeSealed};
 ghost use Rattle.blk_repair_laws.specs.ChainRepair.{AreChainsMended};
 ghost use Rattle.blk_repair_laws.specs.ListRepair.{HoldsTheSame};
+ghost use Rattle.blk_repair_laws.specs.Mended.{HasMendedFiles, HasOnlyKeptFiles};
 ghost use Rattle.blk_repair_laws.specs.MendedChanges.{IsMidRepair};
+ghost use Rattle.blk_repair_laws.specs.MendedLinks.{HasMendedLinks};
 ghost use Rattle.blk_scan.specs.Scans.{ChainsStandIf, StandAmong};
 ghost use Rattle.blk_repair.specs.Damages.{IsChainsRepairDamage};
 ghost use Rattle.blk_repair.specs.Maps.{IsNextRebuilt};
-ghost use Rattle.blk_repair.specs.Repair.{AreBucketsScanned, AreLinksMended, AreOnlyKeptLeft, AreOthersDeleted, EndsWithCrashWord, IsBehindRepairDamage, IsLinksRepairDamage, IsNextFinished, IsRepairDamage, IsRepairable, IsRepaired, IsRepairedFor, IsRestRepairDamage, next_id as id_after};
+ghost use Rattle.blk_repair.specs.Repair.{AreBucketsScanned, AreLinksMended, AreOnlyKeptLeft, AreOthersDeleted, EndsWithCrashWord, IsBehindRepairDamage, IsLinksRepairDamage, IsNextFinished, IsRepairDamage, IsRepairable, IsRepaired, IsRepairedFor, IsRestRepairDamage, NeedsOnlyWords, counting_steps, next_id as id_after};
 
 use crate::counters::{mend_index, THIS_ID};
 use crate::deletions::{delete_unclaimed, delete_unlinked};
@@ -51,6 +54,10 @@ pub fn repair<F: Folder>(f: &mut F, files: &mut BlockFiles, scan: &Scan) -> Resu
     ensures last { OnOk result (ForSome (F.told f.old).files (λ from. IsRepairable scan.now from → EndsWithCrashWord (F.told f.old) (F.told f.new))) }
 
     ensures is_open { ForSome (F.told f.new).files (IsOpen files.new) }
+
+    // Where nothing else is to be mended, the only steps are those of the words of the index.
+    ensures clean { OnOk result (ForSome (F.told f.old).files (λ from. IsRepairable scan.now from → NeedsOnlyWords scan.now from → Applies (F.told f.old) (F.told f.new) (counting_steps from (id_after (this_id_of (byte from index))) from))) }
+
 
     // A folder that tells its files gives a damage only where the scan isn't its own.
     ensures damaged { IfDamaged result (IsRepairDamage files.new (F.told f.new)) }
@@ -89,6 +96,7 @@ fn mend_all<F: Folder>(
     ensures stops { ForSome (F.told f.old).files (λ from. IsRepairable scan.now from → Passes (F.told f.old) (F.told f.new) (IsMidRepair from)) }
     ensures last { OnOk result (ForSome (F.told f.old).files (λ from. IsRepairable scan.now from → EndsWithCrashWord (F.told f.old) (F.told f.new))) }
     ensures is_open { ForSome (F.told f.new).files (IsOpen files.new) }
+    ensures clean { OnOk result (ForSome (F.told f.old).files (λ from. IsRepairable scan.now from → NeedsOnlyWords scan.now from → Applies (F.told f.old) (F.told f.new) (counting_steps from this_id from))) }
     ensures damaged { IfDamaged result (IsRepairDamage files.new (F.told f.new)) }
     ensures untold { ForSome (F.told f.old).files (IsRepairable scan.now) → IfDamaged result (λ _. (F.told f.old).files ≡ None) }
     ensures silent { (F.told f.old).files ≡ None → (F.told f.new).files ≡ None }
@@ -114,6 +122,7 @@ fn mend_behind<F: Folder>(
     ensures stops { ForSome (F.told f.old).files (λ from. (entry : Image) → AreLinksMended scan.now entry from → Passes (F.told f.old) (F.told f.new) (IsMidRepair entry)) }
     ensures last { OnOk result (ForSome (F.told f.old).files (λ from. (entry : Image) → AreLinksMended scan.now entry from → EndsWithCrashWord (F.told f.old) (F.told f.new))) }
     ensures is_open { ForSome (F.told f.new).files (IsOpen files.new) }
+    ensures clean { OnOk result (ForSome (F.told f.old).files (λ from. (entry : Image) → AreLinksMended scan.now entry from → NeedsOnlyWords scan.now from → Applies (F.told f.old) (F.told f.new) (counting_steps entry this_id from))) }
     ensures damaged { IfDamaged result (IsBehindRepairDamage files.new (F.told f.new)) }
     ensures untold { ForSome (F.told f.old).files (λ from. (entry : Image) × AreLinksMended scan.now entry from) → IfDamaged result (λ _. (F.told f.old).files ≡ None) }
     ensures silent { (F.told f.old).files ≡ None → (F.told f.new).files ≡ None }
@@ -136,6 +145,7 @@ fn mend_store<F: Folder>(
     ensures mended { OnOk result (ForSome (F.told f.old).files (λ from. (entry : Image) → IsNextRebuilt entry claims.now from → ForSome (F.told f.new).files (AreOnlyKeptLeft entry from))) }
     ensures stops { ForSome (F.told f.old).files (λ from. (entry : Image) → IsNextRebuilt entry claims.now from → Passes (F.told f.old) (F.told f.new) (IsMidRepair entry)) }
     ensures is_open { ForSome (F.told f.new).files (IsOpen files.new) }
+    ensures clean { OnOk result (ForSome (F.told f.old).files (λ from. (entry : Image) → IsNextRebuilt entry claims.now from → HasMendedFiles from → HasOnlyKeptFiles from → Stays (F.told f.old) (F.told f.new))) }
     ensures damaged { IfDamaged result (IsShortReadOf (F.told f.new) (all_files files.new)) }
     ensures untold { IfDamaged result (λ _. (F.told f.old).files ≡ None) }
     ensures silent { (F.told f.old).files ≡ None → (F.told f.new).files ≡ None }
@@ -157,6 +167,7 @@ fn delete_others<F: Folder>(
     ensures mended { OnOk result (ForSome (F.told f.old).files (λ from. (entry : Image) → IsNextRebuilt entry claims.now from → ForSome (F.told f.new).files (AreOthersDeleted entry from))) }
     ensures stops { ForSome (F.told f.old).files (λ from. (entry : Image) → IsNextRebuilt entry claims.now from → Passes (F.told f.old) (F.told f.new) (IsMidRepair entry)) }
     ensures is_open { ForSome (F.told f.new).files (IsOpen files.now) }
+    ensures clean { OnOk result (ForSome (F.told f.old).files (λ from. (entry : Image) → IsNextRebuilt entry claims.now from → HasOnlyKeptFiles from → Stays (F.told f.old) (F.told f.new))) }
     ensures silent { (F.told f.old).files ≡ None → (F.told f.new).files ≡ None }
     ensures later { F.faults f.old ≤ F.faults f.new }
     ensures failed { OnErr result (Rises (F.faults f.old) (F.faults f.new)) }
@@ -172,6 +183,7 @@ fn mend_links<F: Folder>(f: &mut F, files: &BlockFiles, scan: &Scan) -> Result<(
     ensures mended { OnOk result (ForSome (F.told f.old).files (λ from. IsRepairable scan.now from → ForSome (F.told f.new).files (AreLinksMended scan.now from))) }
     ensures stops { ForSome (F.told f.old).files (λ from. IsRepairable scan.now from → Passes (F.told f.old) (F.told f.new) (IsMidRepair from)) }
     ensures is_open { ForSome (F.told f.new).files (IsOpen files.now) }
+    ensures clean { OnOk result (ForSome (F.told f.old).files (λ from. IsRepairable scan.now from → HasMendedLinks from → Stays (F.told f.old) (F.told f.new))) }
     ensures damaged { IfDamaged result (IsLinksRepairDamage files.now (F.told f.new)) }
     ensures untold { ForSome (F.told f.old).files (IsRepairable scan.now) → IfDamaged result (λ _. (F.told f.old).files ≡ None) }
     ensures silent { (F.told f.old).files ≡ None → (F.told f.new).files ≡ None }
@@ -189,6 +201,7 @@ fn mend_buckets<F: Folder>(f: &mut F, files: &BlockFiles, scan: &Scan) -> Result
     ensures mended { OnOk result (ForSome (F.told f.old).files (λ from. AreBucketsScanned scan.now.chains from → ForSome (F.told f.new).files (AreChainsMended from))) }
     ensures stops { ForSome (F.told f.old).files (λ from. AreBucketsScanned scan.now.chains from → Passes (F.told f.old) (F.told f.new) (HoldsTheSame from)) }
     ensures is_open { ForSome (F.told f.new).files (IsOpen files.now) }
+    ensures clean { OnOk result (ForSome (F.told f.old).files (λ from. AreBucketsScanned scan.now.chains from → HasMendedLinks from → Stays (F.told f.old) (F.told f.new))) }
     ensures damaged { IfDamaged result (IsChainsRepairDamage files.now (F.told f.new)) }
     ensures untold { ForSome (F.told f.old).files (AreBucketsScanned scan.now.chains) → IfDamaged result (λ _. (F.told f.old).files ≡ None) }
     ensures silent { (F.told f.old).files ≡ None → (F.told f.new).files ≡ None }
@@ -214,6 +227,7 @@ fn mend_rest<F: Folder>(
     ensures stops { ForSome (F.told f.old).files (λ from. (entry : Image) → IsNextFinished scan.now entry from → Passes (F.told f.old) (F.told f.new) (IsMidRepair entry)) }
     ensures last { OnOk result (ForSome (F.told f.old).files (λ _. EndsWithCrashWord (F.told f.old) (F.told f.new))) }
     ensures is_open { ForSome (F.told f.new).files (IsOpen files.now) }
+    ensures clean { OnOk result (ForSome (F.told f.old).files (λ from. (entry : Image) → IsNextFinished scan.now entry from → NeedsOnlyWords scan.now from → Applies (F.told f.old) (F.told f.new) (counting_steps entry this_id from))) }
     ensures damaged { IfDamaged result (IsRestRepairDamage files.now (F.told f.new)) }
     ensures untold { ForSome (F.told f.old).files (λ from. (entry : Image) × IsNextFinished scan.now entry from) → IfDamaged result (λ _. (F.told f.old).files ≡ None) }
     ensures silent { (F.told f.old).files ≡ None → (F.told f.new).files ≡ None }

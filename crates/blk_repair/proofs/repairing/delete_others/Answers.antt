@@ -1,6 +1,7 @@
+use Rattle.std.proofs.Common.{◌∙◌}
 use Rattle.std.proofs.lemmas.Result.{on_ok_weaker}
 use Rattle.blk_image.proofs.Runs.{passes_weaker}
-use Rattle.blk_repair.proofs.RepairRuns.{deletion-mid, deletions-done, deletions-stop}
+use Rattle.blk_repair.proofs.RepairRuns.{deletion-mid, deletions-done, deletions-stop, here-still}
 use Rattle.blk_repair.proofs.repairing.delete_others.Goals as goal
 
 pub returns-in_err-delete_unlinked-clause-stops : goal.returns-in_err-delete_unlinked-clause-stops
@@ -19,3 +20,10 @@ returns-clause-stops g c from there entry next =
 
 pub returns-clause-is_open : goal.returns-clause-is_open
 returns-clause-is_open g c = c.delete_unclaimed.ensures.is_open c.args.files.now c.delete_unlinked.ensures.is_open
+
+pub returns-clause-clean : goal.returns-clause-clean
+returns-clause-clean g c =
+    on_ok_weaker c.delete_unclaimed.result
+    (λ claimed from there entry next only.
+    let same = c.delete_unlinked.ensures.clean from there only.only_linked in
+    c.delete_unclaimed.ensures.clean from (here-still from there same) entry next only.only_claimed ∙ same) c.delete_unclaimed.ensures.claimed

@@ -1,8 +1,10 @@
+use Rattle.std.proofs.Common.{subst}
 use Rattle.std.proofs.lemmas.Result.{on_ok_weaker}
 use Rattle.blk_image.specs.Image.{Image}
+use Rattle.blk_image.specs.Told.{Told, Applies}
 use Rattle.blk_io.proofs.Carried.{if_damaged_weaker, told_at_end}
-use Rattle.blk_repair.specs.Repair.{AreLinksMended, IsRepairedFor}
-use Rattle.blk_repair.proofs.RepairRuns.{joined, led, none-before, still-told, then-ends}
+use Rattle.blk_repair.specs.Repair.{AreLinksMended, IsRepairedFor, counting_steps}
+use Rattle.blk_repair.proofs.RepairRuns.{here-still, joined, led, none-before, still-told, then-ends}
 use Rattle.blk_repair.proofs.repairing.mend_all.Goals as goal
 
 pub returns-clause-mended : goal.returns-clause-mended
@@ -26,3 +28,11 @@ returns-clause-untold g c all =
 pub returns-clause-last : goal.returns-clause-last
 returns-clause-last g c =
     on_ok_weaker c.mend_behind.result (λ made from there is. then-ends from there (c.mend_links.ensures.stops from there is) (λ mid here. made mid here from (c.in_ok-mend_links.ensures.mended from there is mid here))) c.mend_behind.ensures.last
+
+pub returns-clause-clean : goal.returns-clause-clean
+returns-clause-clean g c =
+    on_ok_weaker c.mend_behind.result
+    (λ clean from there is needs.
+    let same = c.in_ok-mend_links.ensures.clean from there is needs.links in
+    let here = here-still from there same in
+    subst (λ (t : Told). Applies t (g.F.Folder.told c.mend_behind.new.f) (counting_steps from c.args.this_id from)) same (clean from here from (c.in_ok-mend_links.ensures.mended from there is from here) needs)) c.mend_behind.ensures.clean

@@ -1,12 +1,12 @@
-use Rattle.std.proofs.Common.{◌≡◌, Some}
+use Rattle.std.proofs.Common.{◌≡◌, Some, subst}
 use Rattle.std.proofs.lemmas.Result.{on_ok_weaker}
 use Rattle.std.specs.Option.{ForSome}
 use Rattle.blk_image.specs.Image.{Image}
-use Rattle.blk_image.specs.Told.{Passes}
+use Rattle.blk_image.specs.Told.{Told, Applies, Passes}
 use Rattle.blk_io.proofs.Carried.{if_damaged_weaker, told_at_end}
 use Rattle.blk_repair_laws.specs.MendedChanges.{IsMidRepair}
-use Rattle.blk_repair.specs.Repair.{AreLinksMended, IsNextFinished, IsRepairedFor}
-use Rattle.blk_repair.proofs.RepairRuns.{files-next, finished-next, joined, led, none-before, still-told, then-ends}
+use Rattle.blk_repair.specs.Repair.{AreLinksMended, IsNextFinished, IsRepairedFor, counting_steps}
+use Rattle.blk_repair.proofs.RepairRuns.{files-next, finished-next, here-still, joined, led, none-before, still-told, then-ends}
 use Rattle.blk_repair.proofs.repairing.mend_behind.Given as given
 use Rattle.blk_repair.proofs.repairing.mend_behind.Goals as goal
 
@@ -40,3 +40,11 @@ returns-clause-untold g c some =
 
 pub returns-clause-last : goal.returns-clause-last
 returns-clause-last g c = on_ok_weaker c.mend_rest.result (λ made from there entry links. then-ends from there (first g c from there entry links) made) c.mend_rest.ensures.last
+
+pub returns-clause-clean : goal.returns-clause-clean
+returns-clause-clean g c =
+    on_ok_weaker c.mend_rest.result
+    (λ clean from there entry links needs.
+    let same = c.in_ok-mend_store.ensures.clean from there entry (files-next c.args.scan.now c.claims.result.now c.claims.ensures entry from links) needs.files needs.only in
+    let here = here-still from there same in
+    subst (λ (t : Told). Applies t (g.F.Folder.told c.mend_rest.new.f) (counting_steps entry c.args.this_id from)) same (clean from here entry (handed g c from there entry links from here) needs)) c.mend_rest.ensures.clean

@@ -2,7 +2,7 @@ use Rattle.std.proofs.Common.{Option, sym, subst}
 use Rattle.std.proofs.lemmas.Result.{on_ok_weaker}
 use Rattle.blk_scan.specs.declared.chains.KeptChains.{KeptChains}
 use Rattle.blk_repair.specs.Repair.{AreBucketsScanned}
-use Rattle.blk_repair.proofs.RepairRuns.{chains-told}
+use Rattle.blk_repair.proofs.RepairRuns.{chains-clean, chains-told}
 use Rattle.blk_repair.proofs.repairing.mend_buckets.Goals as goal
 
 pub returns-in-Some-clause-mended : goal.returns-in-Some-clause-mended
@@ -18,3 +18,12 @@ returns-in-Some-clause-untold g c scanned =
     (λ from there.
     chains-told c.in-Some.chains.now c.records.result.now c.ends.result.now c.whole.result.now from c.records.ensures c.ends.ensures c.whole.ensures
     (subst (λ (o : Option KeptChains). AreBucketsScanned o from) (sym c.in-Some.ensures) (scanned from there)))
+
+pub returns-in-Some-clause-clean : goal.returns-in-Some-clause-clean
+returns-in-Some-clause-clean g c =
+    on_ok_weaker c.mend_chains.result
+    (λ made from there is links.
+    chains-clean (g.F.Folder.told c.args.f.now) (g.F.Folder.told c.mend_chains.new.f) from links
+    (made from there
+    (chains-told c.in-Some.chains.now c.records.result.now c.ends.result.now c.whole.result.now from c.records.ensures c.ends.ensures c.whole.ensures (subst (λ (o : Option KeptChains). AreBucketsScanned o from) (sym c.in-Some.ensures) is))))
+    c.mend_chains.ensures.steps

@@ -1,4 +1,4 @@
-use Rattle.std.proofs.Common.{◌≡◌, Some}
+use Rattle.std.proofs.Common.{◌≡◌, ◌∙◌, Some}
 use Rattle.std.proofs.lemmas.Result.{on_ok_weaker}
 use Rattle.std.specs.Option.{ForSome}
 use Rattle.blk_image.specs.Image.{Image}
@@ -7,7 +7,7 @@ use Rattle.blk_io.proofs.Carried.{if_damaged_weaker, told_at_end}
 use Rattle.blk_repair_laws.specs.ListRepair.{HoldsTheSame, IsListMended}
 use Rattle.blk_repair.specs.Removals.{IsListScanned}
 use Rattle.blk_repair.specs.Repair.{AreBucketsScanned, IsRepairable}
-use Rattle.blk_repair.proofs.RepairRuns.{can-write, chains-next, links-done, links-stops, list-scanned, list-stops, none-before, still-told}
+use Rattle.blk_repair.proofs.RepairRuns.{can-write, chains-next, here-still, links-done, links-stops, list-clean, list-scanned, list-stops, none-before, still-told}
 use Rattle.blk_repair.proofs.repairing.mend_links.Given as given
 use Rattle.blk_repair.proofs.repairing.mend_links.Goals as goal
 
@@ -47,3 +47,11 @@ returns-clause-untold g c all =
     (c.mend_buckets.ensures.untold
     (told_at_end (g.F.Folder.told c.args.f.now).files (g.F.Folder.told c.mend_list.new.f).files (AreBucketsScanned c.args.scan.now.chains) c.mend_list.ensures.prefix.silent
     (λ from there. chains-next c.args.scan.now (g.F.Folder.told c.args.f.now) (g.F.Folder.told c.mend_list.new.f) from there (all from there) (held g c from there (all from there)) (mended g c from there (all from there)))))
+
+pub returns-clause-clean : goal.returns-clause-clean
+returns-clause-clean g c =
+    on_ok_weaker c.mend_buckets.result
+    (λ clean from there is links.
+    let same = list-clean (g.F.Folder.told c.args.f.now) (g.F.Folder.told c.mend_list.new.f) c.walked_nodes.result.now c.kept_nodes.result.now from (scanned g c from there is) links (c.in_ok-mend_list.ensures.steps from there) in
+    let here = here-still from there same in
+    clean from here (chains-next c.args.scan.now (g.F.Folder.told c.args.f.now) (g.F.Folder.told c.mend_list.new.f) from there is (held g c from there is) (mended g c from there is) from here) links ∙ same) c.mend_buckets.ensures.clean

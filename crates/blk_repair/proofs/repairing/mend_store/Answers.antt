@@ -1,9 +1,9 @@
-use Rattle.std.proofs.Common.{ℕ, List, sym, subst}
+use Rattle.std.proofs.Common.{ℕ, List, sym, subst, ◌∙◌}
 use Rattle.blk_image.proofs.Runs.{passes_weaker}
 use Rattle.blk_io.proofs.Carried.{carried, if_damaged_weaker}
 use Rattle.blk_alloc.specs.Rebuilding.{IsShortReadOf}
 use Rattle.blk_repair_laws.proofs.MendedChanges.{keeps-mid}
-use Rattle.blk_repair.proofs.RepairRuns.{same-files, store-done, store-stops}
+use Rattle.blk_repair.proofs.RepairRuns.{files-right, here-still, same-files, store-done, store-stops}
 use Rattle.blk_repair.proofs.repairing.mend_store.Goals as goal
 
 pub returns-in_err-mend_files-clause-stops : goal.returns-in_err-mend_files-clause-stops
@@ -28,3 +28,8 @@ pub returns-clause-stops : goal.returns-clause-stops
 returns-clause-stops g c from there entry next =
     store-stops c.args.claims.now (g.F.Folder.told c.args.f.now) (g.F.Folder.told c.mend_files.new.f) (g.F.Folder.told c.delete_others.new.f) entry from there next (c.mend_files.ensures.stops from there entry next.holds.keeps) (c.in_ok-mend_files.ensures.mended from there entry next)
     c.delete_others.ensures.stops
+
+pub returns-clause-clean : goal.returns-clause-clean
+returns-clause-clean g c from there entry next files only =
+    let same = c.mend_files.ensures.clean from there (files-right entry from c.args.claims.now c.args.files.now next (c.requires.is_open from there) files) in
+    c.in_ok-delete_others.ensures.clean from (here-still from there same) entry next only ∙ same

@@ -1,10 +1,10 @@
 use Rattle.std.proofs.Common.{ℕ, sym, ◌∙◌, ap, subst}
 use Rattle.std.proofs.lemmas.Result.{on_ok_weaker}
 use Rattle.std.specs.Option.{ForSome}
-use Rattle.blk_image.specs.Told.{Told}
+use Rattle.blk_image.specs.Told.{Told, Applies}
 use Rattle.blk_io.proofs.Carried.{if_damaged_weaker}
 use Rattle.blk_disk.specs.Open.{IsOpen}
-use Rattle.blk_repair.specs.Repair.{EndsWithCrashWord, IsRepairable, IsRepairedFor, next_id}
+use Rattle.blk_repair.specs.Repair.{EndsWithCrashWord, IsRepairable, IsRepairedFor, counting_steps, next_id}
 use Rattle.blk_repair.proofs.repairing.repair.Goals as goal
 
 pub returns-in_err-this_id-clause-is_open : goal.returns-in_err-this_id-clause-is_open
@@ -29,3 +29,11 @@ pub returns-clause-last : goal.returns-clause-last
 returns-clause-last g c =
     on_ok_weaker c.mend_all.result
     (λ made from there is. subst (λ (t : Told). EndsWithCrashWord t (g.F.Folder.told c.mend_all.new.f)) c.in_ok-this_id.ensures.stays (made from (ap (λ (t : Told). t.files) c.in_ok-this_id.ensures.stays ∙ there) is)) c.mend_all.ensures.last
+
+pub returns-clause-clean : goal.returns-clause-clean
+returns-clause-clean g c =
+    on_ok_weaker c.mend_all.result
+    (λ clean from there is needs.
+    subst (λ (id : ℕ). Applies (g.F.Folder.told c.args.f.now) (g.F.Folder.told c.mend_all.new.f) (counting_steps from id from)) (c.next_id.ensures ∙ ap next_id (c.in_ok-this_id.ensures.word from there))
+    (subst (λ (t : Told). Applies t (g.F.Folder.told c.mend_all.new.f) (counting_steps from c.next_id.result from)) c.in_ok-this_id.ensures.stays (clean from (ap (λ (t : Told). t.files) c.in_ok-this_id.ensures.stays ∙ there) is needs)))
+    c.mend_all.ensures.clean
