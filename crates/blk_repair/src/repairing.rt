@@ -20,7 +20,7 @@ ghost use Rattle.blk_repair.specs.Damages.{IsChainsRepairDamage};
 ghost use Rattle.blk_repair.specs.Maps.{IsNextRebuilt};
 ghost use Rattle.blk_repair.specs.Repair.{AreBucketsScanned, AreLinksMended, AreOnlyKeptLeft, AreOthersDeleted, EndsWithCrashWord, IsBehindRepairDamage, IsLinksRepairDamage, IsNextFinished, IsRepairDamage, IsRepairable, IsRepaired, IsRepairedFor, IsRestRepairDamage, NeedsOnlyWords, counting_steps, next_id as id_after};
 
-use crate::counters::{mend_index, THIS_ID};
+use crate::counters::{THIS_ID, mend_index};
 use crate::deletions::{delete_unclaimed, delete_unlinked};
 use crate::list::mend_list;
 use crate::maps::mend_files;
@@ -57,7 +57,6 @@ pub fn repair<F: Folder>(f: &mut F, files: &mut BlockFiles, scan: &Scan) -> Resu
 
     // Where nothing else is to be mended, the only steps are those of the words of the index.
     ensures clean { OnOk result (ForSome (F.told f.old).files (λ from. IsRepairable scan.now from → NeedsOnlyWords scan.now from → Applies (F.told f.old) (F.told f.new) (counting_steps from (id_after (this_id_of (byte from index))) from))) }
-
 
     // A folder that tells its files gives a damage only where the scan isn't its own.
     ensures damaged { IfDamaged result (IsRepairDamage files.new (F.told f.new)) }
@@ -134,11 +133,7 @@ fn mend_behind<F: Folder>(
 }
 
 // Mends the block files for what is claimed, and then deletes the files that nothing names.
-fn mend_store<F: Folder>(
-    f: &mut F,
-    files: &mut BlockFiles,
-    claims: &Claims,
-) -> Result<(), Fault>
+fn mend_store<F: Folder>(f: &mut F, files: &mut BlockFiles, claims: &Claims) -> Result<(), Fault>
     requires is_open { ForSome (F.told f.old).files (IsOpen files.old) }
     ensures all { (kind : ℕ) → files_of files.new kind ≡ files_of files.old kind }
     ensures keeps { KeepsStanding files.old files.new }
@@ -158,11 +153,7 @@ fn mend_store<F: Folder>(
 }
 
 // Deletes the block files that aren't linked, and then the external files that aren't claimed.
-fn delete_others<F: Folder>(
-    f: &mut F,
-    files: &BlockFiles,
-    claims: &Claims,
-) -> Result<(), Failed>
+fn delete_others<F: Folder>(f: &mut F, files: &BlockFiles, claims: &Claims) -> Result<(), Failed>
     requires is_open { ForSome (F.told f.old).files (IsOpen files.now) }
     ensures mended { OnOk result (ForSome (F.told f.old).files (λ from. (entry : Image) → IsNextRebuilt entry claims.now from → ForSome (F.told f.new).files (AreOthersDeleted entry from))) }
     ensures stops { ForSome (F.told f.old).files (λ from. (entry : Image) → IsNextRebuilt entry claims.now from → Passes (F.told f.old) (F.told f.new) (IsMidRepair entry)) }
