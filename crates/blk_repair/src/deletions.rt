@@ -8,7 +8,7 @@ ghost use Rattle.blk_io.specs.FileNames.{file_of};
 ghost use Rattle.blk_volume.specs.Found.{kept};
 ghost use Rattle.blk_volume.specs.Loads.{claims_of_loaded};
 ghost use Rattle.blk_volume.specs.Sound.{OnlyClaimed, OnlyLinked};
-ghost use Rattle.blk_disk.specs.declared.tables.BlockFiles.{BlockFiles as Kept};
+ghost use Rattle.blk_disk.specs.declared.tables.BlockFiles.{BlockFiles};
 ghost use Rattle.blk_disk.specs.Open.{IsOpen};
 ghost use Rattle.blk_repair.specs.Deletions.{DeletesAll, DeletesSome, IsMidDeletion, deletion_of, is_number_claimed, is_unclaimed, is_unlinked, last_block_file, last_first_file};
 ghost use Rattle.blk_repair.specs.Maps.{IsNextRebuilt};
@@ -67,7 +67,7 @@ pub fn delete_unclaimed<F: Folder>(f: &mut F, claims: &Claims) -> Result<(), Fai
     // The links then stay mended at each deletion, with the same kept and found; and what was mended of the files and of the seals is so still.
     ensures stops { ForSome (F.told f.old).files (λ from. (entry : Image) → IsNextRebuilt entry claims.now from → Passes (F.told f.old) (F.told f.new) (IsMidDeletion entry from)) }
 
-    ensures is_open { (files : Kept) → ForSome (F.told f.old).files (IsOpen files) → ForSome (F.told f.new).files (IsOpen files) }
+    ensures is_open { (files : BlockFiles) → ForSome (F.told f.old).files (IsOpen files) → ForSome (F.told f.new).files (IsOpen files) }
 
     // Where only those are there already, no step is made.
     ensures clean { ForSome (F.told f.old).files (λ from. (entry : Image) → IsNextRebuilt entry claims.now from → OnlyClaimed from (claims_of_loaded (kept from)) → Stays (F.told f.old) (F.told f.new)) }
