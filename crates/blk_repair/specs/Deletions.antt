@@ -20,6 +20,14 @@ use Rattle.blk_repair_laws.specs.Mended.{HasMendedFiles}
 use Rattle.blk_repair_laws.specs.RecordSeals.{StaysSealed}
 use Rattle.blk_repair.specs.Seals.{HasMendedLinksOf}
 
+-- the last of the first four block files, which are always linked
+abbrev pub last_first_file : File
+last_first_file = Block 3
+
+-- the last file that a block file may be; behind it there are external files alone
+abbrev pub last_block_file : File
+last_block_file = Block 255
+
 -- a file is a block file that no list of linked files has
 abbrev pub is_unlinked : BlockFiles → File → Bool
 is_unlinked files Index = false

@@ -8,9 +8,9 @@ ghost use Rattle.blk_io.specs.FileNames.{file_of};
 ghost use Rattle.blk_volume.specs.Found.{kept};
 ghost use Rattle.blk_volume.specs.Loads.{claims_of_loaded};
 ghost use Rattle.blk_volume.specs.Sound.{OnlyClaimed, OnlyLinked};
-ghost use Rattle.blk_disk.specs.declared.tables.BlockFiles.{BlockFiles as Kept};
+ghost use Rattle.blk_disk.specs.declared.tables.BlockFiles.{BlockFiles};
 ghost use Rattle.blk_disk.specs.Open.{IsOpen};
-ghost use Rattle.blk_repair.specs.Deletions.{DeletesAll, DeletesSome, IsMidDeletion, deletion_of, is_number_claimed, is_unclaimed, is_unlinked};
+ghost use Rattle.blk_repair.specs.Deletions.{DeletesAll, DeletesSome, IsMidDeletion, deletion_of, is_number_claimed, is_unclaimed, is_unlinked, last_block_file, last_first_file};
 ghost use Rattle.blk_repair.specs.Maps.{IsNextRebuilt};
 ghost use Rattle.blk_repair.specs.Seals.{HasMendedLinksOf};
 
@@ -26,13 +26,13 @@ const NUMBERS: u32 = 0x1000_0000;
 
 /// Deletes each block file that is there and isn't linked.
 ///
-/// This takes one `list` call, one more for each block file from `data_4` on, and one for each file that goes. `Failed`
-/// comes only where the folder failed in this call; a front of the deletions has then lasted.
+/// This takes one `list` call, and one more for each block file from `data_4` on; each file that goes takes a `delete`
+/// call. `Failed` comes only where the folder failed in this call; a front of the deletions has then lasted.
 pub fn delete_unlinked<F: Folder>(f: &mut F, files: &BlockFiles) -> Result<(), Failed>
     requires is_open { ForSome (F.told f.old).files (IsOpen files.now) }
     ensures linked { OnOk result (ForSome (F.told f.new).files OnlyLinked) }
-    ensures steps { OnOk result (DeletesAll (is_unlinked files.now) (block 3) (F.told f.old) (F.told f.new)) }
-    ensures prefix { DeletesSome (is_unlinked files.now) (block 3) (F.told f.old) (F.told f.new) }
+    ensures steps { OnOk result (DeletesAll (is_unlinked files.now) last_first_file (F.told f.old) (F.told f.new)) }
+    ensures prefix { DeletesSome (is_unlinked files.now) last_first_file (F.told f.old) (F.told f.new) }
 
     // Where the links are mended they stay so at each deletion, with the same kept and found; and what was mended of the files and of the seals is so still.
     ensures stops { ForSome (F.told f.old).files (λ from. (entry : Image) → HasMendedLinksOf entry from → Passes (F.told f.old) (F.told f.new) (IsMidDeletion entry from)) }
@@ -55,19 +55,19 @@ pub fn delete_unlinked<F: Folder>(f: &mut F, files: &BlockFiles) -> Result<(), F
 
 /// Deletes each external file that is there and whose number isn't claimed.
 ///
-/// A number that no address has is claimed by none. This takes one `list` call, one more for each external file, and
-/// one for each file that goes. `Failed` comes only where the folder failed in this call; a front of the deletions has
-/// then lasted.
+/// A number that no address has isn't claimed. This takes one `list` call, and one more for each external file; each
+/// file that goes takes a `delete` call. `Failed` comes only where the folder failed in this call; a front of the
+/// deletions has then lasted.
 pub fn delete_unclaimed<F: Folder>(f: &mut F, claims: &Claims) -> Result<(), Failed>
     // With the claims of what is kept, the external files that are there are those that it claims.
     ensures claimed { OnOk result (ForSome (F.told f.old).files (λ from. (entry : Image) → IsNextRebuilt entry claims.now from → ForSome (F.told f.new).files (λ image. OnlyClaimed image (claims_of_loaded (kept image))))) }
-    ensures steps { OnOk result (DeletesAll (is_unclaimed claims.now) (block 255) (F.told f.old) (F.told f.new)) }
-    ensures prefix { DeletesSome (is_unclaimed claims.now) (block 255) (F.told f.old) (F.told f.new) }
+    ensures steps { OnOk result (DeletesAll (is_unclaimed claims.now) last_block_file (F.told f.old) (F.told f.new)) }
+    ensures prefix { DeletesSome (is_unclaimed claims.now) last_block_file (F.told f.old) (F.told f.new) }
 
     // The links then stay mended at each deletion, with the same kept and found; and what was mended of the files and of the seals is so still.
     ensures stops { ForSome (F.told f.old).files (λ from. (entry : Image) → IsNextRebuilt entry claims.now from → Passes (F.told f.old) (F.told f.new) (IsMidDeletion entry from)) }
 
-    ensures is_open { (files : Kept) → ForSome (F.told f.old).files (IsOpen files) → ForSome (F.told f.new).files (IsOpen files) }
+    ensures is_open { (files : BlockFiles) → ForSome (F.told f.old).files (IsOpen files) → ForSome (F.told f.new).files (IsOpen files) }
 
     // Where only those are there already, no step is made.
     ensures clean { ForSome (F.told f.old).files (λ from. (entry : Image) → IsNextRebuilt entry claims.now from → OnlyClaimed from (claims_of_loaded (kept from)) → Stays (F.told f.old) (F.told f.new)) }
@@ -113,7 +113,7 @@ fn delete_block<F: Folder>(f: &mut F, files: &BlockFiles, n: u8) -> Result<(), F
 
 // The least external file that is there after a file, behind which no block file is.
 fn next_external<F: Folder>(f: &mut F, last: FileId) -> Result<Option<u32>, Failed>
-    requires past { IsBefore (file_of last) (block 255) → ⊥ }
+    requires past { IsBefore (file_of last) last_block_file → ⊥ }
     ensures after { IfOk result (λ next. ForSome next (λ number. IsBefore (file_of last) (external number))) }
     ensures next { IfOk result (λ next. ForSome next (λ number. ForSome (F.told f.old).files (λ image. IsNextFile image (Some (file_of last)) (Some (external number))))) }
     ensures none { result ≡ Ok None → ForSome (F.told f.old).files (λ image. (number : ℕ) → IsBefore (file_of last) (external number) → has_file image (external number) ≡ false) }
