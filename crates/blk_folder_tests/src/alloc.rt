@@ -4,7 +4,7 @@ ghost use Rattle.std.specs.Prelude.{◌≤◌, ◌<◌};
 use blk_addr::{Addr, Claims, Kind};
 use blk_alloc::{allocate, free, rebuild};
 use blk_disk::BlockFiles;
-use blk_io::{Damage, Failed, Fault, FileId, Folder, MemFolder, SilentFolder};
+use blk_io::{Damage, Failed, Fault, FileId, Folder, MemFolder, SilentFolder, read_word};
 use std::alloc::Global;
 use std::test::Fail;
 
@@ -45,16 +45,23 @@ fn fields(number: u32, entry_size: u32) -> [(usize, u32); 4] {
 }
 
 // A folder just made, but for its `data_1`, which has these bytes.
-fn folder_of(alloc: Global, second: &[u8]) -> Result<MemFolder, Fail> {
-    let mut f = MemFolder::new(alloc);
-    let first = file_with(alloc, HEADER_LEN, 0, &fields(0, 36))?;
-    f.add_file(FileId::Block(0), &first)?;
-    f.add_file(FileId::Block(1), second)?;
-    let third = file_with(alloc, HEADER_LEN, 0, &fields(2, 1024))?;
-    f.add_file(FileId::Block(2), &third)?;
-    let fourth = file_with(alloc, HEADER_LEN, 0, &fields(3, 4096))?;
-    f.add_file(FileId::Block(3), &fourth)?;
-    Ok(f)
+fn folder_of(alloc: Global, second: &[u8]) -> Result<MemFolder, Failed> {
+    let mut f = SilentFolder::new(MemFolder::without_trail(alloc));
+    put_file(&mut f, 1, second)?;
+    for (number, size) in [(0u8, 36), (2, 1024), (3, 4096)] {
+        let mut header = [0; HEADER_LEN];
+        for (at, word) in fields(u32::from(number), size) {
+            put_word(&mut header, at, word);
+        }
+        put_file(&mut f, number, &header)?;
+    }
+    Ok(f.into_inner())
+}
+
+// Makes a block file of these bytes.
+fn put_file<F: Folder>(f: &mut SilentFolder<F>, number: u8, bytes: &[u8]) -> Result<(), Failed> {
+    f.set_len(FileId::Block(number), bytes.len() as u64)?;
+    f.write_at(FileId::Block(number), 0, bytes)
 }
 
 // The words of the header of a `data_1` with so many blocks and allocations, and these counters of groups.
@@ -83,15 +90,13 @@ fn folder_with(alloc: Global, entries: u32, map: u32) -> Result<MemFolder, Fail>
         &header(1024, entries, [0, 0, 0, 254]),
     )?;
     put_word(&mut second, MAP, map);
-    folder_of(alloc, &second)
+    Ok(folder_of(alloc, &second)?)
 }
 
 // Whether a block file has these words, each at its place.
-fn has_words<F: Folder>(f: &mut F, file: u8, words: &[(u64, u32)]) -> Result<bool, Failed> {
+fn has_words<F: Folder>(f: &mut F, file: u8, words: &[(u64, u32)]) -> Result<bool, Fault> {
     for (at, word) in words {
-        let mut bytes = [0; 4];
-        f.read_at(FileId::Block(file), *at, &mut bytes)?;
-        if u32::from_le_bytes(bytes) != *word {
+        if read_word(f, FileId::Block(file), *at)? != *word {
             return Ok(false);
         }
     }
@@ -127,21 +132,31 @@ fn rebuild_all<F: Folder>(f: &mut F, claims: &Claims) -> Result<(), Fault> {
     rebuild(f, &mut files, claims)
 }
 
+// The words of four blocks, of one and of three that are given, and the folder calls for the one.
+fn give_three(f: &mut MemFolder) -> Result<([u32; 3], u64), Fault> {
+    let four = give(f, 4)?;
+    let before = f.calls();
+    let one = give(f, 1)?;
+    let calls = f.calls().wrapping_sub(before);
+    Ok(([four, one, give(f, 3)?], calls))
+}
+
+// Whether `data_1` has this length, and these words.
+fn has_blocks(f: &mut MemFolder, length: u64, words: &[(u64, u32)]) -> Result<bool, Fault> {
+    let same = has_words(f, 1, words)?;
+    Ok(f.length(FileId::Block(1))? == Some(length) && same)
+}
+
 #[test]
 fn blocks_lie_at_the_first_place_inside_a_group_and_are_freed(rt: HostRuntime) -> Result<(), Fail> {
     let second = file_with(rt.alloc(), HEADER_LEN, 0, &fields(1, 256))?;
     let mut f = folder_of(rt.alloc(), &second)?;
-    assert_eq!(rt; give(&mut f, 4), Ok(0xA301_0000));
-    let before = f.calls();
-    assert_eq!(rt; give(&mut f, 1), Ok(0xA001_0004));
 
     // Eight calls load the files; one read of the map, and two reads and five writes for the marks.
-    assert_eq!(rt; f.calls().wrapping_sub(before), 8 + 8);
-    assert_eq!(rt; give(&mut f, 3), Ok(0xA201_0005));
-    assert_eq!(rt; f.length(FileId::Block(1)), Ok(Some(270_336)));
+    let words = [0xA301_0000, 0xA001_0004, 0xA201_0005];
+    assert_eq!(rt; give_three(&mut f), Ok((words, 8 + 8)));
     let given = [(16, 3), (20, 1024), (24, 0), (36, 254), (56, 0), (80, 0xFF)];
-    assert_eq!(rt; has_words(&mut f, 1, &given), Ok(true));
-
+    assert_eq!(rt; has_blocks(&mut f, 270_336, &given), Ok(true));
     assert_eq!(rt; free_word(&mut f, 0xA001_0004), Ok(true));
     let freed = [(16, 2), (24, 1), (36, 254), (56, 0), (80, 0xEF)];
     assert_eq!(rt; has_words(&mut f, 1, &freed), Ok(true));
@@ -149,26 +164,31 @@ fn blocks_lie_at_the_first_place_inside_a_group_and_are_freed(rt: HostRuntime) -
 }
 
 #[test]
-fn a_file_grows_where_none_has_room_and_one_is_added_where_none_may_grow(
-    rt: HostRuntime,
-) -> Result<(), Fail> {
+fn a_file_grows_where_none_has_room(rt: HostRuntime) -> Result<(), Fail> {
     let full = file_with(rt.alloc(), HEADER_LEN, 128, &header(1024, 256, [0; 4]))?;
     let mut f = folder_of(rt.alloc(), &full)?;
     assert_eq!(rt; give(&mut f, 2), Ok(0xA101_0400));
     let grown = [(16, 257), (20, 2048), (28, 1), (36, 255)];
     assert_eq!(rt; has_words(&mut f, 1, &grown), Ok(true));
+    Ok(())
+}
 
-    let most = file_with(
-        rt.alloc(),
-        HEADER_LEN,
-        8112,
-        &header(64_896, 16_224, [0; 4]),
-    )?;
+// The word of a block that is given, and the folder calls.
+fn counted_give(f: &mut MemFolder) -> Result<(u32, u64), Fault> {
+    let before = f.calls();
+    let word = give(f, 1)?;
+    Ok((word, f.calls().wrapping_sub(before)))
+}
+
+#[test]
+fn a_file_is_added_where_none_may_grow(rt: HostRuntime) -> Result<(), Fail> {
+    let words = header(64_896, 16_224, [0; 4]);
+    let most = file_with(rt.alloc(), HEADER_LEN, 8112, &words)?;
     let mut f = folder_of(rt.alloc(), &most)?;
-    assert_eq!(rt; give(&mut f, 1), Ok(0xA004_0000));
 
-    // Eight reads of the map, four calls for the file and four for its growth, two reads and five writes for the marks.
-    assert_eq!(rt; f.calls(), 8 + 23);
+    // Eight calls load the files; eight reads of the map, four calls for the file and four for its growth, two reads and
+    // five writes for the marks.
+    assert_eq!(rt; counted_give(&mut f), Ok((0xA004_0000, 8 + 23)));
     assert_eq!(rt; has_words(&mut f, 1, &[(8, 0x4_0001)]), Ok(true));
     let added = [(16, 1), (20, 1024), (32, 1), (36, 255), (80, 1)];
     assert_eq!(rt; has_words(&mut f, 4, &added), Ok(true));
@@ -178,22 +198,17 @@ fn a_file_grows_where_none_has_room_and_one_is_added_where_none_may_grow(
 #[test]
 fn a_counter_at_its_end_is_a_damage(rt: HostRuntime) -> Result<(), Fail> {
     // No allocation is counted; then no group with a longest free run of 3, as the freed block's group has it.
-    let file = FileId::Block(1);
-    let mut f = folder_with(rt.alloc(), 0, 0xFF)?;
-    let damage = Damage {
-        file,
-        at: 16,
-        found: 0,
-    };
-    assert_eq!(rt; free_word(&mut f, 0xA301_0000), Err(Fault::Damaged(damage)));
-    let mut f = folder_with(rt.alloc(), 2, 0xF1)?;
-    let damage = Damage {
-        file,
-        at: 32,
-        found: 0,
-    };
-    assert_eq!(rt; free_word(&mut f, 0xA001_0000), Err(Fault::Damaged(damage)));
-    assert_eq!(rt; has_words(&mut f, 1, &[(16, 2), (80, 0xF1)]), Ok(true));
+    for (entries, map, word, at) in [(0, 0xFF, 0xA301_0000, 16), (2, 0xF1, 0xA001_0000, 32)] {
+        let mut f = folder_with(rt.alloc(), entries, map)?;
+        let damage = Damage {
+            file: FileId::Block(1),
+            at,
+            found: 0,
+        };
+        assert_eq!(rt; free_word(&mut f, word), Err(Fault::Damaged(damage)));
+        let words = [(16, entries), (80, map)];
+        assert_eq!(rt; has_words(&mut f, 1, &words), Ok(true));
+    }
     Ok(())
 }
 
@@ -210,48 +225,59 @@ fn add_words(claims: &mut Claims, words: &[u32]) -> bool {
     true
 }
 
+// A `data_1` whose header is wrong but for its hints and its number of blocks, and whose last block is cut.
+fn wrong_file(alloc: Global) -> Result<Vec<u8>, Fail> {
+    let words = header(1024, 77, [9, 0, 0, 9]);
+    let mut bytes = file_with(alloc, HEADER_LEN + 1000 * 256, 8112, &words)?;
+    put_word(&mut bytes, 40, 5);
+    put_word(&mut bytes, 52, 7);
+    Ok(bytes)
+}
+
+// Its header with three allocations: a whole group, a block that leaves runs of 1 and 2, and two blocks that leave a run of 2.
+fn rebuilt_header(alloc: Global) -> Result<Vec<u8>, Fail> {
+    let words = header(1024, 3, [0, 2, 0, 253]);
+    let mut bytes = file_with(alloc, HEADER_LEN, 0, &words)?;
+    for (at, word) in [(40, 5), (52, 7), (80, 0x2F), (112, 0x0C)] {
+        put_word(&mut bytes, at, word);
+    }
+    Ok(bytes)
+}
+
+// Whether `data_1` has a length and begins with these bytes.
+fn begins_with(f: &mut MemFolder, length: u64, bytes: &[u8]) -> Result<bool, Failed> {
+    let mut front = [0; HEADER_LEN];
+    f.read_at(FileId::Block(1), 0, &mut front)?;
+    Ok(f.length(FileId::Block(1))? == Some(length) && front.as_slice() == bytes)
+}
+
+// Adds the addresses of words to claims, and makes the maps those of the claims: the number of folder calls.
+fn rebuild_with(f: &mut MemFolder, claims: &mut Claims, words: &[u32]) -> Result<u64, Fault> {
+    if !add_words(claims, words) {
+        return Err(Fault::Device);
+    }
+    let before = f.calls();
+    rebuild_all(f, claims)?;
+    Ok(f.calls().wrapping_sub(before))
+}
+
 #[test]
 fn a_wrong_map_is_made_that_of_the_claims(rt: HostRuntime) -> Result<(), Fail> {
-    // The header is wrong but for its hints and its number of blocks, and the last block is cut.
-    let mut second = file_with(
-        rt.alloc(),
-        HEADER_LEN + 1000 * 256,
-        8112,
-        &header(1024, 77, [9, 0, 0, 9]),
-    )?;
-    put_word(&mut second, 40, 5);
-    put_word(&mut second, 52, 7);
-    let mut f = folder_of(rt.alloc(), &second)?;
-
-    // A whole group, a block that leaves runs of 1 and 2, two blocks that leave a run of 2, and an external file.
+    let mut f = folder_of(rt.alloc(), &wrong_file(rt.alloc())?)?;
     let mut claims = Claims::new(rt.alloc());
     let words = [0xA301_0000, 0xA001_0005, 0xA101_0102, 0x8000_0001];
-    assert!(rt; add_words(&mut claims, &words));
-    assert_eq!(rt; rebuild_all(&mut f, &claims), Ok(()));
 
     // Two reads of each file; of one its length, each word of its map, four counters, and updating twice.
-    assert_eq!(rt; f.calls(), 8 + 8 + 1 + 2028 + 4 + 2);
-    assert_eq!(rt; f.length(FileId::Block(1)), Ok(Some(270_336)));
-    let mut expected = file_with(rt.alloc(), HEADER_LEN, 0, &header(1024, 3, [0, 2, 0, 253]))?;
-    put_word(&mut expected, 40, 5);
-    put_word(&mut expected, 52, 7);
-    put_word(&mut expected, 80, 0x2F);
-    put_word(&mut expected, 112, 0x0C);
-    let mut found = Vec::new(rt.alloc());
-    found.resize(HEADER_LEN, 0)?;
-    f.read_at(FileId::Block(1), 0, &mut found)?;
-    assert!(rt; found == expected);
+    let first = rebuild_with(&mut f, &mut claims, &words);
+    assert_eq!(rt; first, Ok(8 + 8 + 1 + 2028 + 4 + 2));
+    let expected = rebuilt_header(rt.alloc())?;
+    assert_eq!(rt; begins_with(&mut f, 270_336, &expected), Ok(true));
 
-    // Nothing is written where all are right: two reads of each file.
-    let before = f.calls();
-    assert_eq!(rt; rebuild_all(&mut f, &claims), Ok(()));
-    assert_eq!(rt; f.calls().wrapping_sub(before), 8 + 8);
-
-    // With a block more a word of the map differs, and three counters; updating is written twice.
-    assert!(rt; add_words(&mut claims, &[0xA001_0200]));
-    let before = f.calls();
-    assert_eq!(rt; rebuild_all(&mut f, &claims), Ok(()));
-    assert_eq!(rt; f.calls().wrapping_sub(before), 8 + 8 + 4 + 2);
+    // Nothing is written where all are right: two reads of each file. With a block more a word of the map differs, and three
+    // counters; updating is written twice.
+    for (words, calls) in [([].as_slice(), 8 + 8), (&[0xA001_0200], 8 + 8 + 4 + 2)] {
+        assert_eq!(rt; rebuild_with(&mut f, &mut claims, words), Ok(calls));
+    }
     Ok(())
 }
 

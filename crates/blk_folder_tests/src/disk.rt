@@ -5,7 +5,7 @@ ghost use Rattle.blk_disk.specs.Tables.{Agrees};
 
 use blk_addr::{Addr, Kind};
 use blk_disk::{BlockFiles, file_of, room_of};
-use blk_io::{Damage, Fault, FileId, Folder, MemFolder, SilentFolder, read_word};
+use blk_io::{Damage, Failed, Fault, FileId, Folder, MemFolder, NoMemory, SilentFolder, read_word};
 use std::alloc::Global;
 use std::test::Fail;
 
@@ -26,39 +26,66 @@ const FILES: [Header; 6] = [
     (4, 0, 1024, 0),
 ];
 
-// Writes a word over bytes, where they have it.
-fn put_word(bytes: &mut [u8], at: usize, word: u32) {
-    for (slot, byte) in bytes.iter_mut().skip(at).zip(word.to_le_bytes()) {
-        *slot = byte;
-    }
-}
-
-// The bytes of a header, with room for some blocks.
-fn bytes_of(alloc: Global, header: Header, size: usize) -> Result<Vec<u8>, Fail> {
+// The words of a header, each with its place.
+fn words_of(header: Header) -> [(u64, u32); 5] {
     let (number, next, entry_size, blocks) = header;
-    let mut bytes = Vec::new(alloc);
-    bytes.resize(size, 0)?;
     let numbers = u32::from(number) + 0x1_0000 * u32::from(next);
-    for (at, word) in [
+    [
         (0, MAGIC),
         (4, 0x20000),
         (8, numbers),
         (12, entry_size),
         (20, blocks),
-    ] {
-        put_word(&mut bytes, at, word);
+    ]
+}
+
+// Makes a block file with a header, of so many bytes and at least 24.
+fn put_file<F: Folder>(f: &mut SilentFolder<F>, header: Header, size: u64) -> Result<(), Failed> {
+    let file = FileId::Block(header.0);
+    f.set_len(file, size)?;
+    for (at, word) in words_of(header) {
+        f.write_at(file, at, &word.to_le_bytes())?;
     }
-    Ok(bytes)
+    Ok(())
+}
+
+// A folder of these files, each of so many bytes, of which one has another word. No call on it is counted yet.
+fn with_word(
+    alloc: Global,
+    headers: &[Header],
+    size: usize,
+    other: (u8, u64, u32),
+) -> Result<MemFolder, Fail> {
+    let mut f = SilentFolder::new(MemFolder::new(alloc));
+    put_files(&mut f, headers, size as u64, other)?;
+    Ok(as_it_is(&f.into_inner())?)
+}
+
+// Makes these files, and writes the other word.
+fn put_files<F: Folder>(
+    f: &mut SilentFolder<F>,
+    headers: &[Header],
+    size: u64,
+    other: (u8, u64, u32),
+) -> Result<(), Failed> {
+    for header in headers {
+        put_file(f, *header, size)?;
+    }
+    let (number, at, word) = other;
+    f.write_at(FileId::Block(number), at, &word.to_le_bytes())
+}
+
+// A new folder with the files of one.
+fn as_it_is(f: &MemFolder) -> Result<MemFolder, NoMemory> {
+    match f.steps() {
+        Some(steps) => f.image(steps),
+        None => Err(NoMemory),
+    }
 }
 
 // A folder of these files, each of so many bytes.
 pub(crate) fn folder_of(alloc: Global, headers: &[Header], size: usize) -> Result<MemFolder, Fail> {
-    let mut f = MemFolder::new(alloc);
-    for header in headers {
-        let bytes = bytes_of(alloc, *header, size)?;
-        f.add_file(FileId::Block(header.0), &bytes)?;
-    }
-    Ok(f)
+    with_word(alloc, headers, size, (0, 0, MAGIC))
 }
 
 // The place and the word of the damage of a file, with which its folder is refused.
@@ -84,19 +111,6 @@ fn files_are_found_in_the_order_of_the_links(rt: HostRuntime) -> Result<(), Fail
     Ok(())
 }
 
-// A folder in which file 6 has another word.
-fn with_word(alloc: Global, at: usize, word: u32) -> Result<MemFolder, Fail> {
-    let mut f = MemFolder::new(alloc);
-    for header in FILES {
-        let mut bytes = bytes_of(alloc, header, HEADER_LEN)?;
-        if header.0 == 6 {
-            put_word(&mut bytes, at, word);
-        }
-        f.add_file(FileId::Block(header.0), &bytes)?;
-    }
-    Ok(f)
-}
-
 #[test]
 fn each_check_of_a_header_names_its_word(rt: HostRuntime) -> Result<(), Fail> {
     let cases = [
@@ -112,43 +126,59 @@ fn each_check_of_a_header_names_its_word(rt: HostRuntime) -> Result<(), Fail> {
         (20, 65536),
     ];
     for (at, word) in cases {
-        let mut f = with_word(rt.alloc(), at, word)?;
-        assert_eq!(rt;
-            damage_of(&mut f, 6),
-            Some((at as u64, word)),
-            "{at} {word}"
-        );
+        let mut f = with_word(rt.alloc(), &FILES, HEADER_LEN, (6, at, word))?;
+        let damage = Some((at, word));
+        assert_eq!(rt; damage_of(&mut f, 6), damage, "{at} {word}");
     }
-
-    // A file that ends inside its header, one that is missing, and one that was taken up before.
-    let mut f = folder_of(rt.alloc(), &FILES, HEADER_LEN - 1)?;
-    assert_eq!(rt; damage_of(&mut f, 0), Some((8192, 8191)));
-    let mut f = folder_of(rt.alloc(), &[FILES[0], FILES[1], FILES[3]], HEADER_LEN)?;
-    assert_eq!(rt; damage_of(&mut f, 2), Some((8192, 0)));
-    let mut headers = FILES;
-    headers[3] = (3, 6, 4096, 0);
-    let mut f = folder_of(rt.alloc(), &headers, HEADER_LEN)?;
-    assert_eq!(rt; damage_of(&mut f, 3), Some((8, 0x0006_0003)));
     Ok(())
+}
+
+// Three files of the first four.
+const WITHOUT_2: [Header; 3] = [(0, 0, 36, 1024), (1, 0, 256, 0), (3, 0, 4096, 0)];
+
+// The files, of which file 3 leads to file 6.
+const TWICE: [Header; 6] = [
+    (0, 0, 36, 1024),
+    (1, 0, 256, 0),
+    (2, 6, 1024, 64896),
+    (3, 6, 4096, 0),
+    (6, 4, 1024, 1024),
+    (4, 0, 1024, 0),
+];
+
+#[test]
+fn each_file_is_whole_and_taken_up_once(rt: HostRuntime) -> Result<(), Fail> {
+    // A file that ends inside its header, one that is missing, and one that was taken up before.
+    for (headers, size, file, damage) in [
+        (FILES.as_slice(), HEADER_LEN - 1, 0, (8192, 8191)),
+        (&WITHOUT_2, HEADER_LEN, 2, (8192, 0)),
+        (&TWICE, HEADER_LEN, 3, (8, 0x0006_0003)),
+    ] {
+        let mut f = folder_of(rt.alloc(), headers, size)?;
+        assert_eq!(rt; damage_of(&mut f, file), Some(damage), "{file}");
+    }
+    Ok(())
+}
+
+// The headers of data_0 and of the 59 files that it leads to, of which the last leads to this one.
+fn sixty_files(alloc: Global, next: u16) -> Result<Vec<Header>, Fail> {
+    let mut headers = Vec::new(alloc);
+    headers.push((0u8, 4u16, 36u32, 0u32))?;
+    for n in 4..62u8 {
+        headers.push((n, u16::from(n) + 1, 36, 0))?;
+    }
+    headers.push((62, next, 36, 0))?;
+    Ok(headers)
 }
 
 #[test]
 fn the_sixtieth_file_of_a_kind_has_no_next_one(rt: HostRuntime) -> Result<(), Fail> {
-    let alloc = rt.alloc();
-    let mut headers = Vec::new(alloc);
-    headers.push((0u8, 4u16, 36u32, 0u32))?;
-    for n in 4..63u8 {
-        headers.push((n, u16::from(n) + 1, 36, 0))?;
-    }
-    let mut f = folder_of(alloc, &headers, HEADER_LEN)?;
-    assert_eq!(rt; damage_of(&mut f, 62), Some((8, 0x003F_003E)));
-
     // Without that link all sixty are taken up, and the next file is missing.
-    if let Some(last) = headers.last_mut() {
-        last.1 = 0;
+    for (next, file, damage) in [(63, 62, (8, 0x003F_003E)), (0, 1, (8192, 0))] {
+        let headers = sixty_files(rt.alloc(), next)?;
+        let mut f = folder_of(rt.alloc(), &headers, HEADER_LEN)?;
+        assert_eq!(rt; damage_of(&mut f, file), Some(damage), "{next}");
     }
-    let mut f = folder_of(alloc, &headers, HEADER_LEN)?;
-    assert_eq!(rt; damage_of(&mut f, 1), Some((8192, 0)));
     Ok(())
 }
 
@@ -181,14 +211,24 @@ fn bytes_are_written_over_the_end_of_a_block(rt: HostRuntime) -> Result<(), Fail
     let headers = [FILES[0], (1, 0, 256, 1024), (2, 0, 1024, 0), FILES[3]];
     let mut f = folder_of(rt.alloc(), &headers, HEADER_LEN + 1024)?;
     let mut out = [7; 512];
-    let done = write_and_read(&mut f, 0xA101_0001, 254, b"abcd", &mut out);
-    assert_eq!(rt; done, Ok(true));
-    assert_eq!(rt; &out[252..260], b"\0\0abcd\0\0".as_slice());
 
-    // Block 3 is the last that ends inside the file.
-    let done = write_and_read(&mut f, 0xA001_0004, 0, b"z", &mut out);
-    assert_eq!(rt; done, Ok(false));
+    // Blocks 1 and 2; and block 4, where block 3 is the last that ends inside the file.
+    for (word, at, bytes, done) in [
+        (0xA101_0001, 254, b"abcd".as_slice(), true),
+        (0xA001_0004, 0, b"z".as_slice(), false),
+    ] {
+        let answer = write_and_read(&mut f, word, at, bytes, &mut out);
+        assert_eq!(rt; answer, Ok(done));
+    }
+    assert_eq!(rt; middle_of(&out), *b"\0\0abcd\0\0");
     Ok(())
+}
+
+// The bytes around the end of the first of two blocks.
+fn middle_of(out: &[u8; 512]) -> [u8; 8] {
+    [
+        out[252], out[253], out[254], out[255], out[256], out[257], out[258], out[259],
+    ]
 }
 
 // Loads the block files and fits one of them, where it is linked.
@@ -236,28 +276,22 @@ pub(crate) fn word_of(f: &mut MemFolder, file: u8, at: u64) -> Option<u32> {
     read_word(f, FileId::Block(file), at).ok()
 }
 
-// A folder in which data_1 has so many blocks and this counter of empty groups.
-fn with_counter(alloc: Global, blocks: u32, empty: u32) -> Result<MemFolder, Fail> {
-    let mut f = MemFolder::new(alloc);
-    for header in [(0, 0, 36, 0), (1, 0, 256, blocks), EMPTY[2], EMPTY[3]] {
-        let mut bytes = bytes_of(alloc, header, HEADER_LEN)?;
-        if header.0 == 1 {
-            put_word(&mut bytes, 36, empty);
-        }
-        f.add_file(FileId::Block(header.0), &bytes)?;
+// Grows data_1, and gives its counter of empty groups and its blocks then.
+fn grown(f: &mut MemFolder) -> Result<[Option<u32>; 2], Fault> {
+    if !grow_file(f, 1)? {
+        return Err(Fault::Device);
     }
-    Ok(f)
+    Ok([word_of(f, 1, 36), word_of(f, 1, 20)])
 }
 
 #[test]
 fn a_file_grows_by_1024_and_at_last_by_384_blocks(rt: HostRuntime) -> Result<(), Fail> {
     // The counter is raised modulo 2^32, by 256 groups and then by 96.
-    let mut f = with_counter(rt.alloc(), 63488, 0xFFFF_FFFF)?;
-    assert_eq!(rt; grow_file(&mut f, 1), Ok(true));
-    assert_eq!(rt; word_of(&mut f, 1, 36), Some(255));
-    assert_eq!(rt; grow_file(&mut f, 1), Ok(true));
-    assert_eq!(rt; word_of(&mut f, 1, 36), Some(351));
-    assert_eq!(rt; word_of(&mut f, 1, 20), Some(64896));
+    let headers = [EMPTY[0], (1, 0, 256, 63488), EMPTY[2], EMPTY[3]];
+    let mut f = with_word(rt.alloc(), &headers, HEADER_LEN, (1, 36, 0xFFFF_FFFF))?;
+    for (groups, blocks) in [(255, 64512), (351, 64896)] {
+        assert_eq!(rt; grown(&mut f), Ok([Some(groups), Some(blocks)]));
+    }
     assert_eq!(rt; f.length(FileId::Block(1)), Ok(Some(16_621_568)));
     Ok(())
 }
@@ -272,16 +306,26 @@ fn add_to<F: Folder>(f: &mut F, kind: Kind) -> Result<Option<u8>, Fault> {
     Ok(Some(n))
 }
 
+// The words of data_4 that a new file has, and where data_1 leads.
+fn words_of_new(f: &mut MemFolder) -> [Option<u32>; 6] {
+    [
+        word_of(f, 4, 0),
+        word_of(f, 4, 4),
+        word_of(f, 4, 8),
+        word_of(f, 4, 12),
+        word_of(f, 4, 20),
+        word_of(f, 1, 8),
+    ]
+}
+
 #[test]
 fn the_first_new_file_is_data_4(rt: HostRuntime) -> Result<(), Fail> {
     // There is a file of that number that isn't linked.
     let headers = [EMPTY[0], EMPTY[1], EMPTY[2], EMPTY[3], (4, 9, 4096, 77)];
     let mut f = folder_of(rt.alloc(), &headers, 9000)?;
     assert_eq!(rt; add_to(&mut f, Kind::B256), Ok(Some(4)));
-    assert_eq!(rt; word_of(&mut f, 1, 8), Some(0x0004_0001));
-    for (at, word) in [(0, MAGIC), (4, 0x20000), (8, 4), (12, 256), (20, 0)] {
-        assert_eq!(rt; word_of(&mut f, 4, at), Some(word), "{at}");
-    }
+    let words = [MAGIC, 0x20000, 4, 256, 0, 0x0004_0001];
+    assert_eq!(rt; words_of_new(&mut f), words.map(|word| Some(word)));
     assert_eq!(rt; f.length(FileId::Block(4)), Ok(Some(8192)));
     Ok(())
 }

@@ -113,9 +113,8 @@ fn a_broken_record_is_not_updated(rt: HostRuntime) -> Result<(), Fail> {
         assert_eq!(rt; update_broken(&mut f, seal, length), answer, "{length}");
 
         // The two steps before it are the last ones.
-        let mut f = f.into_inner();
-        assert_eq!(rt; f.steps(), Some(2), "{length}");
         assert_eq!(rt; f.length(FileId::Block(0)), Ok(Some(length)));
+        assert_eq!(rt; f.into_inner().steps(), Some(2), "{length}");
     }
     Ok(())
 }
@@ -133,12 +132,12 @@ fn seal_last<F: Folder>(f: &mut F) -> Result<bool, Fault> {
 #[test]
 fn a_record_is_sealed_by_one_word(rt: HostRuntime) -> Result<(), Fail> {
     let mut f = zeros(rt.alloc())?;
-    assert_eq!(rt; seal_last(&mut f), Ok(true));
-    assert_eq!(rt; f.steps(), Some(1));
-    assert_eq!(rt; word_of(&mut f, 0, NODE_AT + 32), Some(ZERO_NODE_SEAL));
 
-    // The seal is there, so nothing is written.
-    assert_eq!(rt; seal_last(&mut f), Ok(true));
-    assert_eq!(rt; f.steps(), Some(1));
+    // The second time the seal is there, so nothing is written.
+    for _ in 0..2 {
+        assert_eq!(rt; seal_last(&mut f), Ok(true));
+        assert_eq!(rt; f.steps(), Some(1));
+    }
+    assert_eq!(rt; word_of(&mut f, 0, NODE_AT + 32), Some(ZERO_NODE_SEAL));
     Ok(())
 }

@@ -44,18 +44,30 @@ fn holds<F: Folder>(f: &mut F, bytes: &[u8], external: Option<u64>) -> Result<bo
     Ok(&out[..n] == bytes && f.length(FileId::External(3))? == external)
 }
 
+// A write that fails with so many words lasting: what it answers, and the calls, lacks and steps then.
+fn fail_write(
+    f: &mut MemFolder,
+    words: u64,
+) -> Result<(Result<(), Failed>, [u64; 2], Option<u64>), NoMemory> {
+    f.fail_at(2, words)?;
+    let answer = write_inside(f, 2, &[1, 2, 3, 4, 5]);
+    Ok((answer, [f.calls(), f.lacks()], f.steps()))
+}
+
+// Whether the index has these bytes, and all of the write's after it is made again.
+fn holds_and_is_written(f: &mut MemFolder, bytes: &[u8]) -> Result<[bool; 2], Failed> {
+    let before = holds(f, bytes, None)?;
+    write_inside(f, 2, &[1, 2, 3, 4, 5])?;
+    Ok([before, holds(f, &[0, 0, 1, 2, 3, 4, 5, 0], None)?])
+}
+
 #[test]
 fn a_listed_write_lasts_in_part(rt: HostRuntime) -> Result<(), Fail> {
     for (words, bytes) in [(0, [0, 0, 0, 0, 0, 0, 0, 0]), (1, [0, 0, 1, 2, 0, 0, 0, 0])] {
         let mut f = eight_zeros(rt.alloc())?;
-        f.fail_at(2, words)?;
-        assert_eq!(rt; write_inside(&mut f, 2, &[1, 2, 3, 4, 5]), Err(Failed));
-        assert_eq!(rt; f.calls(), 2);
-        assert_eq!(rt; f.lacks(), 0);
-        assert_eq!(rt; f.steps(), Some(words));
-        assert!(rt; holds(&mut f, &bytes, None)?);
-        assert_eq!(rt; write_inside(&mut f, 2, &[1, 2, 3, 4, 5]), Ok(()));
-        assert!(rt; holds(&mut f, &[0, 0, 1, 2, 3, 4, 5, 0], None)?);
+        let failed = (Err(Failed), [2, 0], Some(words));
+        assert_eq!(rt; fail_write(&mut f, words), Ok(failed));
+        assert_eq!(rt; holds_and_is_written(&mut f, &bytes), Ok([true, true]));
     }
     Ok(())
 }
@@ -68,21 +80,36 @@ fn write_two<F: Folder>(f: &mut F) -> Result<(), Failed> {
     }
 }
 
+// Writes them, and counts: the calls and the steps.
+fn counted_two(f: &mut MemFolder) -> Result<(u64, Option<u64>), Failed> {
+    write_two(f)?;
+    Ok((f.calls(), f.steps()))
+}
+
 #[test]
 fn neighbouring_words_are_written_by_one_call(rt: HostRuntime) -> Result<(), Fail> {
     let mut f = MemFolder::new(rt.alloc());
     f.add_file(FileId::Index, &[9; 16])?;
-    assert_eq!(rt; write_two(&mut f), Ok(()));
-    assert_eq!(rt; f.calls(), 2);
-    assert_eq!(rt; f.steps(), Some(2));
-    assert!(rt;
-        holds(
-            &mut f,
-            &[9, 9, 9, 9, 1, 2, 3, 4, 5, 0, 0, 0, 9, 9, 9, 9],
-            None
-        )?
-    );
+    assert_eq!(rt; counted_two(&mut f), Ok((2, Some(2))));
+    let bytes = [9, 9, 9, 9, 1, 2, 3, 4, 5, 0, 0, 0, 9, 9, 9, 9];
+    assert_eq!(rt; holds(&mut f, &bytes, None), Ok(true));
     Ok(())
+}
+
+// The answers of a look and of a write of no bytes.
+fn answers(f: &mut StopFolder) -> [bool; 2] {
+    [
+        f.length(FileId::Index) == Err(Failed),
+        f.write_at(FileId::Index, 0, &[]) == Err(Failed),
+    ]
+}
+
+// Whether the five steps are made where so many pass, whether other calls fail then, and the folder.
+fn stopped(alloc: Global, steps: u64) -> Result<(bool, [bool; 2], MemFolder), NoMemory> {
+    let mut f = StopFolder::new(eight_zeros(alloc)?, steps);
+    let done = run(&mut f).is_ok();
+    let fails = answers(&mut f);
+    Ok((done, fails, f.into_inner()))
 }
 
 #[test]
@@ -95,26 +122,18 @@ fn a_stop_leaves_the_image_after_its_steps(rt: HostRuntime) -> Result<(), Fail> 
         (4, [0, 0, 1, 2, 3, 4, 5, 0], Some(4)),
         (5, [0, 0, 1, 2, 3, 4, 5, 0], None),
     ];
-    let mut whole = eight_zeros(rt.alloc())?;
-    run(&mut whole)?;
-    assert_eq!(rt; whole.steps(), Some(5));
+    let mut f = eight_zeros(rt.alloc())?;
+    assert_eq!(rt; (run(&mut f), f.steps()), (Ok(()), Some(5)));
     for (steps, bytes, external) in after {
-        let mut image = image_at(&whole, steps)?;
-        assert_eq!(rt; image.steps(), Some(0));
-        assert_eq!(rt; image.calls(), 0);
-        assert!(rt;
-            holds(&mut image, &bytes, external)?,
-            "the image at {steps}"
-        );
-        let mut stopped = StopFolder::new(eight_zeros(rt.alloc())?, steps);
-        assert_eq!(rt; run(&mut stopped).is_ok(), steps == 5);
-        if steps < 5 {
-            assert_eq!(rt; stopped.length(FileId::Index), Err(Failed));
-            assert_eq!(rt; stopped.write_at(FileId::Index, 0, &[]), Err(Failed));
-        }
-        let mut inner = stopped.into_inner();
+        let mut image = image_at(&f, steps)?;
+        assert_eq!(rt; (image.steps(), image.calls()), (Some(0), 0));
+        let held = holds(&mut image, &bytes, external);
+        assert_eq!(rt; held, Ok(true), "the image at {steps}");
+        let (done, fails, mut inner) = stopped(rt.alloc(), steps)?;
+        assert_eq!(rt; (done, fails), (steps == 5, [true; 2]));
         assert_eq!(rt; inner.steps(), Some(steps));
-        assert!(rt; holds(&mut inner, &bytes, external)?, "stopped at {steps}");
+        let held = holds(&mut inner, &bytes, external);
+        assert_eq!(rt; held, Ok(true), "stopped at {steps}");
     }
     Ok(())
 }
@@ -149,21 +168,29 @@ fn files_are_listed_in_their_order(rt: HostRuntime) -> Result<(), Fail> {
 }
 
 #[test]
-fn streams_fail_where_they_are_listed(rt: HostRuntime) -> Result<(), Fail> {
+fn sources_fail_where_they_are_listed(rt: HostRuntime) -> Result<(), Fail> {
     let mut source = MemSource::new(rt.alloc(), b"abc")?;
     source.fail_at(2)?;
     let mut out = [0; 2];
-    assert_eq!(rt; source.take(&mut out), Ok(2));
-    assert_eq!(rt; out, *b"ab");
-    assert_eq!(rt; source.take(&mut out), Err(Failed));
-    assert_eq!(rt; source.take(&mut out), Ok(1));
-    assert_eq!(rt; out, *b"cb");
-    assert_eq!(rt; source.take(&mut out), Ok(0));
+    for (answer, bytes) in [
+        (Ok(2), *b"ab"),
+        (Err(Failed), *b"ab"),
+        (Ok(1), *b"cb"),
+        (Ok(0), *b"cb"),
+    ] {
+        assert_eq!(rt; source.take(&mut out), answer);
+        assert_eq!(rt; out, bytes);
+    }
+    Ok(())
+}
+
+#[test]
+fn sinks_fail_where_they_are_listed(rt: HostRuntime) -> Result<(), Fail> {
     let mut sink = MemSink::new(rt.alloc());
     sink.fail_at(2)?;
-    assert_eq!(rt; sink.put(b"one"), Ok(()));
-    assert_eq!(rt; sink.put(b"two"), Err(Failed));
-    assert_eq!(rt; sink.put(b"six"), Ok(()));
+    for (bytes, answer) in [(b"one", Ok(())), (b"two", Err(Failed)), (b"six", Ok(()))] {
+        assert_eq!(rt; sink.put(bytes), answer);
+    }
     assert_eq!(rt; sink.written(), b"onesix".as_slice());
     assert_eq!(rt; sink.lacks(), 0);
     Ok(())
@@ -171,23 +198,26 @@ fn streams_fail_where_they_are_listed(rt: HostRuntime) -> Result<(), Fail> {
 
 #[test]
 fn a_clock_repeats_its_last_reading(rt: HostRuntime) -> Result<(), Fail> {
-    let mut clock = ListClock::new(rt.alloc(), &[3, 5])?;
-    for reading in [3, 5, 5, 5] {
-        assert_eq!(rt; clock.now(), reading);
+    let readings: [&[u64]; 2] = [&[3, 5], &[]];
+    for (i, wanted) in [[3, 5, 5, 5], [0; 4]].iter().enumerate() {
+        let mut clock = ListClock::new(rt.alloc(), readings[i])?;
+        assert_eq!(rt; four_of(&mut clock), *wanted);
     }
-    let mut none = ListClock::new(rt.alloc(), &[])?;
-    assert_eq!(rt; none.now(), 0);
-    assert_eq!(rt; none.now(), 0);
     Ok(())
+}
+
+// Four readings of a clock.
+fn four_of(clock: &mut ListClock) -> [u64; 4] {
+    [clock.now(), clock.now(), clock.now(), clock.now()]
 }
 
 #[test]
 fn a_silent_folder_passes_its_calls_on(rt: HostRuntime) -> Result<(), Fail> {
     let mut f = SilentFolder::new(eight_zeros(rt.alloc())?);
-    assert_eq!(rt; run(&mut f), Ok(()));
-    assert_eq!(rt; f.calls(), 5);
-    assert_eq!(rt; f.write_at(FileId::Index, 5, &[1, 2, 3, 4]), Err(Failed));
-    assert_eq!(rt; f.calls(), 6);
-    assert!(rt; holds(&mut f, &[0, 0, 1, 2, 3, 4, 5, 0], None)?);
+    assert_eq!(rt; (run(&mut f), f.calls()), (Ok(()), 5));
+    let past = f.write_at(FileId::Index, 5, &[1, 2, 3, 4]);
+    assert_eq!(rt; (past, f.calls()), (Err(Failed), 6));
+    let held = holds(&mut f, &[0, 0, 1, 2, 3, 4, 5, 0], None);
+    assert_eq!(rt; held, Ok(true));
     Ok(())
 }

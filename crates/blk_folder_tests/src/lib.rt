@@ -1,4 +1,4 @@
-//! The tests of the crates of the folder: its objects in memory, block files, allocation.
+//! The tests of the crates of the folder: its objects in memory, the index, block files, external files, allocation.
 #![tactic(auto)]
 
 #[cfg(test)]
@@ -7,5 +7,9 @@ mod alloc;
 mod disk;
 #[cfg(test)]
 mod disk_sealed;
+#[cfg(test)]
+mod external;
+#[cfg(test)]
+mod index;
 #[cfg(test)]
 mod io;

@@ -18,26 +18,3 @@ pub fn limits(max_bytes: u64, max_items: u32) -> Option<Limits>
         None
     }
 }
-
-#[cfg(test)]
-mod tests {
-    use crate::{Limits, limits};
-
-    #[test]
-    fn limits_are_refused_outside_their_bounds(rt: HostRuntime) {
-        assert!(rt; limits(0, 1).is_none());
-        assert!(rt; limits(1, 0).is_none());
-        assert!(rt; limits(1, 131073).is_none());
-        assert!(rt; limits(2147483648, 1).is_none());
-    }
-
-    #[test]
-    fn limits_keep_their_numbers(rt: HostRuntime) {
-        assert_eq!(rt;
-            limits(83886080, 65536).map(|l| (l.max_bytes, l.max_items)),
-            Some((83886080, 65536))
-        );
-        assert!(rt; limits(1, 1).is_some());
-        assert!(rt; limits(2147483647, 131072).is_some());
-    }
-}

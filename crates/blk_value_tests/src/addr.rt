@@ -1,7 +1,6 @@
 // Words, sizes and claims from the description of the forms.
 use blk_addr::laws::from_word_of_word;
 use blk_addr::{Addr, Claims, FileId, Kind, blocks_for, entry_blocks, kind_for};
-use std::test::Fail;
 
 #[test]
 fn words_are_addresses(rt: HostRuntime) {
@@ -13,18 +12,23 @@ fn words_are_addresses(rt: HostRuntime) {
         (0x8000_0001, Kind::External, FileId::External(1), 0, 0),
     ];
     for (word, kind, file, start, blocks) in words {
-        match Addr::from_word(word) {
-            None => assert!(rt; false, "{word} is an address"),
-            Some(addr) => {
-                assert_eq!(rt; addr.word(), word);
-                assert_eq!(rt; addr.kind(), kind);
-                assert_eq!(rt; addr.file(), file);
-                assert_eq!(rt; addr.start(), start);
-                assert_eq!(rt; addr.blocks(), blocks);
-                assert_eq!(rt; from_word_of_word(addr), Some(addr));
-            }
-        }
+        let parts = (kind, file, start, blocks);
+        assert!(rt; parts_of(word) == Some(parts), "{word}");
+        assert!(rt; word_again(word) == Some(word), "{word}");
     }
+}
+
+// What the address of a word names.
+fn parts_of(word: u32) -> Option<(Kind, FileId, u32, u32)> {
+    let addr = Addr::from_word(word)?;
+    Some((addr.kind(), addr.file(), addr.start(), addr.blocks()))
+}
+
+// The word of the address of a word, which is the same after another reading.
+fn word_again(word: u32) -> Option<u32> {
+    let addr = Addr::from_word(word)?;
+    let again = from_word_of_word(addr)?;
+    (again == addr).then(|| addr.word())
 }
 
 #[test]
@@ -110,28 +114,51 @@ fn storage_of(size: u32) -> Option<(Kind, u32)> {
     (size > 0).then(|| (kind_for(size), blocks_for(size)))
 }
 
-#[test]
-fn overlapping_claims_change_nothing(rt: HostRuntime) -> Result<(), Fail> {
-    let mut claims = Claims::new(rt.alloc());
-    // blocks 4 and 5 of data_1; then 5 to 7, of which 5 is claimed; then 6 and 7
-    assert_eq!(rt; add(&mut claims, 0xA101_0004)?, true);
-    assert_eq!(rt; add(&mut claims, 0xA201_0005)?, false);
-    assert_eq!(rt; claims.allocations(1), 1);
-    assert_eq!(rt; add(&mut claims, 0xA101_0006)?, true);
-    assert_eq!(rt; claims.allocations(1), 2);
-    assert_eq!(rt; claims.allocations(2), 0);
-    Ok(())
+// Adds the address of a word, and says whether it is new.
+fn add(claims: &mut Claims, word: u32) -> Option<bool> {
+    let addr = Addr::from_word(word)?;
+    claims.add(addr).ok()
+}
+
+// Whether the address of a word is claimed in part.
+fn has(claims: &Claims, word: u32) -> Option<bool> {
+    Some(claims.has(Addr::from_word(word)?))
+}
+
+// Adds the address of a word, and gives the allocations of data_1 and data_2 then.
+fn added(claims: &mut Claims, word: u32) -> Option<(bool, u32, u32)> {
+    let is_new = add(claims, word)?;
+    Some((is_new, claims.allocations(1), claims.allocations(2)))
 }
 
 #[test]
-fn claims_are_found(rt: HostRuntime) -> Result<(), Fail> {
+fn overlapping_claims_change_nothing(rt: HostRuntime) {
+    let mut claims = Claims::new(rt.alloc());
+    // blocks 4 and 5 of data_1; then 5 to 7, of which 5 is claimed; then 6 and 7
+    for (word, answer) in [
+        (0xA101_0004, (true, 1, 0)),
+        (0xA201_0005, (false, 1, 0)),
+        (0xA101_0006, (true, 2, 0)),
+    ] {
+        assert!(rt; added(&mut claims, word) == Some(answer), "{word}");
+    }
+}
+
+// Whether the address of a word is claimed, is new, is claimed then, and is new once more.
+fn twice(claims: &mut Claims, word: u32) -> Option<[bool; 4]> {
+    let before = has(claims, word)?;
+    let first = add(claims, word)?;
+    let behind = has(claims, word)?;
+    Some([before, first, behind, add(claims, word)?])
+}
+
+#[test]
+fn claims_are_found(rt: HostRuntime) {
     let mut claims = Claims::new(rt.alloc());
     // blocks 4 to 7 of data_3, the last block of data_255, f_000001
     for word in [0xC303_0004, 0xA0FF_FFFF, 0x8000_0001] {
-        assert_eq!(rt; has(&claims, word)?, false, "{word}");
-        assert_eq!(rt; add(&mut claims, word)?, true, "{word}");
-        assert_eq!(rt; has(&claims, word)?, true, "{word}");
-        assert_eq!(rt; add(&mut claims, word)?, false, "{word}");
+        let found = Some([false, true, true, false]);
+        assert!(rt; twice(&mut claims, word) == found, "{word}");
     }
     for (file, block, claimed) in [
         (3, 3, false),
@@ -142,41 +169,47 @@ fn claims_are_found(rt: HostRuntime) -> Result<(), Fail> {
         (4, 7, false),
         (255, 65535, true),
     ] {
-        assert_eq!(rt;
-            claims.has_block(file, block),
-            claimed,
+        assert!(rt;
+            claims.has_block(file, block) == claimed,
             "block {block} of {file}"
         );
     }
     // block 7 of data_3, block 7 of data_4, block 8 of data_3, block 0 of data_255, f_000002
-    assert_eq!(rt; has(&claims, 0xC003_0007)?, true);
-    assert_eq!(rt; has(&claims, 0xC004_0007)?, false);
-    assert_eq!(rt; has(&claims, 0xC003_0008)?, false);
-    assert_eq!(rt; has(&claims, 0xA0FF_0000)?, false);
-    assert_eq!(rt; has(&claims, 0x8000_0002)?, false);
-    Ok(())
+    for (word, claimed) in [
+        (0xC003_0007, true),
+        (0xC004_0007, false),
+        (0xC003_0008, false),
+        (0xA0FF_0000, false),
+        (0x8000_0002, false),
+    ] {
+        assert!(rt; has(&claims, word) == Some(claimed), "{word}");
+    }
+}
+
+// Adds the block of a number of data_0 and of data_4, and says whether both are new.
+fn add_both(claims: &mut Claims, start: u32) -> Option<bool> {
+    let first = add(claims, 0x9000_0000 | start)?;
+    Some(first & add(claims, 0x9004_0000 | start)?)
+}
+
+// Adds all of them, and says whether each was new.
+fn add_all(claims: &mut Claims) -> Option<bool> {
+    for start in 0..65536 {
+        if !add_both(claims, start)? {
+            return Some(false);
+        }
+    }
+    Some(true)
 }
 
 #[test]
-fn a_full_list_is_claimed(rt: HostRuntime) -> Result<(), Fail> {
+fn a_full_list_is_claimed(rt: HostRuntime) {
     let mut claims = Claims::new(rt.alloc());
     // 131072 nodes: each block that an address can name in data_0 and data_4
-    for start in 0..65536 {
-        assert_eq!(rt; add(&mut claims, 0x9000_0000 + start)?, true);
-        assert_eq!(rt; add(&mut claims, 0x9004_0000 + start)?, true);
-    }
-    assert_eq!(rt; claims.allocations(0), 65536);
-    assert_eq!(rt; claims.allocations(4), 65536);
-    assert_eq!(rt; add(&mut claims, 0x9004_FFFF)?, false);
-    Ok(())
-}
-
-fn add(claims: &mut Claims, word: u32) -> Result<bool, Fail> {
-    let addr = Addr::from_word(word).ok_or("an address")?;
-    Ok(claims.add(addr)?)
-}
-
-fn has(claims: &Claims, word: u32) -> Result<bool, Fail> {
-    let addr = Addr::from_word(word).ok_or("an address")?;
-    Ok(claims.has(addr))
+    assert!(rt; add_all(&mut claims) == Some(true));
+    assert_eq!(rt;
+        [claims.allocations(0), claims.allocations(4)],
+        [65536, 65536]
+    );
+    assert!(rt; add(&mut claims, 0x9004_FFFF) == Some(false));
 }

@@ -27,18 +27,18 @@ fn opened(number: u16, names: u16) -> OpenObject {
     }
 }
 
-// Binds a name to the object with a number, where it is free.
-fn bind(handles: &mut Handles, name: u16, number: u16) -> Result<(), Fail> {
+// Binds a name to the object with a number, where it is free, and the object has its node.
+fn bind(handles: &mut Handles, name: u16, number: u16) -> Option<()> {
     let entry = entry(number);
     let node = node(number);
     if name >= NAMES || handles.object(name).is_some() {
-        return Err("the name is free".into());
+        return None;
     }
     if !has_node(handles.object_of(entry), node) {
-        return Err("the node is the object's".into());
+        return None;
     }
     handles.bind(name, entry, node, false);
-    Ok(())
+    Some(())
 }
 
 // Whether an object, if there is one, has the node.
@@ -52,30 +52,78 @@ fn has_node(object: Option<OpenObject>, node: Addr) -> bool
 }
 
 // Releases a name, where it is bound.
-fn release(handles: &mut Handles, name: u16) -> Result<Released, Fail> {
+fn release(handles: &mut Handles, name: u16) -> Option<Released> {
     if handles.object(name).is_none() {
-        return Err("the name is bound".into());
+        return None;
     }
-    Ok(handles.release(name))
+    Some(handles.release(name))
+}
+
+// Binds all names to object 7, and gives how many objects are open, and those of the last name and of one past it.
+fn share(handles: &mut Handles) -> Option<(usize, Option<OpenObject>, Option<OpenObject>)> {
+    for name in 0..NAMES {
+        bind(handles, name, 7)?;
+    }
+    Some((
+        handles.open_objects(),
+        handles.object(4095),
+        handles.object(4096),
+    ))
+}
+
+// Releases all names but the first, and says whether another name is left each time.
+fn release_more(handles: &mut Handles) -> Option<bool> {
+    for name in 1..NAMES {
+        if release(handles, name)? != Released::More {
+            return Some(false);
+        }
+    }
+    Some(true)
+}
+
+// Releases the first name: whether object 7 is pinned before and behind it, and what it leaves.
+fn release_last(handles: &mut Handles) -> Option<(bool, Released, bool, usize)> {
+    let before = handles.is_pinned(entry(7));
+    let released = release(handles, 0)?;
+    let behind = handles.is_pinned(entry(7));
+    Some((before, released, behind, handles.open_objects()))
 }
 
 #[test]
 fn an_object_closes_with_the_last_of_4096_names(rt: HostRuntime) -> Result<(), Fail> {
     let mut handles = Handles::new(rt.alloc())?;
-    for name in 0..NAMES {
-        bind(&mut handles, name, 7)?;
-    }
-    assert_eq!(rt; handles.open_objects(), 1);
-    assert_eq!(rt; handles.object(4095), Some(opened(7, 4096)));
-    assert_eq!(rt; handles.object(4096), None);
-    for name in 1..NAMES {
-        assert_eq!(rt; release(&mut handles, name)?, Released::More, "{name}");
-    }
-    assert_eq!(rt; handles.is_pinned(entry(7)), true);
-    assert_eq!(rt; release(&mut handles, 0)?, Released::Last(opened(7, 1)));
-    assert_eq!(rt; handles.is_pinned(entry(7)), false);
-    assert_eq!(rt; handles.open_objects(), 0);
+    let shared = Some((1, Some(opened(7, 4096)), None));
+    assert!(rt; share(&mut handles) == shared);
+    assert_eq!(rt; release_more(&mut handles), Some(true));
+    let last = Some((true, Released::Last(opened(7, 1)), false, 0));
+    assert!(rt; release_last(&mut handles) == last);
     Ok(())
+}
+
+// Binds each name to an object of its own, from a number on, and gives how many are open.
+fn open_all(handles: &mut Handles, start: u16) -> Option<usize> {
+    for name in 0..NAMES {
+        bind(handles, name, start.wrapping_add(name))?;
+    }
+    Some(handles.open_objects())
+}
+
+// Whether a name is the only one of the object with a number, and closes it.
+fn closes(handles: &mut Handles, name: u16, number: u16) -> Option<bool> {
+    let object = opened(number, 1);
+    let found = handles.object_of(object.entry);
+    let released = release(handles, name)?;
+    Some(found == Some(object) && released == Released::Last(object))
+}
+
+// Releases each of those names, and gives how many objects are open.
+fn close_all(handles: &mut Handles, start: u16) -> Option<usize> {
+    for name in 0..NAMES {
+        if !closes(handles, name, start.wrapping_add(name))? {
+            return None;
+        }
+    }
+    Some(handles.open_objects())
 }
 
 #[test]
@@ -83,52 +131,81 @@ fn as_many_objects_as_names_are_open_at_once(rt: HostRuntime) -> Result<(), Fail
     let mut handles = Handles::new(rt.alloc())?;
     // three times, so that the memory of closed objects is used again
     for start in [0, 30000, 10000] {
-        for name in 0..NAMES {
-            bind(&mut handles, name, start + name)?;
-        }
-        assert_eq!(rt; handles.open_objects(), 4096);
-        for name in 0..NAMES {
-            let object = opened(start + name, 1);
-            assert_eq!(rt; handles.object_of(object.entry), Some(object));
-            assert_eq!(rt; release(&mut handles, name)?, Released::Last(object));
-        }
-        assert_eq!(rt; handles.open_objects(), 0);
+        assert_eq!(rt; open_all(&mut handles, start), Some(4096));
+        assert_eq!(rt; close_all(&mut handles, start), Some(0));
     }
     Ok(())
+}
+
+// Binds a name to object 1, which is doomed, as object 2 isn't, and two names to object 2, whose record is
+// one of its own. Gives whether each was open.
+fn doom_and_succeed(handles: &mut Handles) -> Option<[bool; 2]> {
+    bind(handles, 0, 1)?;
+    let doomed = [handles.doom_entry(entry(1)), handles.doom_entry(entry(2))];
+    bind(handles, 1, 2)?;
+    bind(handles, 2, 2)?;
+    Some(doomed)
+}
+
+// Marks the record of object 2 as dirty by its first name, and gives the object by its other one.
+fn mark_by_another_name(handles: &mut Handles) -> Option<OpenObject> {
+    handles.object(1)?;
+    handles.mark(1, false, true);
+    handles.object(2)
+}
+
+// Releases a name of each of the two, and says which of them are pinned then.
+fn release_both(handles: &mut Handles) -> Option<(Released, Released, [bool; 2])> {
+    let second = release(handles, 1)?;
+    let first = release(handles, 0)?;
+    let pinned = [handles.is_pinned(entry(1)), handles.is_pinned(entry(2))];
+    Some((second, first, pinned))
+}
+
+// Object 1 with one name, doomed, and object 2 with two, whose record is marked as dirty.
+fn doomed() -> OpenObject {
+    OpenObject {
+        entry: entry(1),
+        node: node(1),
+        names: 1,
+        doomed: true,
+        dirty: false,
+    }
+}
+
+fn successor() -> OpenObject {
+    OpenObject {
+        entry: entry(2),
+        node: node(2),
+        names: 2,
+        doomed: false,
+        dirty: true,
+    }
 }
 
 #[test]
 fn a_doomed_object_and_its_successor_are_open(rt: HostRuntime) -> Result<(), Fail> {
     let mut handles = Handles::new(rt.alloc())?;
-    bind(&mut handles, 0, 1)?;
-    assert_eq!(rt; handles.doom_entry(entry(1)), true);
-    assert_eq!(rt; handles.doom_entry(entry(2)), false);
-    // the new object of the same key has a record of its own
-    bind(&mut handles, 1, 2)?;
-    bind(&mut handles, 2, 2)?;
-    assert_eq!(rt; handles.object(0).map(|object| object.doomed), Some(true));
-    if handles.object(1).is_some() {
-        handles.mark(1, false, true);
-    }
-    assert_eq!(rt; handles.object(2).map(|object| object.dirty), Some(true));
-    assert_eq!(rt; handles.is_pinned(entry(1)), true);
-    assert_eq!(rt; release(&mut handles, 1)?, Released::More);
-    match release(&mut handles, 0)? {
-        Released::Last(object) => assert_eq!(rt; (object.entry, object.doomed), (entry(1), true)),
-        Released::More => assert!(rt; false, "no other name is bound"),
-    }
-    assert_eq!(rt; handles.is_pinned(entry(1)), false);
-    assert_eq!(rt; handles.is_pinned(entry(2)), true);
+    assert!(rt; doom_and_succeed(&mut handles) == Some([true, false]));
+    assert!(rt; handles.object(0) == Some(doomed()));
+    assert!(rt; mark_by_another_name(&mut handles) == Some(successor()));
+    let released = (Released::More, Released::Last(doomed()), [false, true]);
+    assert!(rt; release_both(&mut handles) == Some(released));
     Ok(())
+}
+
+// Binds a name, and tells the least one.
+fn least_with(handles: &mut Handles, name: u16) -> Option<u16> {
+    bind(handles, name, 3)?;
+    handles.least_name()
 }
 
 #[test]
 fn the_least_name_is_told(rt: HostRuntime) -> Result<(), Fail> {
     let mut handles = Handles::new(rt.alloc())?;
-    assert_eq!(rt; handles.least_name(), None);
+    assert!(rt; handles.least_name().is_none());
     for name in [4095, 4000, 17, 1, 0] {
-        bind(&mut handles, name, 3)?;
-        assert_eq!(rt; handles.least_name(), Some(name));
+        assert!(rt; least_with(&mut handles, name) == Some(name), "{name}");
     }
     Ok(())
 }

@@ -1,10 +1,12 @@
-//! The tests of the crates of values: addresses, records, handles, lines, maps of parts.
+//! The tests of the crates of values: limits, addresses, records, handles, lines, maps of parts.
 #![tactic(auto)]
 
 #[cfg(test)]
 mod addr;
 #[cfg(test)]
 mod handles;
+#[cfg(test)]
+mod model;
 #[cfg(test)]
 mod ranges;
 #[cfg(test)]

@@ -16,40 +16,52 @@ const BLOCK_START: [u8; 24] = [
     0x03, 0x00, 0x00, 0x00, 0x00, 0x04, 0x00, 0x00,
 ];
 
-#[test]
-fn an_index_header_is_read(rt: HostRuntime) -> Result<(), Fail> {
-    let mut bytes = [0; 368];
-    bytes[..48].copy_from_slice(&INDEX_START);
-    let head = IndexHead::over(&bytes).ok_or("too short")?;
-    let first = [
+// Has each word hold its place, and some number more.
+pub(crate) fn number_words(bytes: &mut [u8], more: u32) {
+    let mut place = more;
+    for word in bytes.chunks_exact_mut(4) {
+        word.copy_from_slice(&place.to_le_bytes());
+        place = place.wrapping_add(4);
+    }
+}
+
+// Puts a part in the place of the first bytes.
+fn put(bytes: &mut [u8], part: &[u8]) {
+    for (byte, new) in bytes.iter_mut().zip(part) {
+        *byte = *new;
+    }
+}
+
+// The first ten words of an index, and its moment.
+fn front_of(head: &IndexHead<'_>) -> ([u32; 10], u64) {
+    let words = [
         head.magic(),
         head.version(),
         head.num_entries(),
         head.num_bytes(),
         head.last_file(),
-    ];
-    assert_eq!(rt; first, [0xC103CAC3, 0x20000, 2, 300, 7]);
-    let more = [
         head.this_id(),
         head.stats(),
         head.table_len(),
         head.crash(),
         head.experiment(),
     ];
-    assert_eq!(rt; more, [5, 0, 65536, 1, 0]);
-    assert_eq!(rt; head.create_time(), 0x0102030405060708);
+    (words, head.create_time())
+}
+
+#[test]
+fn an_index_header_is_read(rt: HostRuntime) -> Result<(), Fail> {
+    let mut bytes = [0; 368];
+    put(&mut bytes, &INDEX_START);
+    let head = IndexHead::over(&bytes).ok_or("too short")?;
+    let words = [0xC103CAC3, 0x20000, 2, 300, 7, 5, 0, 65536, 1, 0];
+    assert_eq!(rt; front_of(&head), (words, 0x0102030405060708));
     Ok(())
 }
 
-// Each word from 48 on holds the number of its place.
-#[test]
-fn the_lists_of_an_index_are_read(rt: HostRuntime) -> Result<(), Fail> {
-    let mut bytes = [0; 368];
-    for (i, word) in bytes.chunks_exact_mut(4).enumerate() {
-        word.copy_from_slice(&(4 * i as u32).to_le_bytes());
-    }
-    let head = IndexHead::over(&bytes).ok_or("too short")?;
-    let unused = [
+// The words of an index that nothing uses.
+fn unused_of(head: &IndexHead<'_>) -> [u32; 7] {
+    [
         head.pad(0),
         head.pad(51),
         head.pad1(0),
@@ -57,40 +69,50 @@ fn the_lists_of_an_index_are_read(rt: HostRuntime) -> Result<(), Fail> {
         head.filled(),
         head.pad2(0),
         head.pad2(6),
-    ];
-    assert_eq!(rt; unused, [48, 252, 256, 260, 264, 340, 364]);
-    let lists = [
+    ]
+}
+
+// The first and the last of its lists, and its operation.
+fn lists_of(head: &IndexHead<'_>) -> [u32; 9] {
+    [
         head.sizes(0),
         head.sizes(4),
         head.heads(0),
         head.heads(4),
         head.tails(0),
         head.tails(4),
-    ];
-    assert_eq!(rt; lists, [268, 284, 288, 304, 308, 324]);
-    let operation = [head.transaction(), head.operation(), head.operation_list()];
-    assert_eq!(rt; operation, [328, 332, 336]);
-    Ok(())
+        head.transaction(),
+        head.operation(),
+        head.operation_list(),
+    ]
 }
 
 #[test]
-fn a_block_header_is_read(rt: HostRuntime) -> Result<(), Fail> {
-    let mut bytes = [0; 80];
-    bytes[..24].copy_from_slice(&BLOCK_START);
-    for (i, word) in bytes[24..].chunks_exact_mut(4).enumerate() {
-        word.copy_from_slice(&(24 + 4 * i as u32).to_le_bytes());
-    }
-    let head = BlockHead::over(&bytes).ok_or("too short")?;
-    assert_eq!(rt; (head.this_file(), head.next_file()), (1, 4));
-    let first = [
+fn the_lists_of_an_index_are_read(rt: HostRuntime) -> Result<(), Fail> {
+    let mut bytes = [0; 368];
+    number_words(&mut bytes, 0);
+    let head = IndexHead::over(&bytes).ok_or("too short")?;
+    assert_eq!(rt; unused_of(&head), [48, 252, 256, 260, 264, 340, 364]);
+    let lists = [268, 284, 288, 304, 308, 324, 328, 332, 336];
+    assert_eq!(rt; lists_of(&head), lists);
+    Ok(())
+}
+
+// The words at the front of the header of a block file, and its numbers.
+fn block_front_of(head: &BlockHead<'_>) -> ([u32; 5], u16, u16) {
+    let words = [
         head.magic(),
         head.version(),
         head.entry_size(),
         head.num_entries(),
         head.max_entries(),
     ];
-    assert_eq!(rt; first, [0xC104CAC3, 0x20000, 256, 3, 1024]);
-    let more = [
+    (words, head.this_file(), head.next_file())
+}
+
+// The words behind them.
+fn block_rest_of(head: &BlockHead<'_>) -> [u32; 7] {
+    [
         head.empty(0),
         head.empty(3),
         head.hints(0),
@@ -98,8 +120,18 @@ fn a_block_header_is_read(rt: HostRuntime) -> Result<(), Fail> {
         head.updating(),
         head.user(0),
         head.user(4),
-    ];
-    assert_eq!(rt; more, [24, 36, 40, 52, 56, 60, 76]);
+    ]
+}
+
+#[test]
+fn a_block_header_is_read(rt: HostRuntime) -> Result<(), Fail> {
+    let mut bytes = [0; 80];
+    number_words(&mut bytes, 0);
+    put(&mut bytes, &BLOCK_START);
+    let head = BlockHead::over(&bytes).ok_or("too short")?;
+    let front = ([0xC104CAC3, 0x20000, 256, 3, 1024], 1, 4);
+    assert_eq!(rt; block_front_of(&head), front);
+    assert_eq!(rt; block_rest_of(&head), [24, 36, 40, 52, 56, 60, 76]);
     Ok(())
 }
 

@@ -5,6 +5,7 @@ ghost use Rattle.blk_image.specs.Steps.{with_word};
 ghost use Rattle.blk_format.specs.Records.{entry_size};
 ghost use Rattle.blk_record.specs.Fields.{IsField, OtherFieldsStay};
 
+use crate::record::number_words;
 use bitflags::Flags;
 use blk_record::{
     EntryFlags, EntryMut, EntryView, NodeMut, NodeView, Record, RecordMut, SparseHead,
@@ -151,16 +152,8 @@ fn a_field_of_a_node_is_lent(rt: HostRuntime) -> Result<(), Fail> {
     Ok(())
 }
 
-// Each word holds the number of its place, and 256 more.
-#[test]
-fn a_sparse_head_is_read(rt: HostRuntime) -> Result<(), Fail> {
-    let mut bytes = [0; 64];
-    for (i, word) in bytes.chunks_exact_mut(4).enumerate() {
-        word.copy_from_slice(&(4 * i as u32 + 0x100).to_le_bytes());
-    }
-    let head = SparseHead::over(&bytes).ok_or("too short")?;
-    assert_eq!(rt; head.signature(), 0x0000_0104_0000_0100);
-    assert_eq!(rt; head.last_block(), 0x110);
+// The signature, the last block and the other words of a sparse index.
+fn parts_of(head: &SparseHead<'_>) -> (i64, i32, [u32; 5]) {
     let words = [
         head.magic(),
         head.parent_key_len(),
@@ -168,7 +161,17 @@ fn a_sparse_head_is_read(rt: HostRuntime) -> Result<(), Fail> {
         head.zeros(0),
         head.zeros(9),
     ];
-    assert_eq!(rt; words, [0x108, 0x10C, 0x114, 0x118, 0x13C]);
+    (head.signature(), head.last_block(), words)
+}
+
+// Each word holds the number of its place, and 256 more.
+#[test]
+fn a_sparse_head_is_read(rt: HostRuntime) -> Result<(), Fail> {
+    let mut bytes = [0; 64];
+    number_words(&mut bytes, 0x100);
+    let head = SparseHead::over(&bytes).ok_or("too short")?;
+    let words = [0x108, 0x10C, 0x114, 0x118, 0x13C];
+    assert_eq!(rt; parts_of(&head), (0x0000_0104_0000_0100, 0x110, words));
     let head = SparseHead::over(&[0xFF; 64]).ok_or("too short")?;
     assert_eq!(rt; head.last_block(), -1);
     Ok(())

@@ -1,4 +1,4 @@
-use blk_io::{Failed, MemSink};
+use blk_io::{Failed, MemSink, Sink};
 use blk_model::{Answer, Command, Refusal};
 use blk_script::{
     Field, LineFault, print_bytes, print_fields, print_key, print_line, print_number, print_reply,
@@ -17,12 +17,16 @@ fn says(rt: &impl Abort, line: &str, want: Result<Command, LineFault>) {
 
 #[test]
 fn six_faulty_lines(rt: HostRuntime) {
-    says(&rt, "", Err(LineFault::Empty));
-    says(&rt, "fly 1", Err(LineFault::UnknownWord));
-    says(&rt, "create 0", Err(LineFault::FieldCount));
-    says(&rt, "create x a", Err(LineFault::Number));
-    says(&rt, "write 0 0 0 6", Err(LineFault::Hex));
-    says(&rt, "create 0 a%2", Err(LineFault::Key));
+    for (line, fault) in [
+        ("", LineFault::Empty),
+        ("fly 1", LineFault::UnknownWord),
+        ("create 0", LineFault::FieldCount),
+        ("create x a", LineFault::Number),
+        ("write 0 0 0 6", LineFault::Hex),
+        ("create 0 a%2", LineFault::Key),
+    ] {
+        says(&rt, line, Err(fault));
+    }
 }
 
 #[test]
@@ -153,19 +157,28 @@ fn lines_that_say_data(rt: HostRuntime) {
     }
 }
 
+// The number of bytes of the key or the data that a line says, where there is room for the line.
+fn length_of(line: &[u8], room: &mut [u8]) -> Option<Result<usize, LineFault>> {
+    if line.len() > room.len() {
+        return None;
+    }
+    match read_line(line, room) {
+        Ok(Command::DoomKey { key }) => Some(Ok(key.len())),
+        Ok(Command::SparseWrite { bytes, .. }) => Some(Ok(bytes.len())),
+        Ok(_) => None,
+        Err(fault) => Some(Err(fault)),
+    }
+}
+
 #[test]
 fn lines_are_bounded(rt: HostRuntime) -> Result<(), Fail> {
     let mut line = Vec::from_slice(rt.alloc(), b"doomkey ")?;
     line.resize(2200000, b'a')?;
     let mut room = vec![in rt.alloc(); 0; 2200001]?;
-    assert!(rt; line.len() <= room.len());
-    match read_line(&line, &mut room) {
-        Ok(Command::DoomKey { key }) => assert_eq!(rt; key.len(), 2199992),
-        other => assert!(rt; false, "{other:?}"),
-    }
+    assert_eq!(rt; length_of(&line, &mut room), Some(Ok(2199992)));
     line.push(b'a')?;
-    assert!(rt; line.len() <= room.len());
-    assert_eq!(rt; read_line(&line, &mut room), Err(LineFault::TooLong));
+    let fault = Some(Err(LineFault::TooLong));
+    assert_eq!(rt; length_of(&line, &mut room), fault);
     Ok(())
 }
 
@@ -174,98 +187,93 @@ fn data_is_bounded(rt: HostRuntime) -> Result<(), Fail> {
     let mut line = Vec::from_slice(rt.alloc(), b"swrite 0 0 ")?;
     line.resize(2097163, b'6')?;
     let mut room = vec![in rt.alloc(); 0; 2200000]?;
-    assert!(rt; line.len() <= room.len());
-    match read_line(&line, &mut room) {
-        Ok(Command::SparseWrite { bytes, .. }) => assert_eq!(rt; bytes.len(), 1048576),
-        other => assert!(rt; false, "{other:?}"),
-    }
+    assert_eq!(rt; length_of(&line, &mut room), Some(Ok(1048576)));
+
     // The digits are not looked at, but the fields in front are.
     line.push(b'x')?;
-    assert!(rt; line.len() <= room.len());
-    assert_eq!(rt; read_line(&line, &mut room), Err(LineFault::TooLong));
-    assert!(rt; line.len() > 7);
-    line[7] = b'x';
-    assert!(rt; line.len() <= room.len());
-    assert_eq!(rt; read_line(&line, &mut room), Err(LineFault::Number));
+    let fault = Some(Err(LineFault::TooLong));
+    assert_eq!(rt; length_of(&line, &mut room), fault);
+    if let Some(byte) = line.get_mut(7) {
+        *byte = b'x';
+    }
+    let fault = Some(Err(LineFault::Number));
+    assert_eq!(rt; length_of(&line, &mut room), fault);
     Ok(())
 }
 
 // Prints a command, compares the line, and reads it again.
-fn prints(rt: &impl Abort, alloc: Global, command: Command, want: &str) -> Result<(), Fail> {
+fn prints(rt: &impl Abort, alloc: Global, command: Command, want: &str) {
     let mut out = MemSink::new(alloc);
     assert_eq!(rt; print_line(&mut out, &command), Ok(()));
     let text = out.written();
     assert_eq!(rt; text, want.as_bytes());
     let mut room = [0; 64];
-    let Some((_, line)) = text.split_last() else {
-        return Ok(());
-    };
-    assert!(rt; line.len() <= room.len());
-    assert_eq!(rt; read_line(line, &mut room), Ok(command), "{want}");
-    Ok(())
+    if let Some((_, line)) = text.split_last() {
+        assert!(rt; line.len() <= room.len());
+        assert_eq!(rt; read_line(line, &mut room), Ok(command), "{want}");
+    }
 }
 
 #[test]
-fn commands_with_keys_are_printed(rt: HostRuntime) -> Result<(), Fail> {
-    let key = b"a b".as_slice();
-    prints(
-        &rt,
-        rt.alloc(),
-        Command::Create { handle: 7, key },
-        "create 7 a%20b\n",
-    )?;
-    let key = b"-._~/:%\x00\xFFzZ9".as_slice();
-    prints(
-        &rt,
-        rt.alloc(),
-        Command::Open { handle: 0, key },
-        "open 0 -._~/:%25%00%FFzZ9\n",
-    )?;
-    prints(&rt, rt.alloc(), Command::DoomKey { key: b"" }, "doomkey \n")
+fn commands_with_keys_are_printed(rt: HostRuntime) {
+    let (plain, odd) = (b"a b".as_slice(), b"-._~/:%\x00\xFFzZ9".as_slice());
+    for (command, want) in [
+        (
+            Command::Create {
+                handle: 7,
+                key: plain,
+            },
+            "create 7 a%20b\n",
+        ),
+        (
+            Command::Open {
+                handle: 0,
+                key: odd,
+            },
+            "open 0 -._~/:%25%00%FFzZ9\n",
+        ),
+        (Command::DoomKey { key: b"" }, "doomkey \n"),
+    ] {
+        prints(&rt, rt.alloc(), command, want);
+    }
 }
 
 #[test]
-fn commands_with_numbers_are_printed(rt: HostRuntime) -> Result<(), Fail> {
+fn commands_with_numbers_are_printed(rt: HostRuntime) {
     let read = Command::Read {
         handle: 65535,
         stream: 255,
         offset: 18446744073709551615,
         count: 10,
     };
-    prints(
-        &rt,
-        rt.alloc(),
-        read,
-        "read 65535 255 18446744073709551615 10\n",
-    )?;
     let (handle, offset, count) = (1, 20, 300);
     let sparse_read = Command::SparseRead {
         handle,
         offset,
         count,
     };
-    prints(&rt, rt.alloc(), sparse_read, "sread 1 20 300\n")?;
     let sparse_range = Command::SparseRange {
         handle,
         offset,
         count,
     };
-    prints(&rt, rt.alloc(), sparse_range, "srange 1 20 300\n")?;
-    prints(
-        &rt,
-        rt.alloc(),
-        Command::Size { handle, stream: 2 },
-        "size 1 2\n",
-    )?;
-    prints(&rt, rt.alloc(), Command::Doom { handle }, "doom 1\n")?;
-    prints(&rt, rt.alloc(), Command::Close { handle }, "close 1\n")?;
-    prints(&rt, rt.alloc(), Command::Trim { bytes: 0 }, "trim 0\n")?;
-    prints(&rt, rt.alloc(), Command::List, "list\n")?;
-    prints(&rt, rt.alloc(), Command::Total, "total\n")
+    for (command, want) in [
+        (read, "read 65535 255 18446744073709551615 10\n"),
+        (sparse_read, "sread 1 20 300\n"),
+        (sparse_range, "srange 1 20 300\n"),
+        (Command::Size { handle, stream: 2 }, "size 1 2\n"),
+        (Command::Doom { handle }, "doom 1\n"),
+        (Command::Close { handle }, "close 1\n"),
+        (Command::Trim { bytes: 0 }, "trim 0\n"),
+        (Command::List, "list\n"),
+        (Command::Total, "total\n"),
+    ] {
+        prints(&rt, rt.alloc(), command, want);
+    }
 }
 
 #[test]
-fn commands_with_data_are_printed(rt: HostRuntime) -> Result<(), Fail> {
+fn commands_with_data_are_printed(rt: HostRuntime) {
     let (handle, stream, offset) = (1, 2, 3);
     let bytes = [10, 255].as_slice();
     let write = Command::Write {
@@ -275,7 +283,6 @@ fn commands_with_data_are_printed(rt: HostRuntime) -> Result<(), Fail> {
         cut: false,
         bytes,
     };
-    prints(&rt, rt.alloc(), write, "write 1 2 3 0aff\n")?;
     let cut = Command::Write {
         handle,
         stream,
@@ -283,17 +290,18 @@ fn commands_with_data_are_printed(rt: HostRuntime) -> Result<(), Fail> {
         cut: true,
         bytes: b"",
     };
-    prints(&rt, rt.alloc(), cut, "cut 1 2 3 -\n")?;
-    prints(
-        &rt,
-        rt.alloc(),
-        Command::SparseWrite {
-            handle,
-            offset,
-            bytes,
-        },
-        "swrite 1 3 0aff\n",
-    )
+    let sparse_write = Command::SparseWrite {
+        handle,
+        offset,
+        bytes,
+    };
+    for (command, want) in [
+        (write, "write 1 2 3 0aff\n"),
+        (cut, "cut 1 2 3 -\n"),
+        (sparse_write, "swrite 1 3 0aff\n"),
+    ] {
+        prints(&rt, rt.alloc(), command, want);
+    }
 }
 
 // Prints an answer, and compares the line.
@@ -308,26 +316,21 @@ fn replies(rt: &impl Abort, alloc: Global, answer: Answer, want: &str) {
 
 #[test]
 fn answers_are_printed(rt: HostRuntime) {
-    replies(&rt, rt.alloc(), Answer::Done, "ok\n");
-    replies(&rt, rt.alloc(), Answer::Wrote(12), "ok 12\n");
-    replies(&rt, rt.alloc(), Answer::Trimmed(0), "ok 0\n");
-    replies(&rt, rt.alloc(), Answer::Size(20001), "size 20001\n");
-    replies(
-        &rt,
-        rt.alloc(),
-        Answer::Range {
-            start: 1024,
-            length: 127,
-        },
-        "range 1024 127\n",
-    );
-    replies(&rt, rt.alloc(), Answer::Listed(3), "end 3\n");
-    replies(
-        &rt,
-        rt.alloc(),
-        Answer::Totals { items: 2, bytes: 4 },
-        "total 2 4\n",
-    );
+    let range = Answer::Range {
+        start: 1024,
+        length: 127,
+    };
+    for (answer, want) in [
+        (Answer::Done, "ok\n"),
+        (Answer::Wrote(12), "ok 12\n"),
+        (Answer::Trimmed(0), "ok 0\n"),
+        (Answer::Size(20001), "size 20001\n"),
+        (range, "range 1024 127\n"),
+        (Answer::Listed(3), "end 3\n"),
+        (Answer::Totals { items: 2, bytes: 4 }, "total 2 4\n"),
+    ] {
+        replies(&rt, rt.alloc(), answer, want);
+    }
 }
 
 #[test]
@@ -375,14 +378,18 @@ fn faults_are_printed(rt: HostRuntime) -> Result<(), Fail> {
     Ok(())
 }
 
+// Prints a number, a key, no bytes and some bytes.
+fn print_parts<K: Sink>(out: &mut K, bytes: &[u8]) -> Result<(), Failed> {
+    print_number(out, 18446744073709551615)?;
+    print_key(out, b"k %")?;
+    print_bytes(out, b"")?;
+    print_bytes(out, bytes)
+}
+
 #[test]
 fn parts_are_printed(rt: HostRuntime) -> Result<(), Fail> {
     let mut out = MemSink::new(rt.alloc());
-    let bytes = [0xA5; 300];
-    assert_eq!(rt; print_number(&mut out, 18446744073709551615), Ok(()));
-    assert_eq!(rt; print_key(&mut out, b"k %"), Ok(()));
-    assert_eq!(rt; print_bytes(&mut out, b""), Ok(()));
-    assert_eq!(rt; print_bytes(&mut out, &bytes), Ok(()));
+    assert_eq!(rt; print_parts(&mut out, &[0xA5; 300]), Ok(()));
     let mut want = Vec::from_slice(rt.alloc(), b"18446744073709551615k%20%25")?;
     for _ in 0..300 {
         want.extend_from_slice(b"a5")?;
@@ -396,9 +403,12 @@ fn a_sink_fails_in_the_middle(rt: HostRuntime) -> Result<(), Fail> {
     let mut out = MemSink::new(rt.alloc());
     out.fail_at(3).ok().ok_or("memory")?;
     let command = Command::Doom { handle: 12 };
-    assert_eq!(rt; print_line(&mut out, &command), Err(Failed));
-    assert_eq!(rt; out.written(), b"doom ".as_slice());
-    assert_eq!(rt; print_line(&mut out, &command), Ok(()));
-    assert_eq!(rt; out.written(), b"doom doom 12\n".as_slice());
+    for (answer, text) in [
+        (Err(Failed), b"doom ".as_slice()),
+        (Ok(()), b"doom doom 12\n".as_slice()),
+    ] {
+        assert_eq!(rt; print_line(&mut out, &command), answer);
+        assert_eq!(rt; out.written(), text);
+    }
     Ok(())
 }
