@@ -1,0 +1,4 @@
+pub mod Placed
+pub mod Ordered
+pub mod Owners
+pub mod WalkFacts

@@ -2,7 +2,11 @@
 #![tactic(auto)]
 
 mod chains;
+mod nodes;
+mod ordering;
+mod outcomes;
 mod scan;
+mod telling;
 
 pub use chains::KeptChains;
 pub use scan::{Dropped, Kept, Scan};
