@@ -13,7 +13,8 @@ use Rattle.blk_volume.specs.View.{store_of}
 use Rattle.blk_repair_laws.specs.ChainRepair.{AreChainsMended, HasChainsUpTo, chain_repair_steps, chain_steps, chains_steps, kept_records}
 use Rattle.blk_repair_laws.specs.ListRepair.{HoldsTheSame}
 use Rattle.blk_repair_laws.proofs.ChainRepair.{chains-begin, chains-repaired}
-use Rattle.blk_repair.specs.Chains.{AreChainsScanned, IsNextBucket, records_of}
+use Rattle.blk_audit.specs.BucketEnds.{records_of}
+use Rattle.blk_repair.specs.Chains.{AreChainsScanned, IsNextBucket}
 use Rattle.blk_repair.proofs.ChainRuns.{mends-next, quiet-chain}
 
 -- the chains below a bucket were mended, by the first of the steps of the repair; those of so many buckets are left

@@ -1,11 +1,12 @@
 -- The chain that is mended next, and the kept records of all chains.
-use Rattle.std.specs.Prelude.{ℕ, zero, suc, ◌-◌, ◌<◌, ◌≤◌, ◌≡◌, Bool, true, false, List, length, take, drop, slice_index, slice_index_or}
+use Rattle.std.specs.Prelude.{ℕ, ◌<◌, ◌≡◌, Bool, true, false, List, slice_index_or}
 use Rattle.blk_image.specs.Image.{Image}
 use Rattle.blk_format.specs.BlockFiles.{IsWellFormed}
 use Rattle.blk_format.specs.Headers.{table_length}
 use Rattle.blk_volume.specs.Chains.{IsChain}
 use Rattle.blk_volume.specs.ListImages.{IsWritable}
 use Rattle.blk_volume.specs.View.{store_of}
+use Rattle.blk_audit.specs.BucketEnds.{records_of}
 use Rattle.blk_repair_laws.specs.ChainRepair.{HasChainsUpTo, KeepsAllWalked, kept_records}
 
 -- the list was mended, the chains below this bucket are, and these are the kept records of the bucket
@@ -19,21 +20,6 @@ pub record IsNextChain (from : Image) (bucket : ℕ) (records : List ℕ) (image
 pub record IsNextBucket (from : Image) (bucket : ℕ) (records : List ℕ) (whole : Bool) (image : Image) : Type 0 where
   pub next : IsNextChain from bucket records image
   pub is_whole : whole ≡ true → IsChain (store_of from) bucket records
-
--- where the records of a bucket begin among those of all buckets, by where those of each end
-abbrev pub begin_of : List ℕ → ℕ → ℕ
-begin_of ends zero = 0
-begin_of ends (suc before) = slice_index ends before
-
--- the records of a bucket among those of all buckets
-abbrev pub records_of : (records ends : List ℕ) → ℕ → List ℕ
-records_of records ends bucket = take (slice_index ends bucket - begin_of ends bucket) (drop (begin_of ends bucket) records)
-
--- each bucket has some of the records, those of one behind those of the one before
-pub record AreEnds (records ends : List ℕ) : Type 0 where
-  pub many : length ends ≡ table_length
-  pub rising : (bucket : ℕ) → bucket < table_length → begin_of ends bucket ≤ slice_index ends bucket
-  pub inside : (bucket : ℕ) → bucket < table_length → slice_index ends bucket ≤ length records
 
 -- the list was mended, and these are the kept records of all buckets; each bucket that is told whole is the chain of its records
 pub record AreChainsScanned (records ends : List ℕ) (whole : List Bool) (image : Image) : Type 0 where
