@@ -12,6 +12,8 @@ pub mod Completed
 pub mod ReadChains
 pub mod Shown
 pub mod Chained
+pub mod Ends
+pub mod StandingNodes
 pub mod FirstBlocks
 pub mod AllChains
 pub mod PiecesOfRecords

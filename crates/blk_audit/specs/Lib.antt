@@ -1,3 +1,4 @@
+pub mod BucketEnds
 pub mod ChainLaws
 pub mod Chaining
 pub mod Changes

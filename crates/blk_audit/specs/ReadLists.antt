@@ -12,10 +12,11 @@ use Rattle.blk_addr.specs.Claims.{contains_claim}
 use Rattle.blk_addr.specs.declared.claim_set.Claims.{Claims}
 use Rattle.blk_volume.specs.ListImages.{completed_walk}
 use Rattle.blk_volume.specs.View.{NodeFields, store_of}
-use Rattle.blk_audit.specs.Chaining.{AreReached, reached_by, words_reached}
+use Rattle.blk_disk.specs.declared.tables.BlockFiles.{BlockFiles}
+use Rattle.blk_audit.specs.Chaining.{AreBucketsOf, AreReached, HasBuckets, RecordsStand, reached_by, words_reached}
 use Rattle.blk_audit.specs.Nodes.{AreNodesOf, loaded_node, node_of}
 use Rattle.blk_audit.specs.Records.{AreRecordsOf}
-use Rattle.blk_audit.specs.Walking.{AreMet, nodes_walked}
+use Rattle.blk_audit.specs.Walking.{AreMet, NodesStand, nodes_walked}
 use Rattle.blk_audit.specs.declared.list_walk.Walked.{Walked}
 use Rattle.blk_audit.specs.declared.named.WalkedNode.{WalkedNode}
 use Rattle.blk_audit.specs.declared.nodes.Node.{Node}
@@ -60,10 +61,17 @@ pub record AreListsOf (image : Image) (lists : Lists) : Type 0 where
   pub walked : nodes_walked lists.walked ≡ completed_walk image
   pub met : AreMet lists.walked
   pub reached : words_reached lists.reached ≡ reached_by (store_of image) table_length
+  pub buckets : AreBucketsOf (store_of image) lists.reached
   pub known : AreReached lists.reached
   pub nodes : AreNodesOf image lists.nodes
   pub records : AreRecordsOf image lists.records
   pub named : AreNamed lists.nodes (nodes_walked lists.walked) lists.named
+
+-- the walked nodes and the reached records stand among the block files, and each bucket has its end among the records
+pub record AreListsAmong (files : BlockFiles) (lists : Lists) : Type 0 where
+  pub nodes : NodesStand files (nodes_walked lists.walked)
+  pub records : RecordsStand files (words_reached lists.reached)
+  pub buckets : HasBuckets lists.reached
 
 -- that is what a node of an image says
 abbrev pub IsSaidAt : Image → WalkedNode → Type 0

@@ -17,7 +17,7 @@ use Rattle.blk_addr.specs.Claims.{IsClaimsOf}
 use Rattle.blk_disk.specs.declared.tables.BlockFiles.{BlockFiles}
 use Rattle.blk_disk.specs.Tables.{is_node_among, is_record_among}
 use Rattle.blk_audit.specs.Sealable.{CanBeSealed}
-use Rattle.blk_repair_laws.specs.BucketEnds.{AreEnds, records_of}
+use Rattle.blk_audit.specs.BucketEnds.{AreEnds, records_of}
 use Rattle.blk_repair_laws.specs.ChainRepair.{kept_records}
 use Rattle.blk_repair_laws.specs.KeptSeals.{AreOthersSealed, IsOfKept}
 use Rattle.blk_verdict.specs.Reasons.{reason_of}
