@@ -1,6 +1,5 @@
 -- What is told in the order of the walk is what is kept and dropped of it.
-use Rattle.std.proofs.Common.{◌≡◌, ◌+◌, ℕ, zero, suc, Bool, List, [], ◌∷◌, map, length, get_or, Option, None, Some, Result, Ok, Err, refl, sym, ap, ap₂, subst, ◌∙◌, arith}
-use Rattle.std.specs.Prelude.{slice_get}
+use Rattle.std.proofs.Common.{◌≡◌, ◌+◌, ℕ, Bool, List, [], ◌∷◌, map, Option, None, Some, Result, Ok, Err, refl, sym, ap, ap₂, subst, ◌∙◌}
 use Rattle.std.specs.List.{AllZip, cons_option, filter_map, sum_by}
 use Rattle.std.proofs.lemmas.List.Sums.{sum_by-cons}
 use Rattle.blk_image.specs.Image.{Image}
@@ -15,19 +14,12 @@ use Rattle.blk_verdict.specs.Reasons.{reason_of}
 use Rattle.blk_verdict.specs.declared.loading.Loaded.{Loaded}
 use Rattle.blk_verdict.proofs.KeptKeysFound.{charged}
 use Rattle.blk_verdict.proofs.SoughtFacts.{part_said}
-use Rattle.blk_scan.specs.Outcomes.{IsOutcomeIf, dropped_at, dropped_in, kept_by_record, record_in}
+use Rattle.blk_scan.specs.Outcomes.{IsOutcomeIf, dropped_at, dropped_in, kept_by_record, record_of_outcome}
 use Rattle.blk_scan.specs.Scans.{dropped_by_told, kept_as_told}
 use Rattle.blk_scan.specs.declared.outcomes.Outcome.{Outcome}
 use Rattle.blk_scan.specs.declared.outcomes.Outcome.TheVariants as outcome
 use Rattle.blk_scan.specs.declared.scan.Dropped.{Dropped}
 use Rattle.blk_scan.specs.declared.scan.Kept.{Kept}
-
--- what holds at each place holds of both lists
-pub paired : {A B : Type 0} (R : A → B → Type 0) (xs : List A) (ys : List B) (d : B) → length xs ≡ length ys → ((i : ℕ) (x : A) → slice_get xs i ≡ Some x → R x (get_or ys i d)) → AllZip R xs ys
-paired R [] [] d e each = tt
-paired R [] (y ∷ ys) d e each = absurd (omega (arith, e))
-paired R (x ∷ xs) [] d e each = absurd (omega (arith, e))
-paired R (x ∷ xs) (y ∷ ys) d e each = (each 0 x refl, paired R xs ys d (omega (arith, e)) (λ i z at. each (suc i) z at))
 
 -- two lists with the same of each
 maps_same : {A B C : Type 0} (R : A → B → Type 0) (f : A → C) (g : B → C) → ((x : A) (y : B) → R x y → g y ≡ f x) → (xs : List A) (ys : List B) → AllZip R xs ys → map g ys ≡ map f xs
@@ -39,14 +31,14 @@ maps_same R f g each (x ∷ xs) (y ∷ ys) all = ap₂ (λ c cs. c ∷ cs) (each
 module _ (image : Image) (said : List Loaded) (given : ℕ → Option (Result shown.Loaded reasons.Reason)) where
   -- the kept records in the order of the walk are those that are kept of it
   pub in_order_shown : (nodes : List ℕ) (outcomes : List (Option Outcome)) → AllZip (λ w o. IsOutcomeIf image said (given w) o) nodes outcomes
-      → AreShown image (filter_map (λ node. kept_of (given node)) nodes) (filter_map (record_in said) outcomes)
+      → AreShown image (filter_map (λ node. kept_of (given node)) nodes) (filter_map (record_of_outcome said) outcomes)
   in_order_shown [] [] all = tt
   in_order_shown [] (o ∷ outcomes) all = absurd all
   in_order_shown (node ∷ nodes) [] all = absurd all
-  in_order_shown (node ∷ nodes) (o ∷ outcomes) all = go (given node) o all.0 (filter_map (λ w. kept_of (given w)) nodes) (filter_map (record_in said) outcomes) (in_order_shown nodes outcomes all.1)
+  in_order_shown (node ∷ nodes) (o ∷ outcomes) all = go (given node) o all.0 (filter_map (λ w. kept_of (given w)) nodes) (filter_map (record_of_outcome said) outcomes) (in_order_shown nodes outcomes all.1)
     where
       go : (r : Option (Result shown.Loaded reasons.Reason)) (o : Option Outcome) → IsOutcomeIf image said r o → (ks : List shown.Loaded) (ss : List Loaded) → AreShown image ks ss
-          → AreShown image (cons_option (kept_of r) ks) (cons_option (record_in said o) ss)
+          → AreShown image (cons_option (kept_of r) ks) (cons_option (record_of_outcome said o) ss)
       go None o is ks ss more = absurd is
       go (Some r) None is ks ss more = absurd is
       go (Some (Ok loaded)) (Some (outcome.Kept i)) is ks ss more = subst (λ (one : Option Loaded). AreShown image (loaded ∷ ks) (cons_option one ss)) (sym is.at) (is.is, more)

@@ -127,7 +127,7 @@ sum_both p h nodes = sum_by-append h (filter (λ node. not (p node)) nodes) (fil
 -- The claims of those that are kept.
 
 module _ (image : Image) where
-  abbrev given_here : ℕ → Option shown.Loaded
+  abbrev pub given_here : ℕ → Option shown.Loaded
   given_here node = kept_of (verdict_on (judged (store_of image) held_rule (completed_walk image)) node)
 
   tried_here : kept_after (store_of image) held_rule [] (tried (store_of image) (completed_walk image)) ≡ filter_map given_here (tried (store_of image) (completed_walk image))

@@ -1,3 +1,5 @@
+pub mod Faults
 pub mod Ordering
 pub mod Outcomes
+pub mod Packing
 pub mod Scans

@@ -44,25 +44,25 @@ pub record IsKeptAt (image : Image) (kept : List Loaded) (loaded : shown.Loaded)
   pub is : IsLoadedFrom image loaded said
 
 -- the outcome is a verdict: the kept record, or the reason
-abbrev pub IsOutcome : Image → List Loaded → Result shown.Loaded reasons.Reason → Outcome → Type 0
-IsOutcome image kept (Ok loaded) (outcome.Kept i) = IsKeptAt image kept loaded i
-IsOutcome image kept (Ok loaded) (outcome.Dropped reason) = ⊥
-IsOutcome image kept (Err reason) (outcome.Kept i) = ⊥
-IsOutcome image kept (Err reason) (outcome.Dropped given) = reason_of given ≡ reason
+abbrev pub IsOutcomeOf : Image → List Loaded → Result shown.Loaded reasons.Reason → Outcome → Type 0
+IsOutcomeOf image kept (Ok loaded) (outcome.Kept i) = IsKeptAt image kept loaded i
+IsOutcomeOf image kept (Ok loaded) (outcome.Dropped reason) = ⊥
+IsOutcomeOf image kept (Err reason) (outcome.Kept i) = ⊥
+IsOutcomeOf image kept (Err reason) (outcome.Dropped given) = reason_of given ≡ reason
 
 -- both are there, and it is so
 abbrev pub IsOutcomeIf : Image → List Loaded → Option (Result shown.Loaded reasons.Reason) → Option Outcome → Type 0
 IsOutcomeIf image kept None given = ⊥
 IsOutcomeIf image kept (Some verdict) None = ⊥
-IsOutcomeIf image kept (Some verdict) (Some given) = IsOutcome image kept verdict given
+IsOutcomeIf image kept (Some verdict) (Some given) = IsOutcomeOf image kept verdict given
 
 -- What is told by them.
 
 -- the kept record of an outcome
-abbrev pub record_in : List Loaded → Option Outcome → Option Loaded
-record_in kept None = None
-record_in kept (Some (outcome.Kept i)) = slice_get kept i
-record_in kept (Some (outcome.Dropped reason)) = None
+abbrev pub record_of_outcome : List Loaded → Option Outcome → Option Loaded
+record_of_outcome kept None = None
+record_of_outcome kept (Some (outcome.Kept i)) = slice_get kept i
+record_of_outcome kept (Some (outcome.Dropped reason)) = None
 
 -- what is told of a kept record
 abbrev pub kept_by_record : Loaded → Kept

@@ -6,6 +6,7 @@ mod nodes;
 mod ordering;
 mod outcomes;
 mod scan;
+mod scanning;
 mod telling;
 
 pub use chains::KeptChains;

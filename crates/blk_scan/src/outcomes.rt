@@ -1,9 +1,8 @@
 // What came of the walked nodes, put back into the order of the walk.
-ghost use Rattle.std.specs.Prelude.{◌≡◌, ◌≤◌, ◌++◌, IfOk, None, OnOk, Some, length, replicate, set};
-ghost use Rattle.std.specs.List.{filter_map};
-ghost use Rattle.std.specs.Option.{option_to_list};
+ghost use Rattle.std.specs.Prelude.{◌≡◌, ◌≤◌, ◌<◌, ◌+◌, ◌^◌, ◌++◌, [], IfOk, None, OnOk, Some, length, replicate, set};
+ghost use Rattle.std.specs.List.{cons_option, filter_map};
 ghost use Rattle.blk_scan.specs.Outcomes as shown;
-ghost use Rattle.blk_scan.specs.Outcomes.{outcome_after, with_tried};
+ghost use Rattle.blk_scan.specs.Outcomes.{count_after, outcome_after, with_tried};
 
 use blk_addr::NoMemory;
 use blk_verdict::{Loaded, Reason, Tried};
@@ -25,16 +24,15 @@ pub(crate) fn by_place(
     count: usize,
     tried: &[Tried],
 ) -> Result<Vec<Option<Outcome>>, NoMemory>
-    ensures { IfOk result (λ outcomes. outcomes.items ≡ with_tried (replicate count None) 0 tried.now) }
+    ensures placed { IfOk result (λ outcomes. outcomes.items ≡ with_tried (replicate count None) 0 tried.now) }
+    ensures long { IfOk result (λ outcomes. length outcomes.items ≡ count) }
 {
     let mut outcomes = Vec::new(alloc);
     outcomes.resize(count, None)?;
     let mut kept = 0usize;
     for one in tried {
         put(&mut outcomes, one.place, outcome_of(kept, one.reason));
-        if one.reason.is_none() {
-            kept += 1;
-        }
+        kept = count_with(kept, one.reason);
     }
     Ok(outcomes)
 }
@@ -46,6 +44,17 @@ fn outcome_of(kept: usize, reason: Option<Reason>) -> Outcome
     match reason {
         None => Outcome::Kept(kept),
         Some(reason) => Outcome::Dropped(reason),
+    }
+}
+
+// So many are kept with a node that was tried, where so many were kept before it.
+fn count_with(kept: usize, reason: Option<Reason>) -> usize
+    requires few { kept + 1 < 2 ^ 64 }
+    ensures { result ≡ count_after kept reason }
+{
+    match reason {
+        None => kept + 1,
+        Some(_) => kept,
     }
 }
 
@@ -64,19 +73,19 @@ pub(crate) fn in_order(
     records: &[Loaded],
     outcomes: &[Option<Outcome>],
 ) -> Result<Vec<Loaded>, NoMemory>
-    ensures kept { IfOk result (λ kept. kept.items ≡ filter_map (shown.record_in records.now) outcomes.now) }
+    ensures kept { IfOk result (λ kept. kept.items ≡ filter_map (shown.record_of_outcome records.now) outcomes.now) }
     ensures few { IfOk result (λ kept. length kept.items ≤ length outcomes.now) }
 {
     let mut kept = Vec::new(alloc);
     for outcome in outcomes {
-        add(&mut kept, record_in(records, *outcome))?;
+        add(&mut kept, record_of(records, *outcome))?;
     }
     Ok(kept)
 }
 
 // The kept record of an outcome.
-fn record_in(records: &[Loaded], outcome: Option<Outcome>) -> Option<Loaded>
-    ensures { result ≡ shown.record_in records.now outcome }
+fn record_of(records: &[Loaded], outcome: Option<Outcome>) -> Option<Loaded>
+    ensures { result ≡ shown.record_of_outcome records.now outcome }
 {
     match outcome {
         None => None,
@@ -86,11 +95,11 @@ fn record_in(records: &[Loaded], outcome: Option<Outcome>) -> Option<Loaded>
 }
 
 // Adds a record, if there is one.
-fn add(kept: &mut Vec<Loaded>, record: Option<Loaded>) -> Result<(), NoMemory>
-    ensures { OnOk result (kept.new.items ≡ kept.old.items ++ option_to_list record) }
+fn add(kept: &mut Vec<Loaded>, one: Option<Loaded>) -> Result<(), NoMemory>
+    ensures { OnOk result (kept.new.items ≡ kept.old.items ++ cons_option one []) }
 {
-    if let Some(record) = record {
-        kept.push(record)?;
+    if let Some(one) = one {
+        kept.push(one)?;
     }
     Ok(())
 }

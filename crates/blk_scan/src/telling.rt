@@ -1,6 +1,6 @@
 // What is told of the nodes and the records that are kept and dropped.
-ghost use Rattle.std.specs.Prelude.{◌≡◌, ◌++◌, IfOk, OnOk, length, map};
-ghost use Rattle.std.specs.Option.{option_to_list};
+ghost use Rattle.std.specs.Prelude.{◌≡◌, ◌++◌, [], IfOk, OnOk, length, map};
+ghost use Rattle.std.specs.List.{cons_option};
 ghost use Rattle.blk_verdict.specs.Kept.{is_part_said};
 ghost use Rattle.blk_scan.specs.Outcomes as shown;
 ghost use Rattle.blk_scan.specs.Outcomes.{dropped_in, kept_by_record};
@@ -81,7 +81,7 @@ fn dropped_at(node: Addr, outcome: Option<Outcome>) -> Option<Dropped>
 
 // Adds what is told of a node, if it is dropped.
 fn add(dropped: &mut Vec<Dropped>, one: Option<Dropped>) -> Result<(), NoMemory>
-    ensures { OnOk result (dropped.new.items ≡ dropped.old.items ++ option_to_list one) }
+    ensures { OnOk result (dropped.new.items ≡ dropped.old.items ++ cons_option one []) }
 {
     if let Some(one) = one {
         dropped.push(one)?;
