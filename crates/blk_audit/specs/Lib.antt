@@ -8,4 +8,5 @@ pub mod Filling
 pub mod Nodes
 pub mod ReadLists
 pub mod Records
+pub mod SealLaws
 pub mod Walking
