@@ -12,7 +12,7 @@ use Rattle.blk_volume.specs.Chains.{chain}
 use Rattle.blk_volume.specs.View.{StoreView}
 use Rattle.blk_disk.specs.declared.tables.BlockFiles.{BlockFiles}
 use Rattle.blk_disk.specs.Tables.{is_record_among}
-use Rattle.blk_audit.specs.BucketEnds.{AreEnds, begin_of, records_of}
+use Rattle.blk_audit.specs.BucketEnds.{begin_of, records_of}
 use Rattle.blk_audit.specs.Chaining.{AreBucketsOf, AreCut, AreFirstReached, AreReached, HasBuckets, KeepsEnds, RecordsStand, closed_by, ends_by, reached_by}
 use Rattle.blk_audit.specs.declared.reaching.Reached.{Reached}
 

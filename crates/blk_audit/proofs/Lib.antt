@@ -18,4 +18,5 @@ pub mod FirstBlocks
 pub mod AllChains
 pub mod PiecesOfRecords
 pub mod RecordFacts
+pub mod CheckedSeals
 pub mod ReadNodes

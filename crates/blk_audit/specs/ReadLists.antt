@@ -4,14 +4,15 @@ use Rattle.std.specs.Option.{option_and_then, option_map, option_map_or}
 use Rattle.std.specs.declared.option.Option.{Option}
 use Rattle.std.specs.declared.option.Option.TheVariants.{None, Some}
 use Rattle.blk_image.specs.Image.{Image}
-use Rattle.blk_format.specs.Address.{blocks_256, file_selector, first_block, is_address, kind_of}
+use Rattle.blk_format.specs.Address.{blocks_256, file_selector, first_block, is_address, kind_of, rankings}
 use Rattle.blk_format.specs.BlockFiles.{is_among}
 use Rattle.blk_format.specs.Claims.{BlockOf}
 use Rattle.blk_format.specs.Headers.{table_length}
 use Rattle.blk_addr.specs.Claims.{contains_claim}
 use Rattle.blk_addr.specs.declared.claim_set.Claims.{Claims}
 use Rattle.blk_volume.specs.ListImages.{completed_walk}
-use Rattle.blk_volume.specs.View.{NodeFields, store_of}
+use Rattle.blk_format.specs.Records.{node_checks}
+use Rattle.blk_volume.specs.View.{NodeFields, node_at, store_of}
 use Rattle.blk_disk.specs.declared.tables.BlockFiles.{BlockFiles}
 use Rattle.blk_audit.specs.Chaining.{AreBucketsOf, AreReached, HasBuckets, RecordsStand, reached_by, words_reached}
 use Rattle.blk_audit.specs.Nodes.{AreNodesOf, loaded_node, node_of}
@@ -77,10 +78,13 @@ pub record AreListsAmong (files : BlockFiles) (lists : Lists) : Type 0 where
 abbrev pub IsSaidAt : Image → WalkedNode → Type 0
 IsSaidAt image said = (store_of image).node_fields said.addr ≡ Some (record { contents = said.contents; dirty = said.dirty })
 
--- this is one of the walked nodes, and what an image says at it
+-- this is one of the walked nodes, which checks, and what an image says at it
 pub record IsWalkedNode (image : Image) (walked : Walked) (i : ℕ) (said : WalkedNode) : Type 0 where
   pub addr : slice_get (nodes_walked walked) i ≡ Some said.addr
   pub fields : IsSaidAt image said
+  pub kind : kind_of said.addr ≡ rankings
+  pub checks : node_checks (node_at image said.addr) ≡ true
+  pub seal : said.seal ≡ (node_at image said.addr).self_hash
 
 -- whether a node of an image is walked and names a record
 abbrev pub is_named_by : Image → ℕ → ℕ → Bool

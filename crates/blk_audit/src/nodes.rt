@@ -25,6 +25,7 @@ pub(crate) struct Node {
     pub(crate) prev: u32,
     pub(crate) contents: u32,
     pub(crate) dirty: u32,
+    pub(crate) seal: u32,
 }
 
 // The nodes of the linked files, file after file: where those of each file begin, and how many there are.
