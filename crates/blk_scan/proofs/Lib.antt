@@ -1,3 +1,4 @@
+pub mod BareFacts
 pub mod Packed
 pub mod Placed
 pub mod Ordered

@@ -10,7 +10,6 @@ use Rattle.blk_volume.specs.Loads.{is_part}
 use Rattle.blk_volume.specs.Reasons as reasons
 use Rattle.blk_verdict.specs.Charges.{charge_said}
 use Rattle.blk_verdict.specs.Kept.{AreShown, IsLoadedFrom, is_part_said}
-use Rattle.blk_verdict.specs.Reasons.{reason_of}
 use Rattle.blk_verdict.specs.declared.loading.Loaded.{Loaded}
 use Rattle.blk_verdict.proofs.KeptKeysFound.{charged}
 use Rattle.blk_verdict.proofs.SoughtFacts.{part_said}

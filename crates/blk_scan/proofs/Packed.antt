@@ -1,7 +1,7 @@
 -- The kept records of the buckets, packed behind one another, one bucket more.
-use Rattle.std.proofs.Common.{◌≡◌, ◌≢◌, ◌<◌, ◌≤◌, ◌+◌, ◌-◌, ℕ, zero, suc, Bool, true, false, ◌&&◌, List, [], ◌∷◌, ◌++◌, map, take, drop, length, get_or, Option, None, Some, refl, sym, ap, ap₂, subst, ◌∙◌, ⊎_elim, arith}
+use Rattle.std.proofs.Common.{◌≡◌, ◌≢◌, ◌<◌, ◌≤◌, ◌+◌, ◌-◌, ℕ, zero, suc, Bool, true, false, ◌&&◌, List, [], ◌∷◌, ◌++◌, map, take, drop, length, min, refl, sym, ap, ap₂, subst, ◌∙◌, ⊎_elim, arith}
 use Rattle.std.specs.Prelude.{All, slice_index, slice_index_or, ◌==◌, ◌||◌}
-use Rattle.std.specs.List.{AllZip, filter, list_all, list_any}
+use Rattle.std.specs.List.{filter, list_all}
 use Rattle.std.proofs.lemmas.Bool.{and_parts, cases_Bool, eqb-true}
 use Rattle.std.proofs.lemmas.Bool.Decides.{eqb_tells}
 use Rattle.std.proofs.Math.Dec.{eqb}
@@ -34,17 +34,26 @@ split_take b e xs less =
     sym (take-append-drop b (take e xs))
     ∙ ap₂ (λ (us vs : List ℕ). us ++ vs) (take-take b e xs less) (ap (λ (n : ℕ). drop b (take n xs)) (sym whole) ∙ drop-take b m xs)
 
+-- a filter keeps no more than there are
+at_most : (keep : ℕ → Bool) (xs : List ℕ) → length (filter keep xs) ≤ length xs
+at_most keep [] = omega arith
+at_most keep (x ∷ xs) =
+    let few : length (filter keep xs) ≤ length xs = at_most keep xs in
+    ⊎_elim (λ (k : keep x ≡ true). rw k (omega (arith, few))) (λ (k : keep x ≡ false). rw k (omega (arith, few))) (cases_Bool (keep x))
+
+pub few_more : (keep : ℕ → Bool) (old own new : List ℕ) → new ≡ old ++ filter keep own → length new ≤ length old + length own
+few_more keep old own new is =
+    let long : length new ≡ length old + length (filter keep own) = ap length is ∙ length-append old (filter keep own) in
+    let few : length (filter keep own) ≤ length own = at_most keep own in
+    omega (arith, long, few)
+
 -- a filter that leaves nothing out keeps all
 full : (keep : ℕ → Bool) (xs : List ℕ) → length (filter keep xs) ≡ length xs → filter keep xs ≡ xs
 full keep [] e = refl
 full keep (x ∷ xs) e = ⊎_elim
     (λ (k : keep x ≡ true). let here : length (x ∷ filter keep xs) ≡ length (x ∷ xs) = rw k at e in rw k (ap (λ (ys : List ℕ). x ∷ ys) (full keep xs (omega (arith, here)))))
-    (λ (k : keep x ≡ false). let here : length (filter keep xs) ≡ length (x ∷ xs) = rw k at e in let few = at_most keep xs in absurd (omega (arith, here, few)))
+    (λ (k : keep x ≡ false). let here : length (filter keep xs) ≡ length (x ∷ xs) = rw k at e in let few : length (filter keep xs) ≤ length xs = at_most keep xs in absurd (omega (arith, here, few)))
     (cases_Bool (keep x))
-  where
-    at_most : (keep : ℕ → Bool) (xs : List ℕ) → length (filter keep xs) ≤ length xs
-    at_most keep [] = omega arith
-    at_most keep (x ∷ xs) = ⊎_elim (λ (k : keep x ≡ true). rw k (let few = at_most keep xs in omega (arith, few))) (λ (k : keep x ≡ false). rw k (let few = at_most keep xs in omega (arith, few))) (cases_Bool (keep x))
 
 -- the beginnings of buckets stay while ends are added
 begins : (ends more : List ℕ) (b : ℕ) → b ≤ length ends → begin_of (ends ++ more) b ≡ begin_of ends b
@@ -64,6 +73,27 @@ bucket_stays records others ends more b below rising inside =
     ap₂ (λ (l f : ℕ). take (l - f) (drop f (records ++ others))) here begun
     ∙ ap (take (last - first)) behind ∙ take-append-le (last - first) (drop first records) others (omega (arith, rising, inside, left))
 
+next_number : (n : ℕ) → suc n ≡ n + 1
+next_number n = omega arith
+
+pub begin_next : (ends : List ℕ) (n : ℕ) → slice_index ends n ≡ begin_of ends (n + 1)
+begin_next ends n = ap (begin_of ends) (next_number n)
+
+-- as many records as lie before a bucket, and its own, are few where its end is small
+pub few_packed : (keep : ℕ → Bool) (records ends : List ℕ) (closed : List Bool) (n first : ℕ) (chains : KeptChains) → ArePacked keep records ends closed n chains → first ≡ begin_of ends n → begin_of ends n ≤ slice_index ends n → slice_index ends n < 4294967296
+    → length chains.records.items + length (take (slice_index ends n - first) (drop first records)) < 4294967296
+few_packed keep records ends closed n first chains packed begun rising small =
+    let b : ℕ = begin_of ends n in
+    let e : ℕ = slice_index ends n in
+    let kept_few : length chains.records.items ≤ length (take b records) = subst (λ (rs : List ℕ). length rs ≤ length (take b records)) (sym packed.all) (at_most keep (take b records)) in
+    let front : length (take b records) ≡ min b (length records) = length-take b records in
+    let own : length (take (e - first) (drop first records)) ≡ min (e - first) (length (drop first records)) = length-take (e - first) (drop first records) in
+    omega (arith, kept_few, front, own, begun, rising, small)
+
+-- the records of a bucket, by where it was found to begin
+pub own_of : (records ends : List ℕ) (n first : ℕ) → first ≡ begin_of ends n → take (slice_index ends n - first) (drop first records) ≡ records_of records ends n
+own_of records ends n first begun = ap (λ (f : ℕ). take (slice_index ends n - f) (drop f records)) begun
+
 module _ (keep : ℕ → Bool) (records ends : List ℕ) (closed : List Bool) where
   pub none_packed : (chains : KeptChains) → chains.records.items ≡ [] → chains.ends.items ≡ [] → chains.whole.items ≡ [] → ArePacked keep records ends closed 0 chains
   none_packed chains no_records no_ends no_whole = record {
@@ -79,7 +109,7 @@ module _ (keep : ℕ → Bool) (records ends : List ℕ) (closed : List Bool) wh
   }
 
   -- the chains with one bucket more
-  record IsNext (n : ℕ) (old new : KeptChains) : Type 0 where
+  pub record IsNext (n : ℕ) (old new : KeptChains) : Type 0 where
     is_closed : Bool
     was_closed : is_closed ≡ slice_index_or closed n false
     next_records : new.records.items ≡ old.records.items ++ filter keep (records_of records ends n)
@@ -161,10 +191,13 @@ module _ (keep : ℕ → Bool) (records ends : List ℕ) (closed : List Bool) wh
           let l = longer in full keep chunk (omega (arith, same, l)));
     }
 
+    pub packed_next : ArePacked keep records ends closed (n + 1) new
+    packed_next = subst (λ (m : ℕ). ArePacked keep records ends closed m new) (next_number n) packed_more
+
 -- What is told by all of them.
 
 -- the records of what is kept are those that are kept in memory
-same_entries : (image : Image) (ks : List shown.Loaded) (said : List Loaded) (w : ℕ) → AreShown image ks said → is_among (map (λ (s : Loaded). s.entry) said) w ≡ is_kept_record ks w
+pub same_entries : (image : Image) (ks : List shown.Loaded) (said : List Loaded) (w : ℕ) → AreShown image ks said → is_among (map (λ (s : Loaded). s.entry) said) w ≡ is_kept_record ks w
 same_entries image [] [] w are = refl
 same_entries image [] (s ∷ said) w are = absurd are
 same_entries image (k ∷ ks) [] w are = absurd are
@@ -186,7 +219,7 @@ module _ (image : Image) (reached : Reached) (chains : KeptChains) (keep : ℕ �
 
   pub chains_kept : AreKeptChains image chains.records.items chains.ends.items chains.whole.items
   chains_kept = record {
-    ends = record { many = packed.many; rising = packed.rising; inside = packed.inside };
+    are_ends = record { many = packed.many; rising = packed.rising; inside = packed.inside };
     told = packed.told;
     are_kept = λ b below. packed.are b below ∙ kept_of_bucket b below;
     are_whole = λ b below is. subst (IsChain (store_of image) b) (sym (packed.are b below ∙ kept_of_bucket b below)) (whole_chain b below is);
@@ -203,3 +236,16 @@ module _ (image : Image) (reached : Reached) (chains : KeptChains) (keep : ℕ �
 -- packed records are some of the others
 pub packed_among : (P : ℕ → Type 0) (keep : ℕ → Bool) (records ends : List ℕ) (closed : List Bool) (n : ℕ) (chains : KeptChains) → ArePacked keep records ends closed n chains → All P records → All P chains.records.items
 packed_among P keep records ends closed n chains packed all = subst (All P) (sym packed.all) (All-filter keep P (take (begin_of ends n) records) (All-take P (begin_of ends n) records all))
+
+-- the same of lists that are handed out
+pub packed_of : (keep : ℕ → Bool) (reached : Reached) (records ends : List ℕ) (closed : List Bool) (chains : KeptChains) → records ≡ reached.words.items → ends ≡ reached.ends.items → closed ≡ reached.closed.items
+    → ArePacked keep records ends closed 65536 chains → ArePacked keep reached.words.items reached.ends.items reached.closed.items 65536 chains
+packed_of keep reached records ends closed chains records_are ends_are closed_are packed =
+    subst (λ (rs : List ℕ). ArePacked keep rs reached.ends.items reached.closed.items 65536 chains) records_are
+    (subst (λ (es : List ℕ). ArePacked keep records es reached.closed.items 65536 chains) ends_are
+    (subst (λ (cs : List Bool). ArePacked keep records ends cs 65536 chains) closed_are packed))
+
+-- a set of addresses has those of the kept records
+pub kept_by_set : (image : Image) (said : List Loaded) (entries : List ℕ) (keep : ℕ → Bool) → AreShown image (kept image) said → entries ≡ map (λ (s : Loaded). s.entry) said → ((w : ℕ) → keep w ≡ is_among entries w)
+    → (w : ℕ) → keep w ≡ is_kept_record (kept image) w
+kept_by_set image said entries keep are entries_are keeps w = keeps w ∙ ap (λ (ws : List ℕ). is_among ws w) entries_are ∙ same_entries image (kept image) said w are

@@ -1,6 +1,6 @@
 -- The outcomes of nodes that were tried, each at its place.
-use Rattle.std.proofs.Common.{◌≡◌, ◌≢◌, ◌<◌, ◌+◌, ℕ, zero, suc, Bool, true, false, List, [], ◌∷◌, ◌++◌, Option, None, Some, Result, Ok, Err, length, set, get_or, replicate, refl, sym, ap, subst, ◌∙◌, ⊎_elim, arith}
-use Rattle.std.specs.Prelude.{slice_get, ◌==◌, ◌||◌}
+use Rattle.std.proofs.Common.{◌≡◌, ◌≢◌, ◌<◌, ℕ, zero, suc, true, false, List, [], ◌∷◌, ◌++◌, Option, None, Some, Result, Ok, Err, length, set, get_or, replicate, refl, sym, ap, subst, ◌∙◌, ⊎_elim, arith}
+use Rattle.std.specs.Prelude.{slice_get, ◌==◌}
 use Rattle.std.specs.List.{AllZip}
 use Rattle.std.proofs.lemmas.Bool.{or_parts, or_left, or_right, eq-eqb}
 use Rattle.std.proofs.lemmas.Bool.Decides.{eqb_tells}
@@ -25,7 +25,7 @@ use Rattle.blk_verdict.specs.Passes.{AreTried, IsTried, kept_after}
 use Rattle.blk_verdict.specs.declared.loading.Loaded.{Loaded}
 use Rattle.blk_verdict.specs.declared.passes.Tried.{Tried}
 use Rattle.blk_verdict.specs.declared.reason.Reason.{Reason}
-use Rattle.blk_scan.specs.Outcomes.{IsKeptAt, IsOutcomeOf, IsOutcomeIf, count_after, outcome_after, with_tried}
+use Rattle.blk_scan.specs.Outcomes.{IsOutcomeOf, IsOutcomeIf, count_after, outcome_after, with_tried}
 use Rattle.blk_scan.specs.declared.outcomes.Outcome.{Outcome}
 
 -- Places in lists.

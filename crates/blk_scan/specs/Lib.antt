@@ -1,3 +1,4 @@
+pub mod Bare
 pub mod Faults
 pub mod Ordering
 pub mod Outcomes

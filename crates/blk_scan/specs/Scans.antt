@@ -43,7 +43,7 @@ unlisted_as_told record_word = record { place = record_word; reason = Unlisted }
 
 -- these are the kept records of all buckets, and each bucket that is told whole is the chain of its own
 pub record AreKeptChains (image : Image) (records ends : List ℕ) (whole : List Bool) : Type 0 where
-  pub ends : AreEnds records ends
+  pub are_ends : AreEnds records ends
   pub told : length whole ≡ table_length
   pub are_kept : (bucket : ℕ) → bucket < table_length → records_of records ends bucket ≡ kept_records image bucket
   pub are_whole : (bucket : ℕ) → bucket < table_length → slice_index_or whole bucket false ≡ true → IsChain (store_of image) bucket (records_of records ends bucket)
@@ -65,9 +65,9 @@ pub record AreBare (image : Image) (words : List ℕ) : Type 0 where
 -- a scan tells what an image holds
 pub record IsScanOf (image : Image) (scan : Scan) : Type 0 where
   pub walked : scan.walked.items ≡ completed_walk image
-  pub kept : scan.kept.items ≡ map kept_as_told (kept image)
+  pub kept_told : scan.kept.items ≡ map kept_as_told (kept image)
   pub kept_nodes : scan.kept_nodes.items ≡ map (λ k. k.node) (kept image)
-  pub dropped : map dropped_by_told scan.dropped.items ≡ dropped image
+  pub dropped_told : map dropped_by_told scan.dropped.items ≡ dropped image
   pub claims : IsClaimsOf scan.claims (flat_map words_of (kept image))
   pub bytes : scan.bytes ≡ sum_by charge_of (kept image)
   pub chains : AreChainsTold image scan.chains
@@ -97,7 +97,7 @@ pub record StandAmong (files : BlockFiles) (scan : Scan) : Type 0 where
 -- nothing is told
 pub record IsEmptyScan (scan : Scan) : Type 0 where
   pub walked : scan.walked.items ≡ []
-  pub kept : scan.kept.items ≡ []
+  pub kept_told : scan.kept.items ≡ []
   pub kept_nodes : scan.kept_nodes.items ≡ []
   pub dropped : scan.dropped.items ≡ []
   pub claims : IsClaimsOf scan.claims []

@@ -1,12 +1,11 @@
 // The kept records of the chains.
-ghost use Rattle.std.specs.Prelude.{◌≡◌, ◌++◌, ◌+◌, ◌<◌, ◌&&◌, ◌==◌, ℕ, [], ◌∷◌, IfOk, OnOk, length, map};
+ghost use Rattle.std.specs.Prelude.{◌≡◌, ◌++◌, ◌+◌, ◌<◌, ◌^◌, ◌&&◌, ◌==◌, [], ◌∷◌, IfOk, OnOk, length};
 ghost use Rattle.std.specs.BTreeSet.{contains};
 ghost use Rattle.std.specs.List.{filter, list_all};
 ghost use Rattle.std.specs.Ordering.{nat_cmp};
 ghost use Rattle.blk_image.specs.Image.{Image};
-ghost use Rattle.blk_format.specs.BlockFiles.{is_among};
 ghost use Rattle.blk_format.specs.Headers.{table_length};
-ghost use Rattle.blk_volume.specs.Found.{kept};
+ghost use Rattle.blk_volume.specs.Found as found;
 ghost use Rattle.blk_volume.specs.View.{store_of};
 ghost use Rattle.blk_disk.specs.declared.tables.BlockFiles.{BlockFiles};
 ghost use Rattle.blk_audit.specs.BucketEnds.{AreEnds};
@@ -15,6 +14,7 @@ ghost use Rattle.blk_verdict.specs.Kept.{AreShown};
 ghost use Rattle.blk_scan.specs.Packing.{ArePacked};
 ghost use Rattle.blk_scan.specs.Scans.{AreChainsTold, ChainsStandIf};
 
+use crate::sets::{entries_of, set_of};
 use blk_addr::{Addr, NoMemory};
 use blk_audit::Reached;
 use blk_verdict::Loaded;
@@ -76,15 +76,15 @@ impl KeptChains {
         &mut self,
         own: &[Addr],
         closed: bool,
-        entries: &BTreeSet<u32>,
+        kept: &BTreeSet<u32>,
     ) -> Result<(), NoMemory>
         requires few { length self.old.records.items + length own.now < 2 ^ 32 }
-        ensures records { OnOk result (self.new.records.items ≡ self.old.records.items ++ filter (contains nat_cmp entries.now) own.now) }
+        ensures records { OnOk result (self.new.records.items ≡ self.old.records.items ++ filter (contains nat_cmp kept.now) own.now) }
         ensures ends { OnOk result (self.new.ends.items ≡ self.old.ends.items ++ length self.new.records.items ∷ []) }
         ensures whole { OnOk result (self.new.whole.items ≡ self.old.whole.items ++ (closed && (length self.new.records.items == length self.old.records.items + length own.now)) ∷ []) }
     {
         let all = self.records.len() + own.len();
-        add_kept(&mut self.records, own, entries)?;
+        add_kept(&mut self.records, own, kept)?;
         self.ends.push(self.records.len() as u32)?;
         self.whole.push(closed && self.records.len() == all)?;
         Ok(())
@@ -95,27 +95,16 @@ impl KeptChains {
 fn add_kept(
     records: &mut Vec<Addr>,
     own: &[Addr],
-    entries: &BTreeSet<u32>,
+    kept: &BTreeSet<u32>,
 ) -> Result<(), NoMemory>
-    ensures { OnOk result (records.new.items ≡ records.old.items ++ filter (contains nat_cmp entries.now) own.now) }
+    ensures { OnOk result (records.new.items ≡ records.old.items ++ filter (contains nat_cmp kept.now) own.now) }
 {
     for entry in own {
-        if entries.contains(&entry.word()) {
+        if kept.contains(&entry.word()) {
             records.push(*entry)?;
         }
     }
     Ok(())
-}
-
-// The addresses of some records.
-fn entries_of(alloc: Global, records: &[Loaded]) -> Result<BTreeSet<u32>, NoMemory>
-    ensures { IfOk result (λ entries. (w : ℕ) → contains nat_cmp entries w ≡ is_among (map (λ said. said.entry) records.now) w) }
-{
-    let mut entries = BTreeSet::new(alloc);
-    for record in records {
-        entries.insert(record.entry.word())?;
-    }
-    Ok(entries)
 }
 
 // The records of all buckets that are kept, by where those of each end and by which were closed.
@@ -124,17 +113,17 @@ fn pack(
     records: &[Addr],
     ends: &[u32],
     closed: &[bool],
-    entries: &BTreeSet<u32>,
+    kept: &BTreeSet<u32>,
 ) -> Result<KeptChains, NoMemory>
     requires ends { AreEnds records.now ends.now }
     requires told { length closed.now ≡ table_length }
-    ensures { IfOk result (ArePacked (contains nat_cmp entries.now) records.now ends.now closed.now table_length) }
+    ensures { IfOk result (ArePacked (contains nat_cmp kept.now) records.now ends.now closed.now table_length) }
 {
     let mut chains = KeptChains::none(alloc);
     let mut first = 0usize;
     for i in 0..ends.len() {
         let end = ends[i] as usize;
-        chains.add_bucket(&records[first..end], closed[i], entries)?;
+        chains.add_bucket(&records[first..end], closed[i], kept)?;
         first = end;
     }
     Ok(chains)
@@ -147,16 +136,17 @@ pub(crate) fn kept_chains(
     records: &[Loaded],
 ) -> Result<Option<KeptChains>, NoMemory>
     requires buckets { HasBuckets reached.now }
-    ensures told { IfOk result (λ chains. (image : Image) → AreBucketsOf (store_of image) reached.now → AreShown image (kept image) records.now → AreChainsTold image chains) }
+    ensures told { IfOk result (λ chains. (image : Image) → AreBucketsOf (store_of image) reached.now → AreShown image (found.kept image) records.now → AreChainsTold image chains) }
     ensures stand { IfOk result (λ chains. (files : BlockFiles) → RecordsStand files (words_reached reached.now) → ChainsStandIf files chains) }
 {
     let entries = entries_of(alloc, records)?;
+    let kept = set_of(alloc, &entries)?;
     let chains = pack(
         alloc,
         reached.as_slice(),
         reached.bucket_ends(),
         reached.closed_buckets(),
-        &entries,
+        &kept,
     )?;
     if chains.are_whole() {
         return Ok(None);

@@ -1,12 +1,14 @@
 //! What a cache folder holds, told as a whole: the audit of its use list, its chains and their records.
 #![tactic(auto)]
 
+mod bare;
 mod chains;
 mod nodes;
 mod ordering;
 mod outcomes;
 mod scan;
 mod scanning;
+mod sets;
 mod telling;
 
 pub use chains::KeptChains;

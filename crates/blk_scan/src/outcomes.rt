@@ -77,8 +77,8 @@ pub(crate) fn in_order(
     ensures few { IfOk result (λ kept. length kept.items ≤ length outcomes.now) }
 {
     let mut kept = Vec::new(alloc);
-    for outcome in outcomes {
-        add(&mut kept, record_of(records, *outcome))?;
+    for i in 0..outcomes.len() {
+        add(&mut kept, record_of(records, outcomes[i]))?;
     }
     Ok(kept)
 }

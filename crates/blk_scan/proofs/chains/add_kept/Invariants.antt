@@ -5,4 +5,4 @@ use Rattle.std.specs.Ordering.{nat_cmp}
 use Rattle.blk_scan.proofs.chains.add_kept.Given as goal
 
 abbrev pub invariant-loop-entry : goal.invariant-loop-entry
-invariant-loop-entry l = record { kept : l.records.items ≡ l.fn.records.items ++ filter (contains nat_cmp l.entries) (take l.entry-index l.own) }
+invariant-loop-entry l = record { kept : l.records.items ≡ l.fn.records.items ++ filter (contains nat_cmp l.kept) (take l.entry-index l.own) }

@@ -7,6 +7,6 @@ use Rattle.blk_scan.proofs.chains.pack.Given as goal
 
 abbrev pub invariant-loop-i : goal.invariant-loop-i
 invariant-loop-i l = record {
-  packed : ArePacked (contains nat_cmp l.entries) l.records l.ends l.closed l.i l.chains;
+  packed : ArePacked (contains nat_cmp l.kept) l.records l.ends l.closed l.i l.chains;
   begun : l.first ≡ begin_of l.ends l.i;
 }
