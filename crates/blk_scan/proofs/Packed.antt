@@ -204,8 +204,8 @@ same_entries image (k ∷ ks) [] w are = absurd are
 same_entries image (k ∷ ks) (s ∷ said) w are = ap₂ (λ (a b : Bool). a || b) (ap (λ (e : ℕ). e == w) are.0.is.entry) (same_entries image ks said w are.1)
 
 module _ (image : Image) (reached : Reached) (chains : KeptChains) (keep : ℕ → Bool) (are_ends : AreEnds reached.words.items reached.ends.items)
-      (of : AreBucketsOf (store_of image) reached) (same : (w : ℕ) → keep w ≡ is_kept_record (kept image) w)
-      (packed : ArePacked keep reached.words.items reached.ends.items reached.closed.items 65536 chains) where
+    (of : AreBucketsOf (store_of image) reached) (same : (w : ℕ) → keep w ≡ is_kept_record (kept image) w)
+    (packed : ArePacked keep reached.words.items reached.ends.items reached.closed.items 65536 chains) where
   kept_of_bucket : (b : ℕ) → b < 65536 → filter keep (records_of reached.words.items reached.ends.items b) ≡ kept_records image b
   unfolding kept_records
   kept_of_bucket b below = ap (filter keep) (of.chains b below) ∙ filter_agree keep (is_kept_record (kept image)) same (chain (store_of image) b).reached

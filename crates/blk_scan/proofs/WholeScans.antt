@@ -47,8 +47,8 @@ dropped_among_is image = refl
 
 -- What came of the walked nodes, in the order of the walk.
 module _ (image : Image) (lists : Lists) (given : Judged) (ordered : Ordered) (said : List Loaded) (outcomes : List (Option Outcome)) (answers : List Tried) (count : ℕ)
-      (are : AreListsOf image lists) (given_are : AreJudged image given) (walked_are : ordered.walked.items ≡ take 131072 (nodes_walked lists.walked)) (many : count ≡ length ordered.walked.items) (answers_are : answers ≡ given.tried.items)
-      (outcomes_placed : outcomes ≡ with_tried (replicate count None) 0 answers) (said_is : said ≡ records_kept given.kept) where
+    (are : AreListsOf image lists) (given_are : AreJudged image given) (walked_are : ordered.walked.items ≡ take 131072 (nodes_walked lists.walked)) (many : count ≡ length ordered.walked.items) (answers_are : answers ≡ given.tried.items)
+    (outcomes_placed : outcomes ≡ with_tried (replicate count None) 0 answers) (said_is : said ≡ records_kept given.kept) where
   abbrev verdicts_here : ℕ → Option (Result shown.Loaded reasons.Reason)
   verdicts_here = verdict_on (judged (store_of image) held_rule (completed_walk image))
 

@@ -92,11 +92,7 @@ impl KeptChains {
 }
 
 // Adds those of some records that are kept.
-fn add_kept(
-    records: &mut Vec<Addr>,
-    own: &[Addr],
-    kept: &BTreeSet<u32>,
-) -> Result<(), NoMemory>
+fn add_kept(records: &mut Vec<Addr>, own: &[Addr], kept: &BTreeSet<u32>) -> Result<(), NoMemory>
     ensures { OnOk result (records.new.items ≡ records.old.items ++ filter (contains nat_cmp kept.now) own.now) }
 {
     for entry in own {

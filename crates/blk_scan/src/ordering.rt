@@ -26,11 +26,7 @@ pub(crate) struct Ordered {
 }
 
 // Puts what came of the walked nodes into the order of the walk.
-pub(crate) fn order(
-    alloc: Global,
-    lists: &Lists,
-    judged: &Judged,
-) -> Result<Ordered, NoMemory>
+pub(crate) fn order(alloc: Global, lists: &Lists, judged: &Judged) -> Result<Ordered, NoMemory>
     ensures ordered { IfOk result (λ ordered. (image : Image) → AreListsOf image lists.now → AreJudged image judged.now → IsOrderOf image ordered) }
     ensures walked { IfOk result (λ ordered. ordered.walked.items ≡ take most_nodes (nodes_walked lists.now.walked)) }
     ensures few { IfOk result (λ ordered. length ordered.records.items ≤ most_nodes) }

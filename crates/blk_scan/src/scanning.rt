@@ -26,6 +26,38 @@ use blk_io::Folder;
 use blk_verdict::{Judged, charge_of_all, judge_nodes, unlisted};
 use std::alloc::Global;
 
+/// Tells what a folder holds whose block files were loaded, as it is once its operation in flight is completed. Nothing
+/// is written.
+///
+/// The folder calls are those of `read_lists`, `judge_nodes` and `unlisted`. A damage is a read that gave too few bytes;
+/// a folder whose files are those of `files` gives none. `Device` comes only where the folder failed in this call, and
+/// `Memory` where there was too little of it.
+pub fn scan_files<F: Folder>(
+    alloc: Global,
+    f: &mut F,
+    files: &BlockFiles,
+) -> Result<Scan, ScanFault>
+    ensures scanned { IfOk result (λ scan. ForSome (F.told f.old).files (λ image. Agrees files.now image → IsScanOf image scan)) }
+    ensures stand { IfOk result (StandAmong files.now) }
+    ensures few { IfOk result (λ scan. length scan.walked.items ≤ most_nodes) }
+    ensures stays { Stays (F.told f.old) (F.told f.new) }
+
+    // A folder that tells its files gives a damage only where its index is too short or the block files don't agree with it.
+    ensures damaged { IfScanDamaged result (IsScanDamage files.now (F.told f.new)) }
+    ensures untold { ForSome (F.told f.old).files (IsOpen files.now) → IfScanDamaged result (λ _. (F.told f.old).files ≡ None) }
+
+    ensures later { F.faults f.old ≤ F.faults f.new }
+    ensures device { IfScanDevice result (Rises (F.faults f.old) (F.faults f.new)) }
+{
+    let lists = read_lists(alloc, f, files)?;
+    let judged = judge_nodes(alloc, f, files, &lists)?;
+    let unlisted = unlisted(alloc, f, files, &lists)?;
+    let ordered = order(alloc, &lists, &judged)?;
+    let bare = bare_of(alloc, f, files, &lists, &ordered.records)?;
+    let scan = tell(alloc, &lists, judged, ordered, &unlisted, bare)?;
+    Ok(scan)
+}
+
 // What is told of a folder by its lists and by what came of its walked nodes.
 fn tell(
     alloc: Global,
