@@ -1,0 +1,15 @@
+//! The tests of the audit of whole folders.
+#![tactic(auto)]
+
+#[cfg(test)]
+mod calls;
+#[cfg(test)]
+mod cases;
+#[cfg(test)]
+mod folders;
+#[cfg(test)]
+mod long;
+#[cfg(test)]
+mod reasons;
+#[cfg(test)]
+mod worked;
