@@ -1,4 +1,4 @@
-//! The tests of the audit of whole folders.
+//! The tests of the audit and of the repair of whole folders.
 #![tactic(auto)]
 
 #[cfg(test)]
@@ -11,5 +11,7 @@ mod folders;
 mod long;
 #[cfg(test)]
 mod reasons;
+#[cfg(test)]
+mod repairs;
 #[cfg(test)]
 mod worked;
