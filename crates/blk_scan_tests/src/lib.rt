@@ -1,0 +1,17 @@
+//! The tests of the audit and of the repair of whole folders.
+#![tactic(auto)]
+
+#[cfg(test)]
+mod calls;
+#[cfg(test)]
+mod cases;
+#[cfg(test)]
+mod folders;
+#[cfg(test)]
+mod long;
+#[cfg(test)]
+mod reasons;
+#[cfg(test)]
+mod repairs;
+#[cfg(test)]
+mod worked;

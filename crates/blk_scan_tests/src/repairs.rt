@@ -1,0 +1,172 @@
+// The repair of the same folders, and a stop at each of its words.
+use crate::cases::{ALONE, Case, OPERATIONS, PARENTS, SHAPES, STOPPED, STREAM_CASES, TOGETHER};
+use crate::folders::Change::{Index, Length};
+use crate::folders::{Change, OPERATION, TRANSACTION, audited, change_all, dropped_at};
+use crate::worked::make_all;
+use blk_audit::ScanFault;
+use blk_disk::BlockFiles;
+use blk_index::make;
+use blk_io::{Fault, FileId, Folder, MemFolder, SilentFolder, StopFolder, read_word};
+use blk_repair::repair;
+use blk_scan::{Scan, scan_files};
+use std::alloc::Global;
+use std::test::Fail;
+
+type Mem = SilentFolder<StopFolder>;
+
+// The words of the index that are written where nothing is to be mended: sizes, num_entries, num_bytes, this_id, crash.
+const INDEX_WORDS: u64 = 5;
+
+// More steps than any of these repairs takes.
+const MOST_STEPS: u64 = 1000;
+
+// A folder in which no step is made yet and all may be made.
+fn empty(alloc: Global) -> Mem {
+    SilentFolder::new(StopFolder::new(MemFolder::without_trail(alloc), u64::MAX))
+}
+
+// The folder with what was written, where so many more steps pass.
+fn again(f: Mem, steps: u64) -> Mem {
+    SilentFolder::new(StopFolder::new(f.into_inner().into_inner(), steps))
+}
+
+// The folder of all kinds of entries with some changes, where so many more steps pass.
+fn changed(alloc: Global, changes: &[Change], steps: u64) -> Result<Mem, Fail> {
+    let mut f = empty(alloc);
+    make_all(alloc, &mut f)?;
+    change_all(&mut f, changes)?;
+    Ok(again(f, steps))
+}
+
+// Audits the folder and repairs it. Gives what was told before.
+fn mend(alloc: Global, f: &mut Mem) -> Result<Scan, ScanFault> {
+    let mut files = BlockFiles::load(f)?;
+    let scan = scan_files(alloc, f, &files)?;
+    repair(f, &mut files, &scan)?;
+    Ok(scan)
+}
+
+// Whether two audits tell the same of what is kept.
+fn is_same(one: &Scan, other: &Scan) -> bool {
+    let mut same = one.items() == other.items() && one.bytes() == other.bytes();
+    for (node, same_node) in one.kept_nodes().iter().zip(other.kept_nodes()) {
+        if node.word() != same_node.word() {
+            same = false;
+        }
+    }
+    same
+}
+
+// Whether nothing is left to mend but the words of the index.
+fn is_tidy(scan: &Scan) -> bool {
+    dropped_at(scan, 0) == (0, 0) && scan.bare().is_empty() && scan.chains().is_none()
+}
+
+// Whether repair keeps what is kept and leaves nothing to mend, and a second one makes no other steps than those of the index.
+fn is_mended(alloc: Global, case: Case) -> Result<bool, Fail> {
+    let mut f = changed(alloc, case.0, u64::MAX)?;
+    let before = mend(alloc, &mut f)?;
+    let mut f = again(f, INDEX_WORDS);
+    let then = mend(alloc, &mut f)?;
+    Ok(is_same(&before, &then) && is_tidy(&then))
+}
+
+// Whether what is kept stays where repair is stopped after so many steps, and the next one after some more; and whether
+// the first one came to its end.
+fn is_stopped_well(alloc: Global, changes: &[Change], steps: u64) -> Result<(bool, bool), Fail> {
+    let mut f = changed(alloc, changes, u64::MAX)?;
+    let before = audited(alloc, &mut f)?;
+    let mut f = again(f, steps);
+    let ended = mend(alloc, &mut f).is_ok();
+    let mut f = again(f, steps % 7);
+    let _ = mend(alloc, &mut f).is_ok();
+    let mut f = again(f, u64::MAX);
+    let then = audited(alloc, &mut f)?;
+    Ok((is_same(&before, &then), ended))
+}
+
+// How many steps a repair takes, where what is kept stays at each stop before; or none, where it doesn't, or where the
+// repair takes more than so many.
+fn steps_of(alloc: Global, changes: &[Change], most: u64) -> Result<Option<u64>, Fail> {
+    for steps in 0..most {
+        let (same, ended) = is_stopped_well(alloc, changes, steps)?;
+        if !same {
+            return Ok(None);
+        }
+        if ended {
+            return Ok(Some(steps));
+        }
+    }
+    Ok(None)
+}
+
+// The first of these cases that isn't mended, with its table.
+fn first_left(alloc: Global, tables: &[&[Case]]) -> Result<Option<(usize, usize)>, Fail> {
+    for (table, cases) in tables.iter().enumerate() {
+        for (i, case) in cases.iter().enumerate() {
+            if !is_mended(alloc, *case)? {
+                return Ok(Some((table, i)));
+            }
+        }
+    }
+    Ok(None)
+}
+
+#[test]
+fn repair_mends_what_is_dropped(rt: HostRuntime) -> Result<(), Fail> {
+    assert_eq!(rt; first_left(rt.alloc(), &[&ALONE, &STREAM_CASES])?, None);
+    Ok(())
+}
+
+#[test]
+fn repair_mends_parents_lists_chains_and_operations(rt: HostRuntime) -> Result<(), Fail> {
+    let tables: [&[Case]; 4] = [&PARENTS, &SHAPES, &OPERATIONS, &TOGETHER];
+    assert_eq!(rt; first_left(rt.alloc(), &tables)?, None);
+    Ok(())
+}
+
+#[test]
+fn repair_may_be_stopped_at_each_word(rt: HostRuntime) -> Result<(), Fail> {
+    for (i, changes) in STOPPED.iter().enumerate() {
+        let steps = steps_of(rt.alloc(), changes, MOST_STEPS)?;
+        assert!(rt; steps.is_some(), "{i}");
+    }
+    Ok(())
+}
+
+// What is found of a folder after its repair: the transaction word, and the lengths of the files that nothing names and of one
+// that has its owner.
+fn mended_words(alloc: Global, f: &mut Mem) -> Result<(u32, [Option<u64>; 3]), ScanFault> {
+    mend(alloc, f)?;
+    let lengths = lengths_of(f)?;
+    Ok((read_word(f, FileId::Index, TRANSACTION)?, lengths))
+}
+
+// The lengths of an unlinked block file, an external file and one that has its owner.
+fn lengths_of(f: &mut Mem) -> Result<[Option<u64>; 3], Fault> {
+    let block = f.length(FileId::Block(9))?;
+    let external = f.length(FileId::External(7))?;
+    Ok([block, external, f.length(FileId::External(1))?])
+}
+
+#[test]
+fn repair_deletes_what_nothing_names_and_ends_what_does_not_count(
+    rt: HostRuntime,
+) -> Result<(), Fail> {
+    let others = [
+        Length(FileId::Block(9), 8192),
+        Length(FileId::External(7), 100),
+    ];
+    let mut f = changed(rt.alloc(), &others, u64::MAX)?;
+    let mended = mended_words(rt.alloc(), &mut f)?;
+    assert_eq!(rt; mended, (0, [None, None, Some(20000)]));
+    let mut f = empty(rt.alloc());
+    make(&mut f, 7)?;
+    change_all(
+        &mut f,
+        &[Index(TRANSACTION, 0x9000_0005), Index(OPERATION, 1)],
+    )?;
+    let mended = mended_words(rt.alloc(), &mut f)?;
+    assert_eq!(rt; mended, (0, [None; 3]));
+    Ok(())
+}
