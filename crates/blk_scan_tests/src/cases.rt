@@ -503,18 +503,18 @@ pub(crate) const TABLES: [&[Case]; 7] = [
     &TOGETHER,
 ];
 
-// Changes after which repair is stopped at each of its words: an operation that counts, a list whose last node points back,
-// and the reason of parents.
-pub(crate) const STOPPED: [&[Change]; 3] = [
+// Changes after which repair is stopped at each of its words: a removal in flight and a list whose last node points back;
+// and a move in flight, a record that doesn't check and a dirty parent.
+pub(crate) const STOPPED: [&[Change]; 2] = [
     &[
         Index(TRANSACTION, N[1]),
         Index(OPERATION, 2),
         Word(N[11], NODE_NEXT, N[5]),
     ],
-    &[Word(N[6], DIRTY, 1), Bucket(OF_TWO, NAB)],
     &[
         Index(TRANSACTION, N[7]),
         Index(OPERATION, 3),
         Word(JIO, SEAL, 1),
+        Word(N[6], DIRTY, 1),
     ],
 ];

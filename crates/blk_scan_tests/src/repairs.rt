@@ -14,8 +14,8 @@ use std::test::Fail;
 
 type Mem = SilentFolder<StopFolder>;
 
-// The words of the index that are written where nothing is to be mended: sizes, num_entries, num_bytes, this_id, crash.
-const INDEX_WORDS: u64 = 5;
+// The words of the index that are written where nothing is to be mended: this_id and crash.
+const INDEX_WORDS: u64 = 2;
 
 // More steps than any of these repairs takes.
 const MOST_STEPS: u64 = 1000;
@@ -71,25 +71,30 @@ fn is_mended(alloc: Global, case: Case) -> Result<bool, Fail> {
     Ok(is_same(&before, &then) && is_tidy(&then))
 }
 
-// Whether what is kept stays where repair is stopped after so many steps, and the next one after some more; and whether
-// the first one came to its end.
-fn is_stopped_well(alloc: Global, changes: &[Change], steps: u64) -> Result<(bool, bool), Fail> {
-    let mut f = changed(alloc, changes, u64::MAX)?;
-    let before = audited(alloc, &mut f)?;
-    let mut f = again(f, steps);
+// Whether the same is kept as before where repair is stopped after so many steps, and the next one after some more; and
+// whether the first one came to its end.
+fn is_stopped_well(
+    alloc: Global,
+    changes: &[Change],
+    before: &Scan,
+    steps: u64,
+) -> Result<(bool, bool), Fail> {
+    let mut f = changed(alloc, changes, steps)?;
     let ended = mend(alloc, &mut f).is_ok();
     let mut f = again(f, steps % 7);
     let _ = mend(alloc, &mut f).is_ok();
     let mut f = again(f, u64::MAX);
     let then = audited(alloc, &mut f)?;
-    Ok((is_same(&before, &then), ended))
+    Ok((is_same(before, &then), ended))
 }
 
 // How many steps a repair takes, where what is kept stays at each stop before; or none, where it doesn't, or where the
 // repair takes more than so many.
 fn steps_of(alloc: Global, changes: &[Change], most: u64) -> Result<Option<u64>, Fail> {
+    let mut f = changed(alloc, changes, u64::MAX)?;
+    let before = audited(alloc, &mut f)?;
     for steps in 0..most {
-        let (same, ended) = is_stopped_well(alloc, changes, steps)?;
+        let (same, ended) = is_stopped_well(alloc, changes, &before, steps)?;
         if !same {
             return Ok(None);
         }
