@@ -1,4 +1,5 @@
 pub mod BareFacts
+pub mod FolderScans
 pub mod Packed
 pub mod Placed
 pub mod Ordered

@@ -13,4 +13,4 @@ mod telling;
 
 pub use chains::KeptChains;
 pub use scan::{Dropped, Kept, Scan};
-pub use scanning::scan_files;
+pub use scanning::{scan_files, scan_folder};

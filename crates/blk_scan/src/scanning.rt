@@ -1,16 +1,19 @@
 // The audit of a folder.
-ghost use Rattle.std.specs.Prelude.{◌≡◌, ◌≤◌, All, IfOk, None, length};
+ghost use Rattle.std.specs.Prelude.{◌≡◌, ◌≤◌, All, IfOk, None, Some, length};
 ghost use Rattle.std.specs.Option.{ForSome};
 ghost use Rattle.blk_image.specs.Image.{Image};
 ghost use Rattle.blk_image.specs.Told.{Rises, Stays};
+ghost use Rattle.blk_format.specs.BlockFiles.{first_block_damage};
+ghost use Rattle.blk_format.specs.Headers.{HasWholeIndex};
 ghost use Rattle.blk_volume.specs.ListView.{most_nodes};
+ghost use Rattle.blk_io.specs.Faults.{damage_of};
 ghost use Rattle.blk_disk.specs.declared.tables.BlockFiles.{BlockFiles as Files};
 ghost use Rattle.blk_disk.specs.Open.{IsOpen};
 ghost use Rattle.blk_disk.specs.Tables.{Agrees};
 ghost use Rattle.blk_audit.specs.Chaining.{HasBuckets};
 ghost use Rattle.blk_audit.specs.Faults.{IfScanDamaged, IfScanDevice};
 ghost use Rattle.blk_audit.specs.ReadLists.{AreListsAmong};
-ghost use Rattle.blk_scan.specs.Faults.{IsScanDamage};
+ghost use Rattle.blk_scan.specs.Faults.{IsFolderDamage, IsScanDamage};
 ghost use Rattle.blk_scan.specs.Ordering.{IsToldBy};
 ghost use Rattle.blk_scan.specs.Scans.{AreBare, ChainsStandIf, IsScanOf, StandAmong};
 
@@ -25,6 +28,32 @@ use blk_disk::BlockFiles;
 use blk_io::Folder;
 use blk_verdict::{Judged, charge_of_all, judge_nodes, unlisted};
 use std::alloc::Global;
+
+/// Tells what a folder holds whose index is finished, as it is once its operation in flight is completed: the block files
+/// are loaded, and the folder is scanned by them. Nothing is written.
+///
+/// The folder calls are those of `BlockFiles::load` and of `scan_files`. A damage is the first check that fails of a header
+/// of a block file, or a read that gave too few bytes; a folder whose index has its length gives the first alone. `Device`
+/// comes only where the folder failed in this call, and `Memory` where there was too little of it.
+pub fn scan_folder<F: Folder>(alloc: Global, f: &mut F) -> Result<Scan, ScanFault>
+    ensures scanned { IfOk result (λ scan. ForSome (F.told f.old).files (λ image. IsScanOf image scan)) }
+    ensures few { IfOk result (λ scan. length scan.walked.items ≤ most_nodes) }
+    ensures checked { IfOk result (λ _. ForSome (F.told f.old).files (λ image. first_block_damage image ≡ None)) }
+    ensures stays { Stays (F.told f.old) (F.told f.new) }
+
+    // A folder that tells its files, and whose index has its length, gives a damage only where a check of a header of a
+    // block file fails: the first that does.
+    ensures damaged { IfScanDamaged result (λ damage. ForSome (F.told f.old).files (λ image. HasWholeIndex image → first_block_damage image ≡ Some (damage_of damage))) }
+
+    // The cause of a damage, which holds for a folder that tells nothing too.
+    ensures cause { IfScanDamaged result (IsFolderDamage (F.told f.old)) }
+
+    ensures later { F.faults f.old ≤ F.faults f.new }
+    ensures device { IfScanDevice result (Rises (F.faults f.old) (F.faults f.new)) }
+{
+    let files = BlockFiles::load(f)?;
+    scan_files(alloc, f, &files)
+}
 
 /// Tells what a folder holds whose block files were loaded, as it is once its operation in flight is completed. Nothing
 /// is written.
