@@ -12,8 +12,11 @@ pub mod Completed
 pub mod ReadChains
 pub mod Shown
 pub mod Chained
+pub mod Ends
+pub mod StandingNodes
 pub mod FirstBlocks
 pub mod AllChains
 pub mod PiecesOfRecords
 pub mod RecordFacts
+pub mod CheckedSeals
 pub mod ReadNodes

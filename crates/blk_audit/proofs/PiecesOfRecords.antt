@@ -83,7 +83,7 @@ pub of_first : (image : Image) (w : ℕ) (said : ReadRecord) → kind_of w ≡ b
 of_first image w said kind is =
     let same = same_entry image w kind in
     record {
-      words = record { fields = is.words.fields ∙ ap fields_of same; next = is.words.next ∙ ap (λ (e : formats.Entry). e.next) same };
+      words = record { fields = is.words.fields ∙ ap fields_of same; next = is.words.next ∙ ap (λ (e : formats.Entry). e.next) same; seal = is.words.seal ∙ ap (λ (e : formats.Entry). e.self_hash) same };
       key_hash = IfSome_then said.key_hash is.key_hash (λ sum h key stored. h key (same_key image w (fields_said said.words) kind ∙ stored));
       there = first_there image w kind is.there;
     }

@@ -15,7 +15,8 @@ use Rattle.blk_addr.specs.Claims.{Adds, contains_claim, is_claimed}
 use Rattle.blk_addr.specs.declared.claim_set.Claims.{Claims}
 use Rattle.blk_addr.proofs.ClaimLemmas.{or_false}
 use Rattle.blk_volume.specs.ListImages.{completed_walk}
-use Rattle.blk_volume.specs.View.{NodeFields, checks_at, list_of, node_fields_at, stands_as, store_of}
+use Rattle.blk_format.specs.Records.{node_checks}
+use Rattle.blk_volume.specs.View.{NodeFields, checks_at, node_at, list_of, node_fields_at, stands_as, store_of}
 use Rattle.blk_audit.specs.Chaining.{first_block_of}
 use Rattle.blk_audit.specs.Nodes.{AreNodesOf, loaded_node, node_of, said_at}
 use Rattle.blk_audit.specs.ReadLists.{AreListsOf, AreNamed, AreNamedUpTo, IsMore, fields_by, fields_kept, is_claimed_first, is_named_by, record_by, record_of}
@@ -67,6 +68,20 @@ module _ (image : Image) (lists : Lists) (are : AreListsOf image lists) where
   walked_node i addr node is said =
       fields_are image lists.nodes addr are.nodes
       ∙ ap (option_map fields_by) (loaded_is lists.nodes addr (is_node i addr is).address ∙ said)
+
+  -- and what is kept of it is what the image says
+  pub walked_said : (i addr : ℕ) (node : Node) → slice_get (nodes_walked lists.walked) i ≡ Some addr → node_of lists.nodes addr ≡ Some node → node ≡ said_at image addr
+  walked_said i addr node is said = some_of (sym said ∙ loaded i addr is)
+    where
+      some_of : {a b : Node} → Some a ≡ Some b → a ≡ b
+      some_of e = cc
+
+  pub walked_checks_there : (i addr : ℕ) → slice_get (nodes_walked lists.walked) i ≡ Some addr → node_checks (node_at image addr) ≡ true
+  unfolding list_of checks_at
+  walked_checks_there i addr is = (and_parts _ _ (walked_checks image addr (ap (λ (nodes : List ℕ). is_among nodes addr) (sym are.walked) ∙ among_at (nodes_walked lists.walked) i addr is))).1
+
+  pub walked_kind : (i addr : ℕ) → slice_get (nodes_walked lists.walked) i ≡ Some addr → kind_of addr ≡ rankings
+  walked_kind i addr is = (is_node i addr is).kind
 
   pub always_said : {A : Type 0} (i addr : ℕ) → slice_get (nodes_walked lists.walked) i ≡ Some addr → node_of lists.nodes addr ≡ None → A
   always_said {A} i addr is none = absurd (by (loaded i addr is))

@@ -39,4 +39,5 @@ are_words image w window small kind is =
         flags = head.flags i;
       };
       next = head.next;
+      seal = head_word image w 92 window kind (omega arith) is;
     }

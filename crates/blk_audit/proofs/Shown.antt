@@ -54,7 +54,7 @@ names_stand files image w agrees =
     stands_agree files image w agrees ∙ sym (ap (λ (t : Bool). if t then has_file image (External (external_number w)) else stands_in_blocks image w) block))
 
 module _ (image : Image) (w : ℕ) (small : AreBytes image) (kind : kind_of w ≡ blocks_256) where
-  checks_is : entry_checks (entry_at image w) ≡ checks 92 (record_at image w)
+  pub checks_is : entry_checks (entry_at image w) ≡ checks 92 (record_at image w)
   unfolding entry_in record_at
   checks_is =
       let s : seal_place w ≡ 92 = entry-seal w kind in

@@ -23,7 +23,7 @@ fail_first : (a b c : Bool) → a ≡ false → (a && b && c) ≡ false
 fail_first a b c e = rw e refl
 
 module _ (writes : List ListWrite) (nodes : Nodes) (head : ℕ) where
-  checks_is : (w : ℕ) → (list_after writes nodes head).checks w ≡ option_map_or (λ n. n.checks) (loaded_node nodes w) false
+  pub checks_is : (w : ℕ) → (list_after writes nodes head).checks w ≡ option_map_or (λ n. n.checks) (loaded_node nodes w) false
   unfolding list_in
   checks_is w = ap (λ (checks : ℕ → Bool). checks w) (written.checks_after writes (list_in nodes head))
 

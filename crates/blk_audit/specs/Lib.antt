@@ -1,3 +1,4 @@
+pub mod BucketEnds
 pub mod ChainLaws
 pub mod Chaining
 pub mod Changes
@@ -7,5 +8,6 @@ pub mod Filling
 pub mod Nodes
 pub mod ReadLists
 pub mod Records
+pub mod SealLaws
 pub mod Sealable
 pub mod Walking

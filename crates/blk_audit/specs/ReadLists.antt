@@ -4,18 +4,20 @@ use Rattle.std.specs.Option.{option_and_then, option_map, option_map_or}
 use Rattle.std.specs.declared.option.Option.{Option}
 use Rattle.std.specs.declared.option.Option.TheVariants.{None, Some}
 use Rattle.blk_image.specs.Image.{Image}
-use Rattle.blk_format.specs.Address.{blocks_256, file_selector, first_block, is_address, kind_of}
+use Rattle.blk_format.specs.Address.{blocks_256, file_selector, first_block, is_address, kind_of, rankings}
 use Rattle.blk_format.specs.BlockFiles.{is_among}
 use Rattle.blk_format.specs.Claims.{BlockOf}
 use Rattle.blk_format.specs.Headers.{table_length}
 use Rattle.blk_addr.specs.Claims.{contains_claim}
 use Rattle.blk_addr.specs.declared.claim_set.Claims.{Claims}
 use Rattle.blk_volume.specs.ListImages.{completed_walk}
-use Rattle.blk_volume.specs.View.{NodeFields, store_of}
-use Rattle.blk_audit.specs.Chaining.{AreReached, reached_by, words_reached}
+use Rattle.blk_format.specs.Records.{node_checks}
+use Rattle.blk_volume.specs.View.{NodeFields, node_at, store_of}
+use Rattle.blk_disk.specs.declared.tables.BlockFiles.{BlockFiles}
+use Rattle.blk_audit.specs.Chaining.{AreBucketsOf, AreReached, HasBuckets, RecordsStand, reached_by, words_reached}
 use Rattle.blk_audit.specs.Nodes.{AreNodesOf, loaded_node, node_of}
 use Rattle.blk_audit.specs.Records.{AreRecordsOf}
-use Rattle.blk_audit.specs.Walking.{AreMet, nodes_walked}
+use Rattle.blk_audit.specs.Walking.{AreMet, NodesStand, nodes_walked}
 use Rattle.blk_audit.specs.declared.list_walk.Walked.{Walked}
 use Rattle.blk_audit.specs.declared.named.WalkedNode.{WalkedNode}
 use Rattle.blk_audit.specs.declared.nodes.Node.{Node}
@@ -60,19 +62,29 @@ pub record AreListsOf (image : Image) (lists : Lists) : Type 0 where
   pub walked : nodes_walked lists.walked ≡ completed_walk image
   pub met : AreMet lists.walked
   pub reached : words_reached lists.reached ≡ reached_by (store_of image) table_length
+  pub buckets : AreBucketsOf (store_of image) lists.reached
   pub known : AreReached lists.reached
   pub nodes : AreNodesOf image lists.nodes
   pub records : AreRecordsOf image lists.records
   pub named : AreNamed lists.nodes (nodes_walked lists.walked) lists.named
 
+-- the walked nodes and the reached records stand among the block files, and each bucket has its end among the records
+pub record AreListsAmong (files : BlockFiles) (lists : Lists) : Type 0 where
+  pub nodes : NodesStand files (nodes_walked lists.walked)
+  pub records : RecordsStand files (words_reached lists.reached)
+  pub buckets : HasBuckets lists.reached
+
 -- that is what a node of an image says
 abbrev pub IsSaidAt : Image → WalkedNode → Type 0
 IsSaidAt image said = (store_of image).node_fields said.addr ≡ Some (record { contents = said.contents; dirty = said.dirty })
 
--- this is one of the walked nodes, and what an image says at it
+-- this is one of the walked nodes, which checks, and what an image says at it
 pub record IsWalkedNode (image : Image) (walked : Walked) (i : ℕ) (said : WalkedNode) : Type 0 where
   pub addr : slice_get (nodes_walked walked) i ≡ Some said.addr
   pub fields : IsSaidAt image said
+  pub kind : kind_of said.addr ≡ rankings
+  pub checks : node_checks (node_at image said.addr) ≡ true
+  pub seal : said.seal ≡ (node_at image said.addr).self_hash
 
 -- whether a node of an image is walked and names a record
 abbrev pub is_named_by : Image → ℕ → ℕ → Bool

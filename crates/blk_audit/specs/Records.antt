@@ -6,7 +6,7 @@ use Rattle.blk_image.specs.Bytes.{content, word_at, words_at}
 use Rattle.blk_image.specs.Image.{Block, HasRange, Image}
 use Rattle.blk_format.specs.Address.{file_selector, place}
 use Rattle.blk_format.specs.Hash.{hash}
-use Rattle.blk_format.specs.Records.{checks, entry_size}
+use Rattle.blk_format.specs.Records.{checks, entry_seal_place, entry_size}
 use Rattle.blk_format.specs.Storage.{longest_short_key}
 use Rattle.blk_volume.specs.Entries.{stored_key}
 use Rattle.blk_volume.specs.View.{RecordFields, entry_at, fields_of, store_of}
@@ -27,6 +27,7 @@ record_words_in bytes = record {
   sizes = words_at (content bytes) 40 4;
   addrs = words_at (content bytes) 56 4;
   flags = word_at (content bytes) 72;
+  seal = word_at (content bytes) entry_seal_place;
 }
 
 -- what the words say of their record
@@ -47,6 +48,7 @@ fields_said words = record {
 pub record AreWordsOf (image : Image) (entry : ℕ) (words : RecordWords) : Type 0 where
   pub fields : fields_said words ≡ fields_of (entry_at image entry)
   pub next : words.next ≡ (entry_at image entry).next
+  pub seal : words.seal ≡ (entry_at image entry).self_hash
 
 -- the hash of a short key that lies in front of these bytes
 abbrev pub hash_in : ℕ → List ℕ → Option ℕ

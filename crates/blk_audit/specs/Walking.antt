@@ -1,5 +1,5 @@
 -- A walk as it goes.
-use Rattle.std.specs.Prelude.{ℕ, suc, ◌≡◌, Bool, true, false, List, [], ◌∷◌, ◌++◌}
+use Rattle.std.specs.Prelude.{ℕ, suc, ◌≡◌, All, Bool, true, false, List, [], ◌∷◌, ◌++◌}
 use Rattle.std.specs.declared.option.Option.{Option}
 use Rattle.std.specs.declared.option.Option.TheVariants.{None, Some}
 use Rattle.blk_image.specs.Image.{HasRange, Image, Index}
@@ -10,6 +10,7 @@ use Rattle.blk_volume.specs.ListView.{ListView}
 use Rattle.blk_volume.specs.Walk.{walk_from}
 use Rattle.blk_record.specs.declared.index_head.TheConstants.IndexHead as IndexHead
 use Rattle.blk_disk.specs.declared.tables.BlockFiles.{BlockFiles}
+use Rattle.blk_disk.specs.Tables.{is_node_among}
 use Rattle.blk_lru.specs.Flights.{HasFlight}
 use Rattle.blk_audit.specs.declared.list_walk.Walked.{Walked}
 use Rattle.blk_audit.specs.declared.list_walk.Link.{Link}
@@ -20,6 +21,10 @@ use Rattle.blk_audit.specs.Nodes.{HasNodes, loaded_node}
 -- the walked nodes, in order
 abbrev pub nodes_walked : Walked → List ℕ
 nodes_walked walk = walk.nodes.items
+
+-- these are addresses of nodes that stand
+abbrev pub NodesStand : BlockFiles → List ℕ → Type 0
+NodesStand files words = All (λ w. is_node_among files w ≡ true) words
 
 -- a word is the address of a node
 pub record IsNodeWord (w : ℕ) : Type 0 where

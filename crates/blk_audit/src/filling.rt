@@ -29,6 +29,7 @@ fn said(window: &[u8]) -> Node
         prev: view.word(20),
         contents: view.word(24),
         dirty: view.word(28),
+        seal: view.word(NodeView::SEAL),
     }
 }
 

@@ -18,7 +18,7 @@ mod scanning;
 mod walking;
 
 pub use fault::ScanFault;
-pub use laws::chains_are_reached_apart;
+pub use laws::{chains_are_reached_apart, what_checks_is_sealed};
 pub use list_walk::Walked;
 pub use named::WalkedNode;
 pub use reaching::{Reached, chains};

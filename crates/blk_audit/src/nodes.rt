@@ -25,6 +25,7 @@ pub(crate) struct Node {
     pub(crate) prev: u32,
     pub(crate) contents: u32,
     pub(crate) dirty: u32,
+    pub(crate) seal: u32,
 }
 
 // The nodes of the linked files, file after file: where those of each file begin, and how many there are.
@@ -38,7 +39,7 @@ pub(crate) struct Nodes {
 }
 
 impl Nodes {
-    ghost use Rattle.blk_audit.specs.Filled.{IsFilled};
+    ghost use Rattle.blk_audit.specs.Filled.{CountStands, IsFilled};
     ghost use Rattle.blk_audit.specs.Nodes.{node_of};
 
     // No nodes.
@@ -59,6 +60,8 @@ impl Nodes {
     ) -> Result<(), ScanFault>
         ensures here { OnOk result (ForSome (F.told f.old).files (λ image. IsFilled files.now image self.new file)) }
         ensures others { OnOk result (ForSome (F.told f.old).files (λ image. (n : ℕ) → n ≢ file → IsFilled files.now image self.old n → IsFilled files.now image self.new n)) }
+        ensures counted { OnOk result (CountStands files.now self.new file) }
+        ensures others_counted { OnOk result ((n : ℕ) → n ≢ file → CountStands files.now self.old n → CountStands files.now self.new n) }
         ensures stays { Stays (F.told f.old) (F.told f.new) }
         ensures damaged { IfScanDamaged result (IsNodesDamage (F.told f.new)) }
         ensures untold { ForSome (F.told f.new).files (Agrees files.now) → IfScanDamaged result (λ _. (F.told f.new).files ≡ None) }

@@ -13,7 +13,7 @@ ghost use Rattle.blk_disk.specs.Tables.{Agrees};
 ghost use Rattle.blk_index.specs.Table.{AreBuckets};
 ghost use Rattle.blk_audit.specs.Faults.{IfScanDamaged, IfScanDevice, IsChainsDamage, IsRecordDamage};
 ghost use Rattle.blk_audit.specs.Records.{AreRecordsOf};
-ghost use Rattle.blk_audit.specs.Chaining.{AreOfFirst, AreReached, AreReachedThere, AreChainsThere, HasEntry, HasFirst, HasRecords, IsLookedAt, IsReach, IsStepTaken, is_met, reached_by, words_reached};
+ghost use Rattle.blk_audit.specs.Chaining.{AreBucketsOf, AreFirstReached, AreOfFirst, AreReached, AreReachedThere, AreChainsThere, HasBuckets, HasEntry, HasFirst, HasRecords, IsLookedAt, IsReach, IsStepTaken, KeepsEnds, RecordsStand, is_met, reached_by, words_reached};
 
 use crate::fault::ScanFault;
 use crate::record_files::{Records, read_records, record_of};
@@ -36,12 +36,15 @@ const PIECE: usize = 1024;
 const PIECES: u16 = 64;
 
 /// The records that the chains of a table reach, bucket after bucket and each chain in its order. No two of them begin
-/// with the same block.
+/// with the same block. Of each bucket it is kept where its records end among them, and whether its chain is closed: it
+/// ends at the word 0.
 #[derive(Drop)]
 pub struct Reached {
     words: Vec<Addr>,
     met: Claims,
     known: BTreeSet<u32>,
+    ends: Vec<u32>,
+    closed: Vec<bool>,
 }
 
 impl Reached {
@@ -66,15 +69,41 @@ impl Reached {
         self.known.contains(&word)
     }
 
+    /// The addresses of the reached records.
+    pub fn as_slice(&self) -> &[Addr]
+        ensures { result.now ≡ words_reached self.now }
+    {
+        self.words.as_slice()
+    }
+
+    /// Where the records of each of the 65536 buckets end among the reached ones: they begin where those of the bucket
+    /// before end.
+    pub fn bucket_ends(&self) -> &[u32]
+        ensures { result.now ≡ self.now.ends.items }
+    {
+        self.ends.as_slice()
+    }
+
+    /// For each of the 65536 buckets, whether its chain ends at the word 0.
+    pub fn closed_buckets(&self) -> &[bool]
+        ensures { result.now ≡ self.now.closed.items }
+    {
+        self.closed.as_slice()
+    }
+
     // No record is reached.
     fn none(alloc: Global) -> Reached
         ensures reached { AreReached result }
         ensures none { words_reached result ≡ [] }
+        ensures ends { result.ends.items ≡ [] }
+        ensures closed { result.closed.items ≡ [] }
     {
         Reached {
             words: Vec::new(alloc),
             met: Claims::new(alloc),
             known: BTreeSet::new(alloc),
+            ends: Vec::new(alloc),
+            closed: Vec::new(alloc),
         }
     }
 
@@ -94,10 +123,27 @@ impl Reached {
         requires fresh { is_met (words_reached self.old) addr ≡ false }
         ensures reached { OnOk result (AreReached self.new) }
         ensures added { OnOk result (words_reached self.new ≡ words_reached self.old ++ addr ∷ []) }
+        ensures ends { OnOk result (KeepsEnds self.old self.new) }
     {
         self.met.add(first_of_record(addr))?;
         self.known.insert(addr.word())?;
         self.words.push(addr)?;
+        Ok(())
+    }
+
+    // Ends the next bucket behind the records that were reached.
+    fn end_bucket(&mut self, closed: bool) -> Result<(), NoMemory>
+        requires reached { AreReached self.old }
+        ensures reached { OnOk result (AreReached self.new) }
+        ensures words { OnOk result (words_reached self.new ≡ words_reached self.old) }
+        ensures ends { OnOk result (self.new.ends.items ≡ self.old.ends.items ++ length (words_reached self.old) ∷ []) }
+        ensures closed { OnOk result (self.new.closed.items ≡ self.old.closed.items ++ closed ∷ []) }
+    {
+        let Ok(end) = u32::try_from(self.words.as_slice().len()) else {
+            return Err(NoMemory);
+        };
+        self.ends.push(end)?;
+        self.closed.push(closed)?;
         Ok(())
     }
 }
@@ -115,7 +161,10 @@ pub fn chains<F: Folder>(
     named: &Claims,
 ) -> Result<Reached, ScanFault>
     ensures reached { IfOk result (λ reached. ForSome (F.told f.old).files (λ image. Agrees files.now image → words_reached reached ≡ reached_by (store_of image) table_length)) }
+    ensures buckets { IfOk result (λ reached. ForSome (F.told f.old).files (λ image. Agrees files.now image → AreBucketsOf (store_of image) reached)) }
     ensures met { IfOk result AreReached }
+    ensures stand { IfOk result (λ reached. RecordsStand files.now (words_reached reached)) }
+    ensures ends { IfOk result HasBuckets }
     ensures checked { IfOk result (λ reached. ForSome (F.told f.old).files (λ image. AreChainsThere files.now image (words_reached reached))) }
     ensures stays { Stays (F.told f.old) (F.told f.new) }
 
@@ -139,7 +188,10 @@ pub(crate) fn chains_over<F: Folder>(
 ) -> Result<Reached, ScanFault>
     requires records { ForSome (F.told f.old).files (λ image. AreRecordsOf image records.now) }
     ensures reached { IfOk result (λ reached. ForSome (F.told f.old).files (λ image. Agrees files.now image → words_reached reached ≡ reached_by (store_of image) table_length)) }
+    ensures buckets { IfOk result (λ reached. ForSome (F.told f.old).files (λ image. Agrees files.now image → AreBucketsOf (store_of image) reached)) }
     ensures met { IfOk result AreReached }
+    ensures stand { IfOk result (λ reached. RecordsStand files.now (words_reached reached)) }
+    ensures ends { IfOk result HasBuckets }
     ensures checked { IfOk result (λ reached. ForSome (F.told f.old).files (λ image. AreChainsThere files.now image (words_reached reached))) }
     ensures stays { Stays (F.told f.old) (F.told f.new) }
     ensures damaged { IfScanDamaged result (IsChainsDamage files.now (F.told f.new)) }
@@ -167,11 +219,15 @@ fn follow_piece<F: Folder>(
     requires records { ForSome (F.told f.old).files (λ image. AreRecordsOf image records.now) }
     requires met { AreReached reached.old }
     requires there { ForSome (F.told f.old).files (λ image. HasFirst files.now image (words_reached reached.old) first) }
-    requires before { ForSome (F.told f.old).files (λ image. Agrees files.now image → words_reached reached.old ≡ reached_by (store_of image) first) }
+    requires before { ForSome (F.told f.old).files (λ image. Agrees files.now image → AreFirstReached (store_of image) first reached.old) }
+    requires stand { RecordsStand files.now (words_reached reached.old) }
+    requires many { length reached.old.ends.items ≡ first }
     ensures met { OnOk result (AreReached reached.new) }
     ensures checked { OnOk result (ForSome (F.told f.old).files (λ image. HasFirst files.now image (words_reached reached.new) (first + 1024))) }
     ensures table { OnOk result (ForSome (F.told f.old).files (λ image. HasRange image index (place_of_bucket first) 4096)) }
-    ensures reached { OnOk result (ForSome (F.told f.old).files (λ image. Agrees files.now image → words_reached reached.new ≡ reached_by (store_of image) (first + 1024))) }
+    ensures reached { OnOk result (ForSome (F.told f.old).files (λ image. Agrees files.now image → AreFirstReached (store_of image) (first + 1024) reached.new)) }
+    ensures stand { OnOk result (RecordsStand files.now (words_reached reached.new)) }
+    ensures many { OnOk result (length reached.new.ends.items ≡ first + 1024) }
     ensures stays { Stays (F.told f.old) (F.told f.new) }
     ensures damaged { IfScanDamaged result (IsChainsDamage files.now (F.told f.new)) }
     ensures untold { ForSome (F.told f.new).files (IsOpen files.now) → IfScanDamaged result (λ _. (F.told f.new).files ≡ None) }
@@ -198,10 +254,14 @@ fn follow_all<F: Folder>(
     requires words { ForSome (F.told f.old).files (λ image. AreBuckets image first table.now) }
     requires met { AreReached reached.old }
     requires there { ForSome (F.told f.old).files (λ image. HasFirst files.now image (words_reached reached.old) first) }
-    requires before { ForSome (F.told f.old).files (λ image. Agrees files.now image → words_reached reached.old ≡ reached_by (store_of image) first) }
+    requires before { ForSome (F.told f.old).files (λ image. Agrees files.now image → AreFirstReached (store_of image) first reached.old) }
+    requires stand { RecordsStand files.now (words_reached reached.old) }
+    requires many { length reached.old.ends.items ≡ first }
     ensures met { OnOk result (AreReached reached.new) }
     ensures checked { OnOk result (ForSome (F.told f.old).files (λ image. HasFirst files.now image (words_reached reached.new) (first + length table.now))) }
-    ensures reached { OnOk result (ForSome (F.told f.old).files (λ image. Agrees files.now image → words_reached reached.new ≡ reached_by (store_of image) (first + length table.now))) }
+    ensures reached { OnOk result (ForSome (F.told f.old).files (λ image. Agrees files.now image → AreFirstReached (store_of image) (first + length table.now) reached.new)) }
+    ensures stand { OnOk result (RecordsStand files.now (words_reached reached.new)) }
+    ensures many { OnOk result (length reached.new.ends.items ≡ first + length table.now) }
     ensures stays { Stays (F.told f.old) (F.told f.new) }
     ensures damaged { IfScanDamaged result (IsRecordDamage files.now (F.told f.new)) }
     ensures untold { ForSome (F.told f.new).files (Agrees files.now) → IfScanDamaged result (λ _. (F.told f.new).files ≡ None) }
@@ -210,13 +270,14 @@ fn follow_all<F: Folder>(
 {
     for i in 0..table.len() {
         let bucket = u32::from(first) + i as u32;
-        follow(f, files, records, bucket, table[i], reached)?;
+        let end = follow(f, files, records, bucket, table[i], reached)?;
+        reached.end_bucket(end == 0)?;
     }
     Ok(())
 }
 
 // Follows the chain of a bucket from a word on, and adds the records that it reaches. Those reached before are of
-// earlier buckets.
+// earlier buckets. Gives the word at which the chain ends.
 fn follow<F: Folder>(
     f: &mut F,
     files: &BlockFiles,
@@ -224,17 +285,21 @@ fn follow<F: Folder>(
     bucket: u32,
     start: u32,
     reached: &mut Reached,
-) -> Result<(), ScanFault>
+) -> Result<u32, ScanFault>
     requires bucket { bucket < table_length }
     requires records { ForSome (F.told f.old).files (λ image. AreRecordsOf image records.now) }
     requires met { AreReached reached.old }
     requires there { ForSome (F.told f.old).files (λ image. HasRecords files.now image (words_reached reached.old)) }
+    requires stand { RecordsStand files.now (words_reached reached.old) }
     requires others { ForSome (F.told f.old).files (λ image. Agrees files.now image → AreOfFirst (store_of image) bucket (words_reached reached.old)) }
     ensures met { OnOk result (AreReached reached.new) }
     ensures checked { OnOk result (ForSome (F.told f.old).files (λ image. HasRecords files.now image (words_reached reached.new))) }
     ensures looked { OnOk result (ForSome (F.told f.old).files (λ image. IsLookedAt files.now image (words_reached reached.new) start)) }
     ensures more { OnOk result (ForSome (F.told f.old).files (λ image. length (words_reached reached.old) ≤ length (words_reached reached.new))) }
     ensures reached { OnOk result (ForSome (F.told f.old).files (λ image. Agrees files.now image → words_reached reached.new ≡ words_reached reached.old ++ (chain_from (store_of image) bucket most_records [] start).reached)) }
+    ensures end { IfOk result (λ end. ForSome (F.told f.old).files (λ image. Agrees files.now image → end ≡ (chain_from (store_of image) bucket most_records [] start).end)) }
+    ensures stand { OnOk result (RecordsStand files.now (words_reached reached.new)) }
+    ensures ends { OnOk result (KeepsEnds reached.old reached.new) }
     ensures stays { Stays (F.told f.old) (F.told f.new) }
     ensures damaged { IfScanDamaged result (IsRecordDamage files.now (F.told f.new)) }
     ensures untold { ForSome (F.told f.new).files (Agrees files.now) → IfScanDamaged result (λ _. (F.told f.new).files ≡ None) }
@@ -245,10 +310,10 @@ fn follow<F: Folder>(
     for i in 0..MOST_RECORDS {
         match reach(f, files, records, bucket, reached, word)? {
             Some(next) => word = next,
-            None => return Ok(()),
+            None => return Ok(word),
         }
     }
-    Ok(())
+    Ok(word)
 }
 
 // Reaches the record of a word, where one stands whose first block was not met, that checks, and is of the bucket.
@@ -265,7 +330,10 @@ fn reach<F: Folder>(
     requires records { ForSome (F.told f.old).files (λ image. AreRecordsOf image records.now) }
     requires met { AreReached reached.old }
     requires there { ForSome (F.told f.old).files (λ image. AreReachedThere files.now image (words_reached reached.old)) }
+    requires stand { RecordsStand files.now (words_reached reached.old) }
     ensures met { OnOk result (AreReached reached.new) }
+    ensures stand { OnOk result (RecordsStand files.now (words_reached reached.new)) }
+    ensures ends { OnOk result (KeepsEnds reached.old reached.new) }
     ensures checked { OnOk result (ForSome (F.told f.old).files (λ image. HasEntry files.now image word)) }
     ensures taken { IfOk result (λ next. ForSome (F.told f.old).files (λ image. IsStepTaken files.now image (words_reached reached.old) word (words_reached reached.new) next)) }
     ensures step { IfOk result (λ next. ForSome (F.told f.old).files (λ image. Agrees files.now image → IsReach (store_of image) bucket (words_reached reached.old) word (words_reached reached.new) next)) }

@@ -4,6 +4,7 @@ ghost use Rattle.std.specs.Option.{ForSome};
 ghost use Rattle.blk_image.specs.Told.{Rises, Stays};
 ghost use Rattle.blk_audit.specs.Faults.{IfScanDamaged, IfScanDevice, IsNodesDamage};
 ghost use Rattle.blk_disk.specs.Tables.{Agrees};
+ghost use Rattle.blk_audit.specs.Filled.{CountsStand};
 ghost use Rattle.blk_audit.specs.Nodes.{AreNodesOf, HasNodes};
 
 use crate::fault::ScanFault;
@@ -20,6 +21,7 @@ pub(crate) fn read_nodes<F: Folder>(
 ) -> Result<Nodes, ScanFault>
     ensures nodes { IfOk result (λ nodes. ForSome (F.told f.old).files (λ image. Agrees files.now image → AreNodesOf image nodes)) }
     ensures checked { OnOk result (ForSome (F.told f.old).files (HasNodes files.now)) }
+    ensures counted { IfOk result (CountsStand files.now) }
     ensures stays { Stays (F.told f.old) (F.told f.new) }
     ensures damaged { IfScanDamaged result (IsNodesDamage (F.told f.new)) }
     ensures untold { ForSome (F.told f.old).files (Agrees files.now) → IfScanDamaged result (λ _. (F.told f.old).files ≡ None) }

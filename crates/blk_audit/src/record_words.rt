@@ -42,6 +42,8 @@ pub struct RecordWords {
     pub addrs: [u32; 4],
     /// 1 where the record is of a sparse entry, 2 where it is of a part of one.
     pub flags: u32,
+    /// Its seal, 0 where it has none.
+    pub seal: u32,
 }
 
 /// Reads the words of a record that stands, by one folder call.
@@ -84,5 +86,6 @@ pub(crate) fn words_of(window: &[u8]) -> RecordWords
         sizes: four_words(&view, EntryView::DATA_SIZE as usize),
         addrs: four_words(&view, EntryView::DATA_ADDR as usize),
         flags: view.word(EntryView::FLAGS as usize),
+        seal: view.word(EntryView::SEAL),
     }
 }

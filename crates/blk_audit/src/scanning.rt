@@ -9,7 +9,7 @@ ghost use Rattle.blk_disk.specs.Open.{IsOpen};
 ghost use Rattle.blk_disk.specs.Tables.{Agrees};
 ghost use Rattle.blk_audit.specs.Chaining.{AreChainsThere, reached_by, words_reached};
 ghost use Rattle.blk_audit.specs.Faults.{IfScanDamaged, IfScanDevice, IsListsDamage};
-ghost use Rattle.blk_audit.specs.ReadLists.{AreListsOf};
+ghost use Rattle.blk_audit.specs.ReadLists.{AreListsAmong, AreListsOf};
 ghost use Rattle.blk_audit.specs.Walking.{HasUseList, nodes_walked};
 
 use crate::fault::ScanFault;
@@ -54,6 +54,7 @@ pub fn read_lists<F: Folder>(
     ensures reached { IfOk result (λ lists. ForSome (F.told f.old).files (λ image. Agrees files.now image → words_reached lists.reached ≡ reached_by (store_of image) table_length)) }
     ensures checked { IfOk result (λ lists. ForSome (F.told f.old).files (λ image. HasUseList files.now image × AreChainsThere files.now image (words_reached lists.reached))) }
     ensures lists { IfOk result (λ lists. ForSome (F.told f.old).files (λ image. Agrees files.now image → AreListsOf image lists)) }
+    ensures stand { IfOk result (AreListsAmong files.now) }
     ensures stays { Stays (F.told f.old) (F.told f.new) }
 
     // A folder that tells its files gives a damage only where its index is too short or the block files don't agree with it.

@@ -6,8 +6,9 @@ ghost use Rattle.blk_audit.specs.Faults.{IfScanDamaged, IfScanDevice, IsWalkDama
 ghost use Rattle.blk_volume.specs.ListImages.{completed_walk};
 ghost use Rattle.blk_disk.specs.Open.{IsOpen};
 ghost use Rattle.blk_disk.specs.Tables.{Agrees};
+ghost use Rattle.blk_audit.specs.Filled.{CountsStand};
 ghost use Rattle.blk_audit.specs.Nodes.{AreNodesOf};
-ghost use Rattle.blk_audit.specs.Walking.{AreMet, HasEnds, HasUseList, nodes_walked};
+ghost use Rattle.blk_audit.specs.Walking.{AreMet, HasEnds, HasUseList, NodesStand, nodes_walked};
 
 use crate::fault::ScanFault;
 use crate::list_walk::{Walked, walk_nodes};
@@ -28,6 +29,7 @@ use std::alloc::Global;
 pub fn walk<F: Folder>(alloc: Global, f: &mut F, files: &BlockFiles) -> Result<Walked, ScanFault>
     ensures walked { IfOk result (λ walked. ForSome (F.told f.old).files (λ image. Agrees files.now image → nodes_walked walked ≡ completed_walk image)) }
     ensures met { IfOk result AreMet }
+    ensures stand { IfOk result (λ walked. NodesStand files.now (nodes_walked walked)) }
     ensures checked { OnOk result (ForSome (F.told f.old).files (HasUseList files.now)) }
     ensures stays { Stays (F.told f.old) (F.told f.new) }
 
@@ -50,8 +52,10 @@ pub(crate) fn walk_over<F: Folder>(
     nodes: &Nodes,
 ) -> Result<Walked, ScanFault>
     requires nodes { ForSome (F.told f.old).files (λ image. Agrees files.now image → AreNodesOf image nodes.now) }
+    requires counted { CountsStand files.now nodes.now }
     ensures walked { IfOk result (λ walked. ForSome (F.told f.old).files (λ image. Agrees files.now image → nodes_walked walked ≡ completed_walk image)) }
     ensures met { IfOk result AreMet }
+    ensures stand { IfOk result (λ walked. NodesStand files.now (nodes_walked walked)) }
     ensures checked { OnOk result (ForSome (F.told f.old).files (HasEnds files.now)) }
     ensures stays { Stays (F.told f.old) (F.told f.new) }
     ensures damaged { IfScanDamaged result (IsWalkDamage files.now (F.told f.new)) }

@@ -27,7 +27,7 @@ use Rattle.blk_disk.specs.Open.{IsOpen}
 use Rattle.blk_index.specs.Making.{deletions}
 use Rattle.blk_alloc.specs.Extending.{KeepsStanding}
 use Rattle.blk_audit.specs.Sealable.{CanBeSealed}
-use Rattle.blk_repair_laws.specs.BucketEnds.{records_of}
+use Rattle.blk_audit.specs.BucketEnds.{records_of}
 use Rattle.blk_alloc.specs.Rebuilding.{AreRight}
 use Rattle.blk_alloc.proofs.Rebuilt.{told_same}
 use Rattle.blk_repair_laws.specs.ChainRepair.{AreChainsMended, chain_repair_steps, kept_records}

@@ -13,7 +13,7 @@ use Rattle.blk_volume.specs.View.{store_of}
 use Rattle.blk_repair_laws.specs.ChainRepair.{AreChainsMended, HasChainsUpTo, chain_repair_steps, chain_steps, chains_steps, kept_records}
 use Rattle.blk_repair_laws.specs.ListRepair.{HoldsTheSame}
 use Rattle.blk_repair_laws.proofs.ChainRepair.{chains-begin, chains-repaired}
-use Rattle.blk_repair_laws.specs.BucketEnds.{records_of}
+use Rattle.blk_audit.specs.BucketEnds.{records_of}
 use Rattle.blk_repair.specs.Chains.{AreChainsScanned, IsNextBucket}
 use Rattle.blk_repair.proofs.ChainRuns.{mends-next, quiet-chain}
 

@@ -6,7 +6,7 @@ use Rattle.blk_format.specs.Headers.{table_length}
 use Rattle.blk_volume.specs.Chains.{IsChain}
 use Rattle.blk_volume.specs.ListImages.{IsWritable}
 use Rattle.blk_volume.specs.View.{store_of}
-use Rattle.blk_repair_laws.specs.BucketEnds.{records_of}
+use Rattle.blk_audit.specs.BucketEnds.{records_of}
 use Rattle.blk_repair_laws.specs.ChainRepair.{HasChainsUpTo, KeepsAllWalked, kept_records}
 
 -- the list was mended, the chains below this bucket are, and these are the kept records of the bucket

@@ -9,7 +9,7 @@ ghost use Rattle.blk_disk.specs.Open.{IsOpen};
 ghost use Rattle.blk_disk.specs.Tables.{is_record_among};
 ghost use Rattle.blk_repair_laws.specs.ChainRepair.{AreChainsMended, chain_repair_steps, chain_steps};
 ghost use Rattle.blk_repair_laws.specs.ListRepair.{HoldsTheSame};
-ghost use Rattle.blk_repair_laws.specs.BucketEnds.{AreEnds, records_of as records_among};
+ghost use Rattle.blk_audit.specs.BucketEnds.{AreEnds, records_of as records_among};
 ghost use Rattle.blk_repair.specs.Chains.{AreChainsScanned, IsNextBucket};
 ghost use Rattle.blk_repair.specs.Damages.{IsChainRepairDamage, IsChainsRepairDamage};
 

@@ -53,7 +53,7 @@ unfolding put_front
 checks-front node list = checks_stay (putting_in_front node list.head) list
 
 -- completing changes no check
-checks-completed : (list : ListView) → (completed_list list).checks ≡ list.checks
+pub checks-completed : (list : ListView) → (completed_list list).checks ≡ list.checks
 unfolding completed_list operated
 checks-completed list = go (counts list) (list.operation == insert) (list.operation == remove) where
   go : (c i r : Bool) → (if c then (if i then put_front list.transaction list else (if r then take_out list.transaction list else put_front list.transaction (take_out list.transaction list))) else list).checks ≡ list.checks

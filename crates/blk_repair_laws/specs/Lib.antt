@@ -2,7 +2,6 @@ pub mod RecordSeals
 pub mod EndRepair
 pub mod ListRepair
 pub mod ChainRepair
-pub mod BucketEnds
 pub mod KeptSeals
 pub mod MendedLinks
 pub mod LinkRepair

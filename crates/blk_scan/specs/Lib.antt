@@ -1,1 +1,6 @@
+pub mod Bare
+pub mod Faults
+pub mod Ordering
+pub mod Outcomes
+pub mod Packing
 pub mod Scans

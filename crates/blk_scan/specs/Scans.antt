@@ -17,10 +17,11 @@ use Rattle.blk_addr.specs.Claims.{IsClaimsOf}
 use Rattle.blk_disk.specs.declared.tables.BlockFiles.{BlockFiles}
 use Rattle.blk_disk.specs.Tables.{is_node_among, is_record_among}
 use Rattle.blk_audit.specs.Sealable.{CanBeSealed}
-use Rattle.blk_repair_laws.specs.BucketEnds.{AreEnds, records_of}
+use Rattle.blk_audit.specs.BucketEnds.{AreEnds, records_of}
 use Rattle.blk_repair_laws.specs.ChainRepair.{kept_records}
 use Rattle.blk_repair_laws.specs.KeptSeals.{AreOthersSealed, IsOfKept}
 use Rattle.blk_verdict.specs.Reasons.{reason_of}
+use Rattle.blk_verdict.specs.declared.reason.Reason.TheVariants.{Unlisted}
 use Rattle.blk_scan.specs.declared.chains.KeptChains.{KeptChains}
 use Rattle.blk_scan.specs.declared.scan.Dropped.{Dropped}
 use Rattle.blk_scan.specs.declared.scan.Kept.{Kept}
@@ -32,9 +33,13 @@ use Rattle.blk_scan.specs.declared.scan.Scan.{Scan}
 abbrev pub kept_as_told : shown.Loaded → Kept
 kept_as_told loaded = record { node = loaded.node; entry = loaded.contents; child = is_part loaded }
 
--- what a dropped node or record is told to be dropped for
+-- the place and the reason that are told of a dropped node or record
 abbrev pub dropped_by_told : Dropped → ℕ × reasons.Reason
 dropped_by_told told = (told.place, reason_of told.reason)
+
+-- what is told of an unlisted record
+abbrev pub unlisted_as_told : ℕ → Dropped
+unlisted_as_told record_word = record { place = record_word; reason = Unlisted }
 
 -- these are the kept records of all buckets, and each bucket that is told whole is the chain of its own
 pub record AreKeptChains (image : Image) (records ends : List ℕ) (whole : List Bool) : Type 0 where
@@ -92,7 +97,7 @@ pub record StandAmong (files : BlockFiles) (scan : Scan) : Type 0 where
 -- nothing is told
 pub record IsEmptyScan (scan : Scan) : Type 0 where
   pub walked : scan.walked.items ≡ []
-  pub kept : scan.kept.items ≡ []
+  pub kept_told : scan.kept.items ≡ []
   pub kept_nodes : scan.kept_nodes.items ≡ []
   pub dropped : scan.dropped.items ≡ []
   pub claims : IsClaimsOf scan.claims []

@@ -1,8 +1,16 @@
 //! What a cache folder holds, told as a whole: the audit of its use list, its chains and their records.
 #![tactic(auto)]
 
+mod bare;
 mod chains;
+mod nodes;
+mod ordering;
+mod outcomes;
 mod scan;
+mod scanning;
+mod sets;
+mod telling;
 
 pub use chains::KeptChains;
 pub use scan::{Dropped, Kept, Scan};
+pub use scanning::scan_files;

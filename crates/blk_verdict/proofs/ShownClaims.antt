@@ -247,7 +247,7 @@ addresses_shown image loaded said is =
     ap (filter is_address) (ap₂ (λ (w : ℕ) (l : List ℕ). w ∷ l) is.is.node (ap₂ (λ (w : ℕ) (l : List ℕ). w ∷ l) is.is.entry is.is.others))
     ∙ same_words image (loaded.node ∷ loaded.contents ∷ loaded.others) (words-stand image loaded (held_rule, is.node, is.loads))
 
-all_addresses_shown : (image : Image) (kept : List shown.Loaded) (said : List Loaded) → AreShown image kept said → addresses_of_all said ≡ flat_map words_of kept
+pub all_addresses_shown : (image : Image) (kept : List shown.Loaded) (said : List Loaded) → AreShown image kept said → addresses_of_all said ≡ flat_map words_of kept
 all_addresses_shown image [] [] are = refl
 all_addresses_shown image [] (said ∷ others) are = absurd are
 all_addresses_shown image (loaded ∷ kept) [] are = absurd are

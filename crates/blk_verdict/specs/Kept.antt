@@ -13,6 +13,7 @@ use Rattle.blk_format.specs.Address.{is_address}
 use Rattle.blk_format.specs.BlockFiles.{is_among}
 use Rattle.blk_format.specs.Headers.{table_length}
 use Rattle.blk_addr.specs.Claims.{IsClaimsOf}
+use Rattle.blk_addr.specs.declared.claim_set.Claims.{Claims}
 use Rattle.blk_volume.specs.Audit.{is_parent_role}
 use Rattle.blk_volume.specs.Loads as shown
 use Rattle.blk_volume.specs.Loads.{held_rule, is_part}
@@ -51,6 +52,14 @@ abbrev pub HaveKeys : Image → List Loaded → Type 0
 HaveKeys image said = All (HasItsKey image) said
 
 -- What is kept so far.
+
+-- the kept records, in the order in which they were tried
+abbrev pub records_kept : KeptSoFar → List Loaded
+records_kept so_far = so_far.kept.items
+
+-- what they own
+abbrev pub claims_kept : KeptSoFar → Claims
+claims_kept so_far = so_far.claims
 
 -- the addresses that belong to a record: of its node, of itself, of its long key and of its streams
 abbrev pub addresses_of : Loaded → List ℕ

@@ -20,6 +20,7 @@ words_kept loaded = record {
   sizes = loaded.sizes;
   addrs = loaded.addrs;
   flags = 0;
+  seal = 0;
 }
 
 -- an image has this key where a record with the same length of the key and the same word of a long key has it

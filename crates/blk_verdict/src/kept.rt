@@ -12,7 +12,7 @@ ghost use Rattle.blk_volume.specs.View.{store_of};
 ghost use Rattle.blk_io.specs.Faults.{IfDamaged, IfDevice};
 ghost use Rattle.blk_disk.specs.Tables.{Agrees};
 ghost use Rattle.blk_audit.specs.Faults.{IfScanDamaged, IfScanDevice};
-ghost use Rattle.blk_verdict.specs.Kept.{AreShown, HasPartNumber, HaveKeys, IsAlwaysInOrder, IsSameAnswer, IsKeptInOrder, IsIndexed, IsLoadedFrom, NoneMayBe, addresses_of, addresses_of_all, is_sought, kept_with};
+ghost use Rattle.blk_verdict.specs.Kept.{AreShown, HasPartNumber, HaveKeys, IsAlwaysInOrder, IsSameAnswer, IsKeptInOrder, IsIndexed, IsLoadedFrom, NoneMayBe, addresses_of, addresses_of_all, claims_kept, is_sought, kept_with, records_kept};
 ghost use Rattle.blk_verdict.specs.Keyed.{HasItsKey};
 ghost use Rattle.blk_verdict.specs.Readable.{IsReadable};
 ghost use Rattle.blk_verdict.specs.Reads.{IsCutRead};
@@ -38,9 +38,9 @@ const MOST_NAME: usize = 32_796;
 // Where in a name the key begins.
 const KEY_OF_NAME: usize = 6;
 
-// The records that are kept so far, in the order in which they were tried, with what they own.
+/// The records that are kept so far, in the order in which they were tried, with what they own.
 #[derive(Drop)]
-pub(crate) struct KeptSoFar {
+pub struct KeptSoFar {
     kept: Vec<Loaded>,
     claims: Claims,
     by_hash: ByHash,
@@ -59,18 +59,32 @@ impl KeptSoFar {
         }
     }
 
-    // The number of kept records.
-    pub(crate) fn count(&self) -> usize
-        ensures { result ≡ length self.now.kept.items }
+    /// The number of kept records.
+    pub fn count(&self) -> usize
+        ensures { result ≡ length (records_kept self.now) }
     {
         self.kept.len()
     }
 
-    // One of the kept records, counted from 0.
-    pub(crate) fn at(&self, i: usize) -> Option<Loaded>
-        ensures { result ≡ slice_get self.now.kept.items i }
+    /// One of the kept records, counted from 0.
+    pub fn at(&self, i: usize) -> Option<Loaded>
+        ensures { result ≡ slice_get (records_kept self.now) i }
     {
         self.kept.get(i).copied()
+    }
+
+    /// The kept records, in the order in which they were tried.
+    pub fn records(&self) -> &[Loaded]
+        ensures { result.now ≡ records_kept self.now }
+    {
+        &self.kept
+    }
+
+    /// What the kept records own.
+    pub fn into_claims(self) -> Claims
+        ensures { result ≡ claims_kept self }
+    {
+        self.claims
     }
 
     // Judges a loaded record by the reasons `Claimed`, `Name` and `Parent`, and keeps it where none of them holds.

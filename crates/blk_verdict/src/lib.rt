@@ -23,10 +23,12 @@ mod walked_nodes;
 mod words;
 
 pub use charges::charge_of_all;
+pub use kept::KeptSoFar;
 pub use laws::loaded_keys_are_found;
 pub use listing::unlisted;
 pub use loading::{Loaded, Verdict, load, load_words};
 pub use parts::has_part;
+pub use passes::{Judged, Tried, judge_nodes};
 pub use reason::Reason;
 pub use roles::Role;
 pub use same_keys::has_this_key;

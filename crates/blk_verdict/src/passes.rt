@@ -26,27 +26,32 @@ use blk_disk::BlockFiles;
 use blk_io::Folder;
 use std::alloc::Global;
 
-// What came of a walked node.
+/// What came of a walked node.
 #[derive(Clone, Copy, Debug)]
-pub(crate) struct Tried {
-    // which of the walked nodes it is, counted from 0
-    place: usize,
-    // why it is dropped, or none where it is kept
-    reason: Option<Reason>,
+pub struct Tried {
+    /// Which of the walked nodes it is, counted from 0.
+    pub place: usize,
+    /// Why it is dropped, or none where it is kept.
+    pub reason: Option<Reason>,
 }
 
-// The walked nodes in the order in which they were tried, and the records that are kept.
+/// The walked nodes in the order in which they were tried, and the records that are kept.
 #[derive(Drop)]
-pub(crate) struct Judged {
-    pub(crate) kept: KeptSoFar,
-    pub(crate) tried: Vec<Tried>,
+pub struct Judged {
+    /// The records that are kept, in that order.
+    pub kept: KeptSoFar,
+    /// What came of each of the walked nodes.
+    pub tried: Vec<Tried>,
 }
 
-// Judges the walked nodes in two passes: first those whose record is not a child, then the children.
-//
-// The folder calls are those of two passes. A damage is a read that gave too few bytes; a folder whose files are those
-// of `files`, and of which the lists were read, gives none.
-pub(crate) fn judge_nodes<F: Folder>(
+/// Judges the walked nodes in two passes: first those whose record is not a child, then the children.
+///
+/// Of each node that is tried the record is asked for the flags of a child, which takes one folder call where it was not
+/// read with the lists; then come those of `load_walked`, and where it finds no reason, those that read the keys and the
+/// index bits by which a record is judged against the kept ones. A damage is a read that gave too few bytes; a folder
+/// whose files are those of `files`, and of which the lists were read, gives none. `Device` comes only where the folder
+/// failed in this call, and `Memory` where there was too little of it.
+pub fn judge_nodes<F: Folder>(
     alloc: Global,
     f: &mut F,
     files: &BlockFiles,

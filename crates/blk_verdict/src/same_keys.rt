@@ -103,5 +103,6 @@ fn words_of(loaded: &Loaded) -> RecordWords
         sizes: loaded.sizes,
         addrs: loaded.addrs,
         flags: 0,
+        seal: 0,
     }
 }

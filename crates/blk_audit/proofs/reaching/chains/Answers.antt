@@ -3,7 +3,8 @@ use Rattle.blk_disk.specs.Open.{IsOpen}
 use Rattle.blk_disk.specs.Tables.{Agrees}
 use Rattle.blk_entry.proofs.KeyPlaces.{ok_weaker}
 use Rattle.blk_lru.proofs.Conditions.{told_now, told_stays}
-use Rattle.blk_audit.specs.Chaining.{AreChainsThere, words_reached}
+use Rattle.blk_volume.specs.View.{store_of}
+use Rattle.blk_audit.specs.Chaining.{AreBucketsOf, AreChainsThere, words_reached}
 use Rattle.blk_audit.specs.Records.{AreRecordsOf}
 use Rattle.blk_audit.proofs.Carrying.{untold_last, untold_on}
 use Rattle.blk_audit.proofs.reaching.chains.Goals as goal
@@ -23,3 +24,8 @@ returns-in_err-records-clause-untold g c =
 pub returns-clause-untold : goal.returns-clause-untold
 returns-clause-untold g c =
     untold_last c.chains_over.result {a = g.F.Folder.told c.args.f.now} (IsOpen c.args.files.now) (IsOpen c.args.files.now) (λ image is. is) c.in_ok-records.ensures.stays c.chains_over.ensures.untold
+
+pub returns-clause-buckets : goal.returns-clause-buckets
+returns-clause-buckets g c =
+    ok_weaker c.chains_over.result _ (λ reached. ForSome (g.F.Folder.told c.args.f.now).files (λ image. Agrees c.args.files.now image → AreBucketsOf (store_of image) reached))
+    (λ reached are image there agrees. are image (told_now image c.in_ok-records.ensures.stays there) agrees) c.chains_over.ensures.buckets

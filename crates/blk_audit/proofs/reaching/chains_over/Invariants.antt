@@ -1,16 +1,18 @@
-use Rattle.std.proofs.Common.{◌≡◌, ◌*◌, ◌<◌, ◌≤◌}
+use Rattle.std.proofs.Common.{◌≡◌, ◌*◌, ◌<◌, ◌≤◌, length}
 use Rattle.std.specs.Option.{ForSome}
 use Rattle.blk_image.specs.Image.{HasRange, Index}
 use Rattle.blk_image.specs.Told.{Stays}
 use Rattle.blk_volume.specs.View.{store_of}
-use Rattle.blk_audit.specs.Chaining.{AreReached, HasFirst, reached_by, words_reached}
+use Rattle.blk_audit.specs.Chaining.{AreFirstReached, AreReached, HasFirst, RecordsStand, words_reached}
 use Rattle.blk_disk.specs.Tables.{Agrees}
 use Rattle.blk_audit.proofs.reaching.chains_over.Given as goal
 
 abbrev pub invariant-loop-piece : goal.invariant-loop-piece
 invariant-loop-piece g l = record {
   met : AreReached l.reached;
-  reached : ForSome (g.F.Folder.told l.fn.f).files (λ image. Agrees l.files image → words_reached l.reached ≡ reached_by (store_of image) (l.piece * 1024));
+  reached : ForSome (g.F.Folder.told l.fn.f).files (λ image. Agrees l.files image → AreFirstReached (store_of image) (l.piece * 1024) l.reached);
+  stand : RecordsStand l.files (words_reached l.reached);
+  many : length l.reached.ends.items ≡ l.piece * 1024;
   way : ForSome (g.F.Folder.told l.fn.f).files (λ image. HasFirst l.files image (words_reached l.reached) (l.piece * 1024));
   table : ForSome (g.F.Folder.told l.fn.f).files (λ image. 0 < l.piece → HasRange image Index 368 (l.piece * 4096));
   stays : Stays (g.F.Folder.told l.fn.f) (g.F.Folder.told l.f);

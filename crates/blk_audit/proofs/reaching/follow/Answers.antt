@@ -4,7 +4,8 @@ use Rattle.blk_audit.specs.Records.{AreRecordsOf}
 use Rattle.blk_image.specs.Image.{Image}
 use Rattle.blk_lru.proofs.Conditions.{told_now, told_stays}
 use Rattle.blk_audit.specs.Chaining.{AreReachedThere, IsReach, IsStepTaken}
-use Rattle.blk_audit.proofs.Chained.{begins, goes_on, ends, is_full}
+use Rattle.blk_audit.proofs.Chained.{begins, goes_on, ends, ends_at, full_at, is_full}
+use Rattle.blk_audit.proofs.Ends.{keeps_on}
 use Rattle.blk_audit.proofs.ReadChains.{no_fewer, start_full, start_looked, way_begins, way_ends, way_full, way_goes_on}
 use Rattle.blk_audit.proofs.Shown.{others_apart}
 use Rattle.blk_audit.proofs.reaching.follow.Goals as goal
@@ -12,6 +13,8 @@ use Rattle.blk_audit.proofs.reaching.follow.Goals as goal
 pub loop-i-init : goal.loop-i-init
 loop-i-init g c = record {
   met = c.requires.met;
+  stand = c.requires.stand;
+  ends = record { ends = refl; closed = refl };
   followed = λ image there agrees. begins (store_of image) c.args.bucket c.args.reached.now.words.items c.args.start (others_apart image c.args.bucket c.args.reached.now.words.items (c.requires.others image there agrees));
   way = λ image there. way_begins c.args.files.now image c.args.reached.now.words.items c.args.start (c.requires.there image there);
   stays = refl;
@@ -23,6 +26,8 @@ loop-i-preserved g c =
     let e : 16777216 - c.loop-i.i ≡ suc (16777216 - (c.loop-i.i + 1)) = omega (arith, c.loop-i-test.true) in
     record {
       met = c.in_ok-next.ensures.met;
+      stand = c.in_ok-next.ensures.stand;
+      ends = keeps_on c.args.reached.now c.loop-i.reached c.reach.new.reached c.loop-i.invariant.ends c.in_ok-next.ensures.ends;
       followed = λ image there agrees.
           goes_on (store_of image) c.args.bucket c.args.reached.now.words.items c.loop-i.reached.words.items c.reach.new.reached.words.items c.args.start (16777216 - c.loop-i.i) (16777216 - (c.loop-i.i + 1)) c.loop-i.word c.in-Some.next e (c.loop-i.invariant.followed image there agrees)
           (subst (λ (o : Option ℕ). IsReach (store_of image) c.args.bucket c.loop-i.reached.words.items c.loop-i.word c.reach.new.reached.words.items o) c.in-Some.is (c.in_ok-next.ensures.step image (told_now image c.loop-i.invariant.stays there) agrees));
@@ -84,3 +89,17 @@ returns-clause-looked g c image there =
 
 pub returns-clause-more : goal.returns-clause-more
 returns-clause-more g c image there = (c.loop-i.invariant.way image there).more
+
+pub returns-in-None-clause-end : goal.returns-in-None-clause-end
+returns-in-None-clause-end g c image there agrees =
+    let e : 16777216 - c.loop-i.i ≡ suc (16777216 - (c.loop-i.i + 1)) = omega (arith, c.loop-i-test.true) in
+    ends_at (store_of image) c.args.bucket c.args.reached.now.words.items c.loop-i.reached.words.items c.reach.new.reached.words.items c.args.start (16777216 - c.loop-i.i) (16777216 - (c.loop-i.i + 1)) c.loop-i.word e (c.loop-i.invariant.followed image there agrees)
+    (subst (λ (o : Option ℕ). IsReach (store_of image) c.args.bucket c.loop-i.reached.words.items c.loop-i.word c.reach.new.reached.words.items o) c.in-None.is (c.in_ok-next.ensures.step image (told_now image c.loop-i.invariant.stays there) agrees))
+
+pub returns-clause-end : goal.returns-clause-end
+returns-clause-end g c image there agrees =
+    let e : 16777216 - c.loop-i.i ≡ 0 = omega (arith, c.loop-i-test.false) in
+    full_at (store_of image) c.args.bucket c.args.reached.now.words.items c.loop-i.reached.words.items c.args.start (16777216 - c.loop-i.i) c.loop-i.word e (c.loop-i.invariant.followed image there agrees)
+
+pub returns-in-None-clause-ends : goal.returns-in-None-clause-ends
+returns-in-None-clause-ends g c = keeps_on c.args.reached.now c.loop-i.reached c.reach.new.reached c.loop-i.invariant.ends c.in_ok-next.ensures.ends

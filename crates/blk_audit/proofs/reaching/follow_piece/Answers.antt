@@ -3,7 +3,8 @@ use Rattle.blk_format.specs.Headers.{HasWholeIndex}
 use Rattle.blk_disk.specs.Open.{IsOpen}
 use Rattle.blk_disk.specs.Tables.{Agrees}
 use Rattle.blk_audit.specs.Records.{AreRecordsOf}
-use Rattle.blk_audit.specs.Chaining.{HasFirst, words_reached}
+use Rattle.blk_volume.specs.View.{store_of}
+use Rattle.blk_audit.specs.Chaining.{AreFirstReached, HasFirst, words_reached}
 use Rattle.blk_image.specs.Image.{Image}
 use Rattle.blk_lru.proofs.Conditions.{told_stays}
 use Rattle.blk_audit.proofs.Carrying.{untold_converted, untold_on}
@@ -22,3 +23,6 @@ returns-in_err-buckets-clause-untold g c =
 pub returns-in_err-follow_all-clause-untold : goal.returns-in_err-follow_all-clause-untold
 returns-in_err-follow_all-clause-untold g c =
     untold_on c.follow_all.result c.from_residual-in_err-follow_all.result c.in_err-follow_all.field-0.0 {a = g.F.Folder.told c.follow_all.new.f} {m = g.F.Folder.told c.follow_all.new.f} (IsOpen c.args.files.now) (Agrees c.args.files.now) (λ image is. is.agrees) refl c.follow_all.ensures.untold c.in_err-follow_all.was c.from_residual-in_err-follow_all.ensures.1
+
+pub follow_all-requires-clause-before : goal.follow_all-requires-clause-before
+follow_all-requires-clause-before g c = told_stays (λ (image : Image). Agrees c.args.files.now image → AreFirstReached (store_of image) c.args.first c.args.reached.now) c.in_ok-buckets.ensures.stays c.requires.before

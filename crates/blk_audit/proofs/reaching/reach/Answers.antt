@@ -1,14 +1,15 @@
-use Rattle.std.proofs.Common.{◌≡◌, ℕ, ◌%◌, ◌++◌, ◌∷◌, [], Bool, true, false, ◌&&◌, map, sym, ap, subst, ◌∙◌}
+use Rattle.std.proofs.Common.{◌≡◌, ℕ, ◌%◌, ◌++◌, ◌∷◌, [], Bool, true, false, ◌&&◌, map, refl, sym, ap, subst, ◌∙◌}
 use Rattle.std.specs.Prelude.{◌==◌}
 use Rattle.std.proofs.lemmas.Bool.{ne_eqb, eq-eqb}
 use Rattle.blk_format.specs.Address.{blocks_256}
 use Rattle.blk_volume.specs.Chains.{file_and_block, is_of_bucket}
 use Rattle.blk_volume.specs.View.{stands_as, store_of}
 use Rattle.blk_disk.specs.Tables.{is_record_among}
-use Rattle.blk_audit.specs.Chaining.{is_met}
+use Rattle.blk_audit.specs.Chaining.{is_met, words_reached}
 use Rattle.blk_audit.specs.Records.{IsSaidBy}
 use Rattle.blk_audit.proofs.Carrying.{converted}
 use Rattle.blk_audit.proofs.Chained.{reach_stops, reach_on, not_reached, not_new, reached_new}
+use Rattle.blk_audit.proofs.Ends.{stand_more}
 use Rattle.blk_audit.proofs.ReadChains.{met_there, none_named}
 use Rattle.blk_audit.proofs.Shown.{names_stand, next_is, of_bucket_by, of_none, of_is}
 use Rattle.blk_audit.proofs.Truths.{none_by, test_by, value_by, true_not, false_not}
@@ -106,3 +107,21 @@ returns-clause-taken g c image there =
     let said : IsSaidBy image c.args.word c.in_ok-said.said = subst (λ (w : ℕ). IsSaidBy image w c.in_ok-said.said) named (c.in_ok-said.ensures.said image there (c.requires.records image there)) in
     let items : c.add.new.self.words.items ≡ c.args.reached.now.words.items ++ c.args.word ∷ [] = c.in_ok-add.ensures.added ∙ ap (λ (w : ℕ). c.args.reached.now.words.items ++ w ∷ []) named in
     (items, (said.words.next, record { named = test_by (is_record_among c.args.files.now c.args.word) c.args.word c.in-Some.addr (sym c.in-Some.is ∙ c.entry.ensures.entry); there = said.there }))
+
+pub returns-clause-stand : goal.returns-clause-stand
+returns-clause-stand g c =
+    stand_more c.args.files.now (words_reached c.args.reached.now) (words_reached c.add.new.self) c.in-Some.addr c.args.word c.in_ok-add.ensures.added c.requires.stand
+    (value_by (is_record_among c.args.files.now c.args.word) c.args.word c.in-Some.addr (sym c.in-Some.is ∙ c.entry.ensures.entry))
+    (test_by (is_record_among c.args.files.now c.args.word) c.args.word c.in-Some.addr (sym c.in-Some.is ∙ c.entry.ensures.entry))
+
+pub returns-in_default-clause-ends : goal.returns-in_default-clause-ends
+returns-in_default-clause-ends g c = record { ends = refl; closed = refl }
+
+pub returns-then-has-clause-ends : goal.returns-then-has-clause-ends
+returns-then-has-clause-ends g c = record { ends = refl; closed = refl }
+
+pub returns-then-not-said-clause-ends : goal.returns-then-not-said-clause-ends
+returns-then-not-said-clause-ends g c = record { ends = refl; closed = refl }
+
+pub returns-then-said-bucket-clause-ends : goal.returns-then-said-bucket-clause-ends
+returns-then-said-bucket-clause-ends g c = record { ends = refl; closed = refl }

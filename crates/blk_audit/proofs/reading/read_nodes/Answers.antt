@@ -2,7 +2,7 @@ use Rattle.std.proofs.Common.{◌≡◌, ◌≢◌, ℕ, ◌+◌, ◌<◌, Bool,
 use Rattle.std.specs.Prelude.{◌==◌}
 use Rattle.std.proofs.lemmas.Bool.{eqb-true, eq-eqb}
 use Rattle.blk_image.specs.Told.{Told}
-use Rattle.blk_audit.specs.Filled.{IsFilled}
+use Rattle.blk_audit.specs.Filled.{CountStands, IsFilled}
 use Rattle.blk_disk.specs.Tables.{Agrees}
 use Rattle.blk_audit.proofs.Carrying.{untold_on}
 use Rattle.blk_audit.proofs.AllNodes.{are_nodes, each_there}
@@ -22,7 +22,7 @@ one_more P n m lt here before = by (m == n) refl
         before ne (omega (arith, lt, ne))
 
 pub loop-n-init : goal.loop-n-init
-loop-n-init g c = record { filled = λ image there m below. absurd (omega (arith, below)); stays = refl; later = omega arith }
+loop-n-init g c = record { filled = λ image there m below. absurd (omega (arith, below)); counted = λ m below. absurd (omega (arith, below)); stays = refl; later = omega arith }
 
 pub loop-n-preserved : goal.loop-n-preserved
 loop-n-preserved g c = record {
@@ -30,6 +30,9 @@ loop-n-preserved g c = record {
       let now : (g.F.Folder.told c.loop-n.f).files ≡ Some image = ap (λ (t : Told). t.files) c.loop-n.invariant.stays ∙ there in
       one_more (IsFilled c.args.files.now image c.add_file.new.self) c.loop-n.n m lt (c.in_ok-add_file.ensures.here image now)
       (λ ne below. c.in_ok-add_file.ensures.others image now m ne (c.loop-n.invariant.filled image there m below));
+  counted = λ m lt.
+      one_more (CountStands c.args.files.now c.add_file.new.self) c.loop-n.n m lt c.in_ok-add_file.ensures.counted
+      (λ ne below. c.in_ok-add_file.ensures.others_counted m ne (c.loop-n.invariant.counted m below));
   stays = c.in_ok-add_file.ensures.stays ∙ c.loop-n.invariant.stays;
   later = omega (arith, c.in_ok-add_file.ensures.later, c.loop-n.invariant.later);
 }
@@ -46,3 +49,6 @@ returns-clause-nodes g c image there agrees =
 
 pub returns-clause-checked : goal.returns-clause-checked
 returns-clause-checked g c image there = each_there c.args.files.now image c.loop-n.nodes (λ n lt. c.loop-n.invariant.filled image there n (omega (arith, lt, c.loop-n-test.false)))
+
+pub returns-clause-counted : goal.returns-clause-counted
+returns-clause-counted g c n lt = c.loop-n.invariant.counted n (omega (arith, lt, c.loop-n-test.false))

@@ -22,6 +22,7 @@ returns-clause-lists g c image there agrees =
       walked = c.in_ok-walked.ensures.walked image walked agrees;
       met = c.in_ok-walked.ensures.met;
       reached = c.in_ok-reached.ensures.reached image reached agrees;
+      buckets = c.in_ok-reached.ensures.buckets image reached agrees;
       known = c.in_ok-reached.ensures.met;
       nodes = c.in_ok-nodes.ensures.nodes image there agrees;
       records = c.in_ok-records.ensures.records image records;
@@ -48,3 +49,6 @@ returns-in_err-walked-clause-untold g c =
 pub returns-in_err-reached-clause-untold : goal.returns-in_err-reached-clause-untold
 returns-in_err-reached-clause-untold g c =
     untold_on c.chains_over.result c.from_residual-in_err-reached.result c.in_err-reached.field-0.0 {a = g.F.Folder.told c.args.f.now} (IsOpen c.args.files.now) (IsOpen c.args.files.now) (λ image is. is) (c.in_ok-records.ensures.stays ∙ c.in_ok-walked.ensures.stays ∙ c.in_ok-nodes.ensures.stays) c.chains_over.ensures.untold c.in_err-reached.was c.from_residual-in_err-reached.ensures.1
+
+pub returns-clause-stand : goal.returns-clause-stand
+returns-clause-stand g c = record { nodes = c.in_ok-walked.ensures.stand; records = c.in_ok-reached.ensures.stand; buckets = c.in_ok-reached.ensures.ends }

@@ -4,7 +4,9 @@ use Rattle.blk_disk.specs.Open.{IsOpen}
 use Rattle.blk_volume.specs.View.{list_of}
 use Rattle.blk_lru.specs.Writes.{meant}
 use Rattle.blk_lru.proofs.Conditions.{told_now}
+use Rattle.blk_audit.specs.Walking.{nodes_walked}
 use Rattle.blk_audit.proofs.Carrying.{untold_converted}
+use Rattle.blk_audit.proofs.StandingNodes.{walked_stand}
 use Rattle.blk_audit.proofs.walking.walk_over.Goals as goal
 
 pub returns-clause-walked : goal.returns-clause-walked
@@ -28,3 +30,6 @@ returns-in_err-head-clause-untold g c =
 pub returns-in_err-plan-clause-untold : goal.returns-in_err-plan-clause-untold
 returns-in_err-plan-clause-untold g c =
     untold_converted c.pending.result c.from_residual-in_err-plan.result c.in_err-plan.field-0.0 {a = g.F.Folder.told c.args.f.now} (IsOpen c.args.files.now) (IsOpen c.args.files.now) (λ image is. is) c.in_ok-head.ensures.stays c.pending.ensures.untold c.in_err-plan.was c.from_residual-in_err-plan.ensures.1
+
+pub returns-clause-stand : goal.returns-clause-stand
+returns-clause-stand g c = walked_stand c.args.files.now c.args.nodes.now (map meant c.as_slice.result.now) c.in_ok-head.head (nodes_walked c.in_ok-walked.walked) c.requires.counted c.in_ok-walked.ensures.walked

@@ -1,4 +1,5 @@
-use Rattle.std.proofs.Common.{◌≡◌, ◌<◌, List, length, ap, ◌∙◌, arith}
+use Rattle.std.proofs.Common.{◌≡◌, ◌<◌, List, length, ap, sym, ◌∙◌, arith}
+use Rattle.std.specs.Prelude.{nat_lt}
 use Rattle.blk_image.specs.Image.{Block, byte}
 use Rattle.blk_audit.specs.Filling.{nodes_from}
 use Rattle.blk_audit.specs.declared.nodes.Node.{Node}
@@ -29,3 +30,12 @@ returns-clause-others g c image there n apart was =
     (set_apart c.args.self.now.counts c.from-2.result c.args.file n c.count_there-count.result c.from-2.ensures apart)
     (set_apart c.args.self.now.begins c.from.result c.args.file n c.in-Ok.begin c.from.ensures apart)
     (c.in_ok-read_file.ensures.nodes image there) was
+
+pub returns-clause-counted : goal.returns-clause-counted
+returns-clause-counted g c b small =
+    let counts : c.args.file < length c.args.self.now.counts = omega (arith, c.ranges.file.fits, c.args.self.now.all_counts) in
+    c.count_there-count.ensures.count b small ∙ ap (nat_lt b) (sym (set_here c.args.self.now.counts c.from-2.result c.args.file c.count_there-count.result c.from-2.ensures counts))
+
+pub returns-clause-others_counted : goal.returns-clause-others_counted
+returns-clause-others_counted g c n apart was b small =
+    was b small ∙ ap (nat_lt b) (sym (set_apart c.args.self.now.counts c.from-2.result c.args.file n c.count_there-count.result c.from-2.ensures apart))

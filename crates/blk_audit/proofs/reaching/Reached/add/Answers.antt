@@ -1,9 +1,10 @@
-use Rattle.std.proofs.Common.{◌≡◌, ℕ, ◌++◌, ◌∷◌, [], Bool, true, false, List, map, not, sym, ap, subst, ◌∙◌, if◌then◌else◌}
+use Rattle.std.proofs.Common.{◌≡◌, ℕ, ◌++◌, ◌∷◌, [], Bool, true, false, List, map, not, refl, sym, ap, subst, ◌∙◌, if◌then◌else◌}
 use Rattle.std.specs.BTreeSet.{contains}
 use Rattle.std.specs.Ordering.{nat_cmp}
 use Rattle.blk_addr.specs.Claims.{IsClaimsOf, is_claimed}
 use Rattle.blk_format.specs.BlockFiles.{is_among}
 use Rattle.blk_audit.specs.Chaining.{first_block_of}
+use Rattle.blk_audit.proofs.Ends.{cut_more}
 use Rattle.blk_audit.proofs.FirstBlocks.{claimed_first, known_more, map_last}
 use Rattle.blk_audit.proofs.reaching.Reached.add.Goals as goal
 
@@ -18,7 +19,11 @@ returns-clause-reached c =
       met = subst (IsClaimsOf c.add.new.self)
           (ap (λ (w : ℕ). map first_block_of c.args.self.now.words.items ++ w ∷ []) c.first_of_record.ensures ∙ sym (ap (map first_block_of) c.in_ok-push.ensures.items ∙ map_last first_block_of c.args.self.now.words.items c.args.addr))
           claims;
+      cut = cut_more c.args.self.now.words.items _ c.args.self.now.ends.items c.args.self.now.closed.items c.args.addr c.in_ok-push.ensures.items c.requires.reached.cut;
       known = λ w.
           known_more (contains nat_cmp c.args.self.now.known) (contains nat_cmp c.insert.new.self) c.args.self.now.words.items c.word.result c.in_ok-insert.ensures.updates.0 c.requires.reached.known w
           ∙ ap (λ (v : ℕ). is_among (c.args.self.now.words.items ++ v ∷ []) w) here ∙ sym (ap (λ (words : List ℕ). is_among words w) c.in_ok-push.ensures.items);
     }
+
+pub returns-clause-ends : goal.returns-clause-ends
+returns-clause-ends c = record { ends = refl; closed = refl }

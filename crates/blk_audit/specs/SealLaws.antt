@@ -1,0 +1,15 @@
+-- The laws of seals.
+use Rattle.std.specs.Prelude.{ℕ, ◌≡◌, ◌≢◌, true}
+use Rattle.blk_image.specs.Image.{AreBytes, Image}
+use Rattle.blk_format.specs.Address.{blocks_256, kind_of, rankings}
+use Rattle.blk_format.specs.Records.{entry_checks, node_checks}
+use Rattle.blk_format.specs.Sealed.{is_sealed, record_at, seal_place}
+use Rattle.blk_volume.specs.View.{entry_at, node_at}
+
+-- a record that checks and whose seal isn't 0 has its hash as its seal
+abbrev pub CheckedRecordsAreSealed : Type 0
+CheckedRecordsAreSealed = (image : Image) (w : ℕ) → AreBytes image → kind_of w ≡ blocks_256 → entry_checks (entry_at image w) ≡ true → (entry_at image w).self_hash ≢ 0 → is_sealed (seal_place w) (record_at image w) ≡ true
+
+-- so has a node
+abbrev pub CheckedNodesAreSealed : Type 0
+CheckedNodesAreSealed = (image : Image) (w : ℕ) → AreBytes image → kind_of w ≡ rankings → node_checks (node_at image w) ≡ true → (node_at image w).self_hash ≢ 0 → is_sealed (seal_place w) (record_at image w) ≡ true

@@ -1,0 +1,145 @@
+// The nodes and the records of what is kept that have 0 as their seal.
+ghost use Rattle.std.specs.Prelude.{◌≡◌, ◌≤◌, ◌++◌, ℕ, [], ◌∷◌, All, IfOk, None, OnOk, Some, map, slice_get, true};
+ghost use Rattle.std.specs.BTreeSet.{contains};
+ghost use Rattle.std.specs.List.{filter};
+ghost use Rattle.std.specs.Option.{ForSome};
+ghost use Rattle.std.specs.Ordering.{nat_cmp};
+ghost use Rattle.blk_image.specs.Image.{Image};
+ghost use Rattle.blk_image.specs.Told.{Rises, Stays};
+ghost use Rattle.blk_volume.specs.Found.{kept};
+ghost use Rattle.blk_disk.specs.declared.tables.BlockFiles.{BlockFiles as Files};
+ghost use Rattle.blk_disk.specs.Tables.{Agrees, is_record_among};
+ghost use Rattle.blk_audit.specs.Faults.{IfScanDamaged, IfScanDevice, IsRecordDamage};
+ghost use Rattle.blk_audit.specs.ReadLists.{AreListsOf};
+ghost use Rattle.blk_audit.specs.Sealable.{CanBeSealed};
+ghost use Rattle.blk_audit.specs.Walking.{NodesStand, nodes_walked};
+ghost use Rattle.blk_verdict.specs.Kept.{AreShown};
+ghost use Rattle.blk_scan.specs.Bare.{is_bare_node, is_bare_record};
+ghost use Rattle.blk_scan.specs.Scans.{AreBare};
+
+use crate::sets::{entries_of, set_of};
+use crate::telling::nodes_of;
+use blk_addr::{Addr, NoMemory};
+use blk_audit::{Lists, ScanFault};
+use blk_disk::BlockFiles;
+use blk_io::Folder;
+use blk_verdict::Loaded;
+use std::alloc::Global;
+use std::collections::BTreeSet;
+
+// The nodes and the records of some kept ones that have 0 as their seal.
+//
+// One folder call reads each of the records that was not read with the lists.
+pub(crate) fn bare_of<F: Folder>(
+    alloc: Global,
+    f: &mut F,
+    files: &BlockFiles,
+    lists: &Lists,
+    records: &[Loaded],
+) -> Result<Vec<Addr>, ScanFault>
+    requires nodes { NodesStand files.now (nodes_walked lists.now.walked) }
+    ensures bare { IfOk result (λ bare. ForSome (F.told f.old).files (λ image. Agrees files.now image → AreListsOf image lists.now → AreShown image (kept image) records.now → AreBare image bare.items)) }
+    ensures stand { IfOk result (λ bare. All (CanBeSealed files.now) bare.items) }
+    ensures stays { Stays (F.told f.old) (F.told f.new) }
+    ensures damaged { IfScanDamaged result (IsRecordDamage files.now (F.told f.new)) }
+    ensures untold { ForSome (F.told f.old).files (Agrees files.now) → IfScanDamaged result (λ _. (F.told f.old).files ≡ None) }
+    ensures later { F.faults f.old ≤ F.faults f.new }
+    ensures device { IfScanDevice result (Rises (F.faults f.old) (F.faults f.new)) }
+{
+    let nodes = nodes_of(alloc, records)?;
+    let kept = set_of(alloc, &nodes)?;
+    let mut bare = bare_nodes(alloc, lists, &kept)?;
+    let entries = entries_of(alloc, records)?;
+    add_records(f, files, lists, &entries, &mut bare)?;
+    Ok(bare)
+}
+
+// Those of the walked nodes that are kept and have 0 as their seal.
+fn bare_nodes(alloc: Global, lists: &Lists, kept: &BTreeSet<u32>) -> Result<Vec<Addr>, NoMemory>
+    ensures bare { IfOk result (λ bare. (image : Image) → AreListsOf image lists.now → bare.items ≡ filter (is_bare_node (contains nat_cmp kept.now) image) (nodes_walked lists.now.walked)) }
+    ensures stand { IfOk result (λ bare. (files : Files) → NodesStand files (nodes_walked lists.now.walked) → All (CanBeSealed files) bare.items) }
+{
+    let mut bare = Vec::new(alloc);
+    for i in 0..lists.walked.count() {
+        add_node(lists, kept, i, &mut bare)?;
+    }
+    Ok(bare)
+}
+
+// Adds one of the walked nodes, if it is kept and has 0 as its seal.
+fn add_node(
+    lists: &Lists,
+    kept: &BTreeSet<u32>,
+    i: usize,
+    bare: &mut Vec<Addr>,
+) -> Result<(), NoMemory>
+    ensures added { OnOk result ((image : Image) (w : ℕ) → AreListsOf image lists.now → slice_get (nodes_walked lists.now.walked) i ≡ Some w → bare.new.items ≡ bare.old.items ++ filter (is_bare_node (contains nat_cmp kept.now) image) (w ∷ [])) }
+    ensures stand { OnOk result ((files : Files) → NodesStand files (nodes_walked lists.now.walked) → All (CanBeSealed files) bare.old.items → All (CanBeSealed files) bare.new.items) }
+{
+    let Some(node) = lists.walked.at(i) else {
+        return Ok(());
+    };
+    let Some(here) = lists.node(i) else {
+        return Ok(());
+    };
+    if kept.contains(&node.word()) && here.seal == 0 {
+        bare.push(node)?;
+    }
+    Ok(())
+}
+
+// Adds those of some records that have 0 as their seal.
+fn add_records<F: Folder>(
+    f: &mut F,
+    files: &BlockFiles,
+    lists: &Lists,
+    entries: &[Addr],
+    bare: &mut Vec<Addr>,
+) -> Result<(), ScanFault>
+    ensures added { OnOk result (ForSome (F.told f.old).files (λ image. AreListsOf image lists.now → All (λ w. is_record_among files.now w ≡ true) entries.now → bare.new.items ≡ bare.old.items ++ filter (is_bare_record image) entries.now)) }
+    ensures stand { OnOk result (All (CanBeSealed files.now) bare.old.items → All (CanBeSealed files.now) bare.new.items) }
+    ensures stays { Stays (F.told f.old) (F.told f.new) }
+    ensures damaged { IfScanDamaged result (IsRecordDamage files.now (F.told f.new)) }
+    ensures untold { ForSome (F.told f.old).files (Agrees files.now) → IfScanDamaged result (λ _. (F.told f.old).files ≡ None) }
+    ensures later { F.faults f.old ≤ F.faults f.new }
+    ensures device { IfScanDevice result (Rises (F.faults f.old) (F.faults f.new)) }
+{
+    for i in 0..entries.len() {
+        add_record(f, files, lists, entries[i], bare)?;
+    }
+    Ok(())
+}
+
+// Adds a record, if it stands and has 0 as its seal.
+fn add_record<F: Folder>(
+    f: &mut F,
+    files: &BlockFiles,
+    lists: &Lists,
+    entry: Addr,
+    bare: &mut Vec<Addr>,
+) -> Result<(), ScanFault>
+    ensures added { OnOk result (ForSome (F.told f.old).files (λ image. AreListsOf image lists.now → is_record_among files.now entry ≡ true → bare.new.items ≡ bare.old.items ++ filter (is_bare_record image) (entry ∷ []))) }
+    ensures stand { OnOk result (All (CanBeSealed files.now) bare.old.items → All (CanBeSealed files.now) bare.new.items) }
+    ensures stays { Stays (F.told f.old) (F.told f.new) }
+    ensures damaged { IfScanDamaged result (IsRecordDamage files.now (F.told f.new)) }
+    ensures untold { ForSome (F.told f.old).files (Agrees files.now) → IfScanDamaged result (λ _. (F.told f.old).files ≡ None) }
+    ensures later { F.faults f.old ≤ F.faults f.new }
+    ensures device { IfScanDevice result (Rises (F.faults f.old) (F.faults f.new)) }
+{
+    let Some(standing) = files.entry(entry.word()) else {
+        return Ok(());
+    };
+    let said = lists.record_at(f, files, standing)?;
+    if said.words.seal == 0 {
+        push(bare, standing)?;
+    }
+    Ok(())
+}
+
+// Adds a node or a record.
+fn push(bare: &mut Vec<Addr>, one: Addr) -> Result<(), NoMemory>
+    ensures { OnOk result (bare.new.items ≡ bare.old.items ++ one ∷ []) }
+{
+    bare.push(one)?;
+    Ok(())
+}

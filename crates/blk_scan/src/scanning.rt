@@ -1,0 +1,93 @@
+// The audit of a folder.
+ghost use Rattle.std.specs.Prelude.{◌≡◌, ◌≤◌, All, IfOk, None, length};
+ghost use Rattle.std.specs.Option.{ForSome};
+ghost use Rattle.blk_image.specs.Image.{Image};
+ghost use Rattle.blk_image.specs.Told.{Rises, Stays};
+ghost use Rattle.blk_volume.specs.ListView.{most_nodes};
+ghost use Rattle.blk_disk.specs.declared.tables.BlockFiles.{BlockFiles as Files};
+ghost use Rattle.blk_disk.specs.Open.{IsOpen};
+ghost use Rattle.blk_disk.specs.Tables.{Agrees};
+ghost use Rattle.blk_audit.specs.Chaining.{HasBuckets};
+ghost use Rattle.blk_audit.specs.Faults.{IfScanDamaged, IfScanDevice};
+ghost use Rattle.blk_audit.specs.ReadLists.{AreListsAmong};
+ghost use Rattle.blk_scan.specs.Faults.{IsScanDamage};
+ghost use Rattle.blk_scan.specs.Ordering.{IsToldBy};
+ghost use Rattle.blk_scan.specs.Scans.{AreBare, ChainsStandIf, IsScanOf, StandAmong};
+
+use crate::bare::bare_of;
+use crate::chains::kept_chains;
+use crate::ordering::{Ordered, order};
+use crate::scan::Scan;
+use crate::telling::{add_unlisted, kept_of, nodes_of};
+use blk_addr::{Addr, NoMemory};
+use blk_audit::{Lists, ScanFault, read_lists};
+use blk_disk::BlockFiles;
+use blk_io::Folder;
+use blk_verdict::{Judged, charge_of_all, judge_nodes, unlisted};
+use std::alloc::Global;
+
+/// Tells what a folder holds whose block files were loaded, as it is once its operation in flight is completed. Nothing
+/// is written.
+///
+/// The folder calls are those of `read_lists`, `judge_nodes` and `unlisted`. A damage is a read that gave too few bytes;
+/// a folder whose files are those of `files` gives none. `Device` comes only where the folder failed in this call, and
+/// `Memory` where there was too little of it.
+pub fn scan_files<F: Folder>(
+    alloc: Global,
+    f: &mut F,
+    files: &BlockFiles,
+) -> Result<Scan, ScanFault>
+    ensures scanned { IfOk result (λ scan. ForSome (F.told f.old).files (λ image. Agrees files.now image → IsScanOf image scan)) }
+    ensures stand { IfOk result (StandAmong files.now) }
+    ensures few { IfOk result (λ scan. length scan.walked.items ≤ most_nodes) }
+    ensures stays { Stays (F.told f.old) (F.told f.new) }
+
+    // A folder that tells its files gives a damage only where its index is too short or the block files don't agree with it.
+    ensures damaged { IfScanDamaged result (IsScanDamage files.now (F.told f.new)) }
+    ensures untold { ForSome (F.told f.old).files (IsOpen files.now) → IfScanDamaged result (λ _. (F.told f.old).files ≡ None) }
+
+    ensures later { F.faults f.old ≤ F.faults f.new }
+    ensures device { IfScanDevice result (Rises (F.faults f.old) (F.faults f.new)) }
+{
+    let lists = read_lists(alloc, f, files)?;
+    let judged = judge_nodes(alloc, f, files, &lists)?;
+    let unlisted = unlisted(alloc, f, files, &lists)?;
+    let ordered = order(alloc, &lists, &judged)?;
+    let bare = bare_of(alloc, f, files, &lists, &ordered.records)?;
+    let scan = tell(alloc, &lists, judged, ordered, &unlisted, bare)?;
+    Ok(scan)
+}
+
+// What is told of a folder by its lists and by what came of its walked nodes.
+fn tell(
+    alloc: Global,
+    lists: &Lists,
+    judged: Judged,
+    ordered: Ordered,
+    unlisted: &[Addr],
+    bare: Vec<Addr>,
+) -> Result<Scan, NoMemory>
+    requires buckets { HasBuckets lists.now.reached }
+    requires few { length ordered.records.items ≤ most_nodes }
+    ensures told { IfOk result (λ scan. (image : Image) → IsToldBy image lists.now judged ordered unlisted.now → AreBare image bare.items → IsScanOf image scan) }
+    ensures walked { IfOk result (λ scan. scan.walked.items ≡ ordered.walked.items) }
+    ensures bare { IfOk result (λ scan. scan.bare.items ≡ bare.items) }
+    ensures chains { IfOk result (λ scan. (files : Files) → AreListsAmong files lists.now → ChainsStandIf files scan.chains) }
+{
+    let kept = kept_of(alloc, &ordered.records)?;
+    let kept_nodes = nodes_of(alloc, &ordered.records)?;
+    let chains = kept_chains(alloc, &lists.reached, &ordered.records)?;
+    let bytes = charge_of_all(&ordered.records);
+    let mut dropped = ordered.dropped;
+    add_unlisted(&mut dropped, unlisted)?;
+    Ok(Scan {
+        walked: ordered.walked,
+        kept,
+        kept_nodes,
+        dropped,
+        claims: judged.kept.into_claims(),
+        bytes,
+        chains,
+        bare,
+    })
+}
