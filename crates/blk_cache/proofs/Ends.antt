@@ -59,7 +59,7 @@ module _ (cache : Cache) (state : State) (from image : Image) (k : KeepsState ca
       }
 
   still : HoldsStill from image
-  still = record { usable = λ _. inr keeps.mended.well_formed; found_same = keeps.found_same }
+  still = record { usable = λ _. inr keeps.mended.well_formed; formed = λ _. keeps.mended.well_formed; found_same = keeps.found_same }
 
 pub holds-still : FreeCachesHoldStill
 holds-still cache state from image k free outside = still cache state from image k free outside

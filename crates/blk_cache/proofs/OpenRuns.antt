@@ -18,7 +18,7 @@ use Rattle.blk_kept.specs.Keeping.{KeepsSome}
 use Rattle.blk_format.specs.BlockFiles.{block_checks, first_block_damage, first_damage, IsWellFormed}
 use Rattle.blk_format.specs.Headers.{head_checks, index_length, list_checks, first_index_damage, IsUnfinished, this_id_of, unfinished}
 use Rattle.blk_format.specs.NewFolder.{IsMade, new_index_words}
-use Rattle.blk_format.proofs.Finished.{well_formed-finished}
+use Rattle.blk_format.proofs.Finished.{finished_whole, well_formed-finished}
 use Rattle.blk_format.proofs.HeaderLemmas.{unfinished_agrees}
 use Rattle.blk_volume.specs.Found.{found}
 use Rattle.blk_laws.proofs.states.Bare.{bare-found}
@@ -143,17 +143,17 @@ empty-stands files scan empty = record {
 -- ---- at each word
 
 pub mid-still : (entry image : Image) → IsMidRepair entry image → HoldsStill entry image
-mid-still entry image mid = record { usable = λ _. inr mid.well_formed; found_same = mid.found_same }
+mid-still entry image mid = record { usable = λ _. inr mid.well_formed; formed = λ _. mid.well_formed; found_same = mid.found_same }
 
 pub made-still : (entry made image : Image) → IsUnfinished entry → IsJustMade made → IsMidRepair made image → HoldsStill entry image
-made-still entry made image un is mid = record { usable = λ _. inr mid.well_formed; found_same = mid.found_same ∙ made-found made is ∙ sym (unfinished-found entry un) }
+made-still entry made image un is mid = record { usable = λ _. inr mid.well_formed; formed = λ _. mid.well_formed; found_same = mid.found_same ∙ made-found made is ∙ sym (unfinished-found entry un) }
 
 pub making-still : {a b : Told} (entry : Image) (moment : ℕ) → IsUnfinished entry → PassesTo a b IsUnfinished (λ image. IsUnfinished image ⊎ IsMade moment image) → Passes a b (HoldsStill entry)
 making-still entry moment un passes =
-    passes_weaker passes before (λ image. ⊎_elim (before image) (λ (made : IsMade moment image). record { usable = λ _. inr (made-formed image (moment, made)); found_same = made-found image (moment, made) ∙ sym (unfinished-found entry un) }))
-    where
-      before : (image : Image) → IsUnfinished image → HoldsStill entry image
-      before image now = record { usable = λ _. inl now; found_same = unfinished-found image now ∙ sym (unfinished-found entry un) }
+    passes_weaker passes before (λ image. ⊎_elim (before image) (λ (made : IsMade moment image). record { usable = λ _. inr (made-formed image (moment, made)); formed = λ _. made-formed image (moment, made); found_same = made-found image (moment, made) ∙ sym (unfinished-found entry un) }))
+  where
+    before : (image : Image) → IsUnfinished image → HoldsStill entry image
+    before image now = record { usable = λ _. inl now; formed = λ well. absurd (let whole = finished_whole entry well in whole.finished un); found_same = unfinished-found image now ∙ sym (unfinished-found entry un) }
 
 -- ---- where nothing was written
 
@@ -161,7 +161,7 @@ pub stayed-mid : {a b : Told} (from : Image) → a.files ≡ Some from → IsWel
 stayed-mid from there well same = passes_none (IsMidRepair from) same (λ i is. subst (IsMidRepair from) (some_inj (sym there ∙ is)) (record { well_formed = well; kept_same = refl; found_same = refl }))
 
 pub stayed-still : {a b : Told} (from : Image) → a.files ≡ Some from → b ≡ a → Passes a b (HoldsStill from)
-stayed-still from there same = passes_none (HoldsStill from) same (λ i is. subst (HoldsStill from) (some_inj (sym there ∙ is)) (record { usable = λ h. h; found_same = refl }))
+stayed-still from there same = passes_none (HoldsStill from) same (λ i is. subst (HoldsStill from) (some_inj (sym there ∙ is)) (record { usable = λ h. h; formed = λ h. h; found_same = refl }))
 
 -- a call that passes tells nothing of a folder that tells nothing
 pub passes-silent : {a b : Told} {P Q : Image → Type 0} → PassesTo a b P Q → a.files ≡ None → b.files ≡ None

@@ -60,7 +60,7 @@ next-some id = go ((id + 1) % 2 ^ 32 == 0) refl where
 all-settled : (rows : List Row) (limits : Bounds) → IsValidHolding rows → (number : ℕ) (object : Object) → object_at (open_state rows limits) number ≡ Some object → object.live ≡ true → object.settled ≡ false → ⊥
 all-settled rows limits valid number object here live unsettled =
     let held : IfSome (Some object) (λ o. (o.live && o.settled ≡ false) → is_named (open_state rows limits) number ≡ true) =
-        subst (λ (o : Option Object). IfSome o (λ o. (o.live && o.settled ≡ false) → is_named (open_state rows limits) number ≡ true)) here ((open_valid rows limits valid).held number) in
+    subst (λ (o : Option Object). IfSome o (λ o. (o.live && o.settled ≡ false) → is_named (open_state rows limits) number ≡ true)) here ((open_valid rows limits valid).held number) in
     let loose : object.live && object.settled ≡ false = rw (live, unsettled) refl in
     let c : false ≡ true = sym (opened-unnamed rows limits number) ∙ held loose in
     cc
@@ -77,10 +77,10 @@ repaired-kept entry image limits r are =
     let state : State = open_state (found image) limits in
     let has : HasState state (kept_layout image) [] image = mended-state image limits r.mended are in
     let here : KeepsSome state image = (
-          kept_layout image,
-          opened-kept image image image state (kept_layout image) [] has.valid has.well_formed has.represents has.allocated has.tidy (outside-refl (one_word Index 20) image) (outside-refl (one_word Index 32) image)
+      kept_layout image,
+      opened-kept image image image state (kept_layout image) [] has.valid has.well_formed has.represents has.allocated has.tidy (outside-refl (one_word Index 20) image) (outside-refl (one_word Index 32) image)
           (in-session entry image limits r (found-holding image are)),
-        ) in
+    ) in
     subst (λ (rows : List Row). KeepsSome (open_state rows limits) image) r.found_same here
 
 pub told-totals : RepairedFoldersHaveTheToldTotals

@@ -18,9 +18,10 @@ use Rattle.blk_cache.specs.declared.fault.OpenFault.TheVariants.{Device, Damaged
 abbrev pub IsUsable : Image → Type 0
 IsUsable image = IsUnfinished image ⊎ IsWellFormed image
 
--- the same is found as in another image, and the folder is unfinished or well formed where that was
+-- the same is found as in another image, and the folder is well formed where that was, and unfinished or well formed where that was so
 pub record HoldsStill (entry image : Image) : Type 0 where
   pub usable : IsUsable entry → IsUsable image
+  pub formed : IsWellFormed entry → IsWellFormed image
   pub found_same : found image ≡ found entry
 
 -- the number of the session that is opened on a folder: the first where it is made

@@ -33,7 +33,11 @@ pub(crate) struct Opened {
 }
 
 // Opens a folder, which is made where it is unfinished.
-pub(crate) fn open_folder<F: Folder>(alloc: Global, f: &mut F, moment: u64) -> Result<Opened, OpenFault>
+pub(crate) fn open_folder<F: Folder>(
+    alloc: Global,
+    f: &mut F,
+    moment: u64,
+) -> Result<Opened, OpenFault>
     ensures opened { IfOk result (λ opened. ForSome (F.told f.old).files (λ from. ForSome (F.told f.new).files (IsOpenedAs from opened))) }
     ensures checked { OnOk result (ForSome (F.told f.old).files IsUsable) }
     ensures stops { ForSome (F.told f.old).files (λ from. Passes (F.told f.old) (F.told f.new) (HoldsStill from)) }
