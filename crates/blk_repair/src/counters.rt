@@ -13,11 +13,11 @@ use blk_index::{set_word, word};
 use blk_io::{Fault, Folder};
 use blk_record::IndexHead;
 
-// The place of the number of the session in the index.
-pub(crate) const THIS_ID: u64 = 20;
+/// The place of the number of the session in the index, in bytes.
+pub const THIS_ID: u64 = 20;
 
-// The place of the crash word in the index.
-const CRASH: u64 = 32;
+/// The place of the crash word in the index, in bytes.
+pub const CRASH: u64 = 32;
 
 /// Makes the counters of the index and the number of the session these, and then the crash word 1: the number of the
 /// items, twice, the sum of their charges modulo 2^32, and the number.

@@ -12,6 +12,7 @@ pub mod MendedLinks
 pub mod LinkRepair
 pub mod MendedChanges
 pub mod Mended
+pub mod MendedStates
 pub mod MendedParts
 pub mod SoundFolders
 pub mod Seals

@@ -104,7 +104,7 @@ module _ (image : Image) (limits : Bounds) (mended : IsMended image) (valid : Is
         no : {k : Loaded} → ◌≡◌ {A = Option Loaded} None (Some k) → ⊥
         no e = cc
 
-  listed-same : kept_by listed_rule (view_of image) ≡ kept image
+  pub listed-same : kept_by listed_rule (view_of image) ≡ kept image
   listed-same = kept-given (store_of image) listed_rule (walked image) (kept_as (store_of image) held_rule (walked image)) listed-shown ∙ sym (kept-from image links_of.well_formed all_of)
 
   owner-some : (c : Claim) → has_claim (claims_of_loaded (kept image)) c ≡ is_some (layout_of.owner c)
@@ -134,7 +134,7 @@ module _ (image : Image) (limits : Bounds) (mended : IsMended image) (valid : Is
         claims = first.good;
       }
 
-  allocated-here : AllIsOwned image state_of layout_of []
+  pub allocated-here : AllIsOwned image state_of layout_of []
   allocated-here = record {
     blocks = λ n b linked_n below. mended.files.maps n b linked_n below ∙ owner-some (BlockOf n b);
     files = λ n below. mended.only.only_claimed n below ∙ owner-some (ExternalOf n);

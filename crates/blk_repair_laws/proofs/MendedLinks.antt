@@ -117,7 +117,7 @@ module _ (image : Image) (limits : Bounds) (mended : HasMendedLinks image) (vali
   abbrev layout : Layout
   layout = kept_layout image
 
-  rows-are : found image ≡ map row_of_loaded (kept image)
+  pub rows-are : found image ≡ map row_of_loaded (kept image)
   unfolding found
   rows-are = rw (well_formed-finished image mended.well_formed) refl
 

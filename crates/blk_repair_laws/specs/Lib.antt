@@ -7,5 +7,6 @@ pub mod MendedLinks
 pub mod LinkRepair
 pub mod MendedChanges
 pub mod Mended
+pub mod MendedStates
 pub mod MendedParts
 pub mod FoundHolding

@@ -9,6 +9,7 @@ ghost use Rattle.blk_repair_laws.specs.LinkRepair.{LinksAreRepaired, MendedChain
 ghost use Rattle.blk_repair_laws.specs.MendedLinks.{MendedLinksRepresent};
 ghost use Rattle.blk_repair_laws.specs.MendedChanges.{RepairedLinksAreKept, MendedLinksGoOn, LinksAreMidRepair, MendedLinksAreMidRepair, MendedLinksStayOutside, MendedLinksMayGrow, UnlinkedFilesMayBeDeleted, UnclaimedFilesMayChange, HiddenWordsMayChange, KeptNodesMayBeSealed, KeptRecordsMayBeSealed};
 ghost use Rattle.blk_repair_laws.specs.Mended.{MendedFoldersStandFor, MendedFoldersAreSound, SoundFoldersAreMended};
+ghost use Rattle.blk_repair_laws.specs.MendedStates.{MendedFoldersHaveTheirState};
 ghost use Rattle.blk_repair_laws.specs.MendedParts.{KeptWordsStand, KeptWordsClaim, RebuiltFilesAreMended, UnlinkedFilesLeaveTheOthers, ExternalFilesLeaveTheBlocks, MendedFilesStand, IndexWordsLeaveSeals, OtherWordsLeaveCounters, KeptAreSealed};
 ghost use Rattle.blk_repair_laws.specs.FoundHolding.{FoundIsAHolding, KeptClaimOnce};
 
@@ -134,8 +135,9 @@ pub fn kept_records_are_sealed()
     ensures all { KeptAreSealed }
 {}
 
-/// A mended folder stands for what it holds, opened, and is sound; and a sound one is mended.
+/// A mended folder has the state of what it holds, opened, so it stands for that, and is sound; and a sound one is mended.
 pub fn mended_folders_stand_for()
+    ensures state { MendedFoldersHaveTheirState }
     ensures stands { MendedFoldersStandFor }
     ensures sound { MendedFoldersAreSound }
     ensures converse { SoundFoldersAreMended }

@@ -1,0 +1,74 @@
+-- Where a cache keeps a state its folder may be written, and ends sound where no name is bound.
+use Rattle.std.proofs.Common.{◌≡◌, inr, ℕ, Option, Some, None, refl, subst, arith, false}
+use Rattle.std.specs.Option.{ForSome}
+use Rattle.blk_image.specs.Image.{Image, Index, word}
+use Rattle.blk_image.specs.Steps.{after, word_step}
+use Rattle.blk_image.specs.Told.{Told, Applies}
+use Rattle.blk_image.proofs.Images.{word-after_same}
+use Rattle.blk_image.proofs.Runs.{told_whole}
+use Rattle.blk_format.specs.Headers.{HasWholeIndex}
+use Rattle.blk_image.specs.Footprint.{SameOutside, one_word}
+use Rattle.blk_model.specs.State.{State, is_named, named_by}
+use Rattle.blk_format.proofs.Finished.{whole_index}
+use Rattle.blk_volume.specs.Layout.{Layout}
+use Rattle.blk_kept.proofs.Keeping.{kept-sound}
+use Rattle.blk_repair_laws.specs.Mended.{IsMended}
+use Rattle.blk_repair_laws.specs.MendedChanges.{KeepsMendedLinks}
+use Rattle.blk_repair_laws.proofs.Mended.{mended-sound}
+use Rattle.blk_repair_laws.proofs.MendedChanges.{hidden-change}
+use Rattle.blk_repair_laws.proofs.MendedParts.{counters-left, files-mended, words-leave}
+use Rattle.blk_repair_laws.proofs.RecordSeals.{words-behind}
+use Rattle.blk_repair_laws.proofs.SoundFolders.{sound-mended}
+use Rattle.blk_handles.specs.Bindings.{Binding}
+use Rattle.blk_cache.specs.declared.cache.Cache.{Cache}
+use Rattle.blk_cache.specs.BoundNames.{AreAllFree}
+use Rattle.blk_cache.specs.CacheKeeping.{IsBoundAs, KeepsState}
+use Rattle.blk_cache.specs.OpeningLaws.{FreeCachesEndSound, FreeCachesHoldStill, KeptFoldersAreOpen}
+use Rattle.blk_cache.specs.Opening.{HoldsStill}
+use Rattle.blk_cache.proofs.Unnamed.{none-among, unnamed-rests}
+
+pub kept-open : KeptFoldersAreOpen
+kept-open cache state image k = record { agrees = k.files; whole_index = whole_index image k.kept.entries.well_formed }
+
+-- where no name is bound, the state names nothing
+free-named : (state : State) (layout : Layout) (o : Option ℕ) → IsBoundAs state layout o None → o ≡ None
+free-named state layout None is = refl
+free-named state layout (Some number) is = absurd is
+
+free-unnamed : (cache : Cache) (state : State) (image : Image) → KeepsState cache state image → AreAllFree cache.handles → (number : ℕ) → is_named state number ≡ false
+free-unnamed cache state image k free number =
+    none-among state.names number (λ i. free-named state k.layout (named_by state i) (subst (λ (o : Option Binding). IsBoundAs state k.layout (named_by state i) o) (free i) (k.names i)))
+
+-- then it is mended
+module _ (cache : Cache) (state : State) (from image : Image) (k : KeepsState cache state from) (free : AreAllFree cache.handles) (outside : SameOutside (one_word Index 32) from image) where
+  was : IsMended from
+  was = sound-mended from (kept-sound state k.layout from k.kept (unnamed-rests state k.kept.entries.valid (free-unnamed cache state from k free)))
+
+  keeps : KeepsMendedLinks from image
+  keeps = hidden-change from image 32 was.links refl (omega arith) refl refl outside
+
+  now : IsMended image
+  now =
+      let files = files-mended (one_word Index 32) from image (words-behind 32) outside was.links keeps in
+      record {
+        links = keeps.mended;
+        files = files.0 was.files;
+        only = files.1 was.only;
+        sealed = words-leave from image 32 outside keeps was.sealed;
+        counters = counters-left from image 32 refl refl outside keeps was.counters;
+      }
+
+  still : HoldsStill from image
+  still = record { usable = λ _. inr keeps.mended.well_formed; formed = λ _. keeps.mended.well_formed; found_same = keeps.found_same }
+
+pub holds-still : FreeCachesHoldStill
+holds-still cache state from image k free outside = still cache state from image k free outside
+
+pub ends-sound : FreeCachesEndSound
+ends-sound cache state from image k free outside are = mended-sound image (now cache state from image k free outside) are
+
+-- the crash word is 0 once that is written
+pub crash-cleared : {a b : Told} → ForSome a.files HasWholeIndex → Applies a b (word_step Index 32 0) → ForSome b.files (λ image. word image Index 32 ≡ 0)
+crash-cleared whole made = told_whole (λ image. word image Index 32 ≡ 0) made (λ image there. written image (whole image there)) where
+  written : (image : Image) → HasWholeIndex image → word (after (word_step Index 32 0) image) Index 32 ≡ 0
+  written image long = unfold word_step in word-after_same image Index 32 0 (omega arith) (omega (arith, long))

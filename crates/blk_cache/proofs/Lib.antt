@@ -1,0 +1,6 @@
+pub mod Unnamed
+pub mod OpenedFolders
+pub mod Ends
+pub mod OpenRuns
+pub mod CarriedFaults
+pub mod Starts

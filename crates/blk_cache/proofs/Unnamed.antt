@@ -1,0 +1,65 @@
+-- What no handle names, and names that are free.
+use Rattle.std.proofs.Common.{◌≡◌, ℕ, zero, suc, ◌+◌, Bool, true, false, ◌&&◌, List, [], ◌∷◌, Option, Some, None, IfSome, get_or, replicate, refl, sym, ◌∙◌}
+use Rattle.std.specs.List.{list_any}
+use Rattle.blk_model.specs.Sizes.{handle_names}
+use Rattle.blk_model.specs.Items.{Row}
+use Rattle.blk_model.specs.State.{State, Object, Bounds, IsValidState, is_named, is_number, named_by, object_at}
+use Rattle.blk_model.specs.Holding.{open_state}
+use Rattle.blk_kept.specs.KeepingLaws.{AllAreAtRest}
+use Rattle.blk_handles.specs.Bindings.{Binding, all_free, binding_of, distinct_count, entries_of, open_count}
+use Rattle.blk_cache.specs.CacheKeeping.{named_from, named_objects}
+
+-- no slot of so many that are free has anything
+pub free-at : {A : Type 0} (count i : ℕ) → get_or {A = Option A} (replicate count None) i None ≡ None
+free-at zero i = refl
+free-at (suc count) zero = refl
+free-at (suc count) (suc i) = free-at count i
+
+-- no name is bound at first
+pub none-bound : (name : ℕ) → binding_of all_free name ≡ None
+none-bound name = free-at {A = Binding} handle_names name
+
+none-distinct : (count : ℕ) → distinct_count (entries_of (replicate count None)) ≡ 0
+none-distinct zero = refl
+none-distinct (suc count) = none-distinct count
+
+-- so no object is open
+pub none-open : open_count all_free ≡ 0
+none-open = none-distinct handle_names
+
+-- where no slot has a number, none names an object
+pub none-among : (names : List (Option ℕ)) (number : ℕ) → ((i : ℕ) → get_or names i None ≡ None) → list_any (is_number number) names ≡ false
+none-among [] number all = refl
+none-among (None ∷ names) number all = none-among names number (λ i. all (suc i))
+none-among (Some other ∷ names) number all = absurd (no (all 0)) where
+  no : ◌≡◌ {A = Option ℕ} (Some other) None → ⊥
+  no e = cc
+
+-- an opened state has no names
+pub opened-unnamed : (rows : List Row) (limits : Bounds) (number : ℕ) → is_named (open_state rows limits) number ≡ false
+unfolding open_state
+opened-unnamed rows limits number = none-among (replicate handle_names None) number (free-at {A = ℕ} handle_names)
+
+pub opened-names : (rows : List Row) (limits : Bounds) (name : ℕ) → named_by (open_state rows limits) name ≡ None
+unfolding open_state
+opened-names rows limits name = free-at {A = ℕ} handle_names name
+
+-- a state without names has no named objects
+none-from : (state : State) (number : ℕ) (slots : List (Option Object)) → ((n : ℕ) → is_named state n ≡ false) → named_from state number slots ≡ []
+none-from state number [] all = refl
+none-from state number (None ∷ slots) all = none-from state (number + 1) slots all
+none-from state number (Some object ∷ slots) all = rw (all number) (none-from state (number + 1) slots all)
+
+pub none-named : (state : State) → ((n : ℕ) → is_named state n ≡ false) → named_objects state ≡ []
+none-named state all = none-from state 0 state.objects all
+
+-- and all its objects are live and settled
+pub unnamed-rests : (state : State) → IsValidState state → ((n : ℕ) → is_named state n ≡ false) → AllAreAtRest state
+unnamed-rests state valid all number = go (object_at state number) (valid.held number) where
+  both : (b : Bool) → (b ≡ false → is_named state number ≡ true) → b ≡ true
+  both true h = refl
+  both false h = absurd (let c : false ≡ true = sym (all number) ∙ h refl in cc)
+
+  go : (o : Option Object) → IfSome o (λ object. (object.live && object.settled ≡ false) → is_named state number ≡ true) → IfSome o (λ object. (object.live && object.settled) ≡ true)
+  go None h = tt
+  go (Some object) h = both (object.live && object.settled) h

@@ -1,0 +1,56 @@
+use Rattle.std.proofs.Common.{◌≡◌, Some}
+use Rattle.std.proofs.lemmas.Result.{IfOk-weaker, on_ok_weaker}
+use Rattle.blk_image.specs.Image.{Image}
+use Rattle.blk_image.specs.Told.{Passes}
+use Rattle.blk_image.proofs.Runs.{passes_then, passes_weaker}
+use Rattle.blk_io.proofs.Carried.{if_damaged_weaker}
+use Rattle.blk_repair.proofs.RepairRuns.{none-before, still-told, then-ends}
+use Rattle.blk_cache.specs.Opened.{IsJustMade}
+use Rattle.blk_cache.specs.Opening.{HoldsStill}
+use Rattle.blk_cache.proofs.OpenRuns.{made-opened, made-still, making-still, passes-silent}
+use Rattle.blk_cache.proofs.opening.open_new.Given as given
+use Rattle.blk_cache.proofs.opening.open_new.Goals as goal
+use Rattle.blk_cache.proofs.opening.open_new.Goals.{After-open_made}
+
+pub returns-in_err-make-clause-stops : goal.returns-in_err-make-clause-stops
+returns-in_err-make-clause-stops g c from there = making-still from c.args.moment (c.requires.unfinished from there) c.make.ensures.stops
+
+pub returns-in_err-make-clause-silent : goal.returns-in_err-make-clause-silent
+returns-in_err-make-clause-silent g c none = passes-silent c.make.ensures.stops none
+
+pub open_made-requires : goal.open_made-requires
+open_made-requires g c = record { made = λ i here. (c.args.moment, c.in_ok-make.ensures.made i here) }
+
+module _ (g : given.Over) (c : After-open_made g) (from : Image) (there : (g.F.Folder.told c.args.f.now).files ≡ Some from) where
+  abbrev first : Passes (g.F.Folder.told c.args.f.now) (g.F.Folder.told c.make.new.f) (HoldsStill from)
+  first = making-still from c.args.moment (c.requires.unfinished from there) c.make.ensures.stops
+
+  abbrev mid : Image
+  mid = (still-told from there first).0
+
+  here : (g.F.Folder.told c.make.new.f).files ≡ Some mid
+  here = (still-told from there first).1
+
+  made : IsJustMade mid
+  made = (c.args.moment, c.in_ok-make.ensures.made mid here)
+
+pub returns-clause-opened : goal.returns-clause-opened
+returns-clause-opened g c =
+    IfOk-weaker c.open_made.result _ _ (λ opened left from there image now. made-opened from (mid g c from there) image opened (c.requires.unfinished from there) (made g c from there) (left (mid g c from there) (here g c from there) image now)) c.open_made.ensures.opened
+
+pub returns-clause-stops : goal.returns-clause-stops
+returns-clause-stops g c from there =
+    let still = made-still from (mid g c from there) in
+    passes_then (first g c from there)
+    (passes_weaker (c.open_made.ensures.stops (mid g c from there) (here g c from there)) (λ i. still i (c.requires.unfinished from there) (made g c from there)) (λ i. still i (c.requires.unfinished from there) (made g c from there)))
+
+pub returns-clause-last : goal.returns-clause-last
+returns-clause-last g c = on_ok_weaker c.open_made.result (λ ends from there. then-ends from there (first g c from there) ends) c.open_made.ensures.last
+
+pub returns-clause-untold : goal.returns-clause-untold
+returns-clause-untold g c =
+    if_damaged_weaker c.open_made.result _ _
+    (λ damage none. none-before (g.F.Folder.told c.args.f.now) (g.F.Folder.told c.make.new.f) (λ from there. still-told from there (first g c from there)) none) c.open_made.ensures.untold
+
+pub returns-clause-silent : goal.returns-clause-silent
+returns-clause-silent g c none = c.open_made.ensures.silent (passes-silent c.make.ensures.stops none)

@@ -1,0 +1,5 @@
+pub mod BoundNames
+pub mod CacheKeeping
+pub mod Opening
+pub mod Opened
+pub mod OpeningLaws

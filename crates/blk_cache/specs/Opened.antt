@@ -1,0 +1,52 @@
+-- What an opening leaves, and what it may meet.
+use Rattle.std.specs.Prelude.{◌≡◌, ◌⊎◌, ℕ}
+use Rattle.std.specs.declared.option.Option.TheVariants.{Some}
+use Rattle.blk_image.specs.Image.{Image, Index, byte}
+use Rattle.blk_image.specs.Told.{Told}
+use Rattle.blk_model.specs.Holding.{open_state}
+use Rattle.blk_model.specs.Room.{items, total}
+use Rattle.blk_model.specs.State.{Bounds}
+use Rattle.blk_format.specs.BlockFiles.{first_damage}
+use Rattle.blk_format.specs.Headers.{IsUnfinished, this_id_of}
+use Rattle.blk_format.specs.NewFolder.{IsMade}
+use Rattle.blk_volume.specs.Found.{found}
+use Rattle.blk_kept.specs.Keeping.{KeepsSome}
+use Rattle.blk_io.specs.declared.fault.Damage.{Damage}
+use Rattle.blk_io.specs.Faults.{damage_of}
+use Rattle.blk_index.specs.Start.{IsLookDamage}
+use Rattle.blk_disk.specs.declared.tables.BlockFiles.{BlockFiles}
+use Rattle.blk_disk.specs.Loading.{IsLoadDamage}
+use Rattle.blk_disk.specs.Tables.{Agrees}
+use Rattle.blk_scan.specs.Faults.{IsScanDamage}
+use Rattle.blk_repair.specs.Repair.{IsRepairDamage}
+use Rattle.blk_cache.specs.Opening.{opened_id}
+use Rattle.blk_cache.specs.declared.opening.Opened.{Opened}
+
+-- a folder was made at some moment
+abbrev pub IsJustMade : Image → Type 0
+IsJustMade image = (moment : ℕ) × IsMade moment image
+
+-- a folder was opened, and this is kept of it: it keeps what was found at the entry, opened in the next session
+pub record IsOpenedAs (entry : Image) (opened : Opened) (image : Image) : Type 0 where
+  pub keeps : (limits : Bounds) → KeepsSome (open_state (found entry) limits) image
+  pub items_are : (limits : Bounds) → opened.items ≡ items (open_state (found entry) limits)
+  pub bytes_are : (limits : Bounds) → opened.bytes ≡ total (open_state (found entry) limits)
+  pub files : Agrees opened.files image
+  pub mark : opened.mark ≡ this_id_of (byte image Index)
+  pub id_is : this_id_of (byte image Index) ≡ opened_id entry
+
+-- Damages.
+
+-- the index is finished, and this is the first check of the folder that fails
+pub record IsFirstDamage (damage : Damage) (image : Image) : Type 0 where
+  pub finished : IsUnfinished image → ⊥
+  pub first : first_damage image ≡ Some (damage_of damage)
+
+-- a damage was met behind the checks of the headers: while what the folder holds was read, or in its repair
+pub record IsMendingDamage (told : Told) (damage : Damage) : Type 0 where
+  pub files : BlockFiles
+  pub cause : IsScanDamage files told damage ⊎ IsRepairDamage files told damage
+
+-- a damage was met in an opening: a check of the index or of the block files failed, or too little was given of one of these, or it was behind the checks
+abbrev pub IsOpeningDamage : Told → Damage → Type 0
+IsOpeningDamage told damage = IsLookDamage told damage ⊎ (IsLoadDamage told damage ⊎ IsMendingDamage told damage)

@@ -1,0 +1,67 @@
+-- What the opening and the closing of a cache owe.
+use Rattle.std.specs.Prelude.{◌≡◌, ◌⊎◌, ℕ, Result, Ok, Err, if◌then◌else◌}
+use Rattle.blk_image.specs.Image.{Image, Index, byte}
+use Rattle.blk_format.specs.BlockFiles.{IsWellFormed}
+use Rattle.blk_format.specs.Headers.{IsUnfinished, crash_of, this_id_of, unfinished}
+use Rattle.blk_volume.specs.Found.{found}
+use Rattle.blk_volume.specs.Sound.{IsSound}
+use Rattle.blk_io.specs.declared.fault.Damage.{Damage}
+use Rattle.blk_io.specs.declared.fault.Fault.{Fault}
+use Rattle.blk_io.specs.declared.fault.Fault.TheVariants as fault
+use Rattle.blk_audit.specs.declared.fault.ScanFault.{ScanFault}
+use Rattle.blk_audit.specs.declared.fault.ScanFault.TheVariants as scan
+use Rattle.blk_repair.specs.Repair.{next_id}
+use Rattle.blk_cache.specs.declared.fault.OpenFault.{OpenFault}
+use Rattle.blk_cache.specs.declared.fault.OpenFault.TheVariants.{Device, Damaged, Memory}
+
+-- a folder that a cache may be opened on
+abbrev pub IsUsable : Image → Type 0
+IsUsable image = IsUnfinished image ⊎ IsWellFormed image
+
+-- the same is found as in another image, and the folder is well formed where that was, and unfinished or well formed where that was so
+pub record HoldsStill (entry image : Image) : Type 0 where
+  pub usable : IsUsable entry → IsUsable image
+  pub formed : IsWellFormed entry → IsWellFormed image
+  pub found_same : found image ≡ found entry
+
+-- the number of the session that is opened on a folder: the first where it is made
+abbrev pub opened_id : Image → ℕ
+opened_id image = if unfinished image then 1 else next_id (this_id_of (byte image Index))
+
+-- a cache ended: the folder is sound, and no session is open
+pub record EndsSession (image : Image) : Type 0 where
+  pub sound : IsSound image
+  pub closed : crash_of (byte image Index) ≡ 0
+
+-- Answers.
+
+-- a fault of a call on a folder, and one of a scan, as one of an opening
+abbrev pub of_fault : Fault → OpenFault
+of_fault fault.Device = Device
+of_fault (fault.Damaged damage) = Damaged damage
+
+abbrev pub of_scan_fault : ScanFault → OpenFault
+of_scan_fault scan.Device = Device
+of_scan_fault (scan.Damaged damage) = Damaged damage
+of_scan_fault scan.Memory = Memory
+
+-- where the answer is that the device failed, this holds
+abbrev pub IfOpenDevice : {A : Type 0} → Result A OpenFault → Type 0 → Type 0
+IfOpenDevice (Ok a) P = Unit {0}
+IfOpenDevice (Err Device) P = P
+IfOpenDevice (Err (Damaged damage)) P = Unit {0}
+IfOpenDevice (Err Memory) P = Unit {0}
+
+-- where it is a damage, the damage is so
+abbrev pub IfOpenDamaged : {A : Type 0} → Result A OpenFault → (Damage → Type 0) → Type 0
+IfOpenDamaged (Ok a) P = Unit {0}
+IfOpenDamaged (Err Device) P = Unit {0}
+IfOpenDamaged (Err (Damaged damage)) P = P damage
+IfOpenDamaged (Err Memory) P = Unit {0}
+
+-- where it is that there was too little memory, this holds
+abbrev pub IfOpenMemory : {A : Type 0} → Result A OpenFault → Type 0 → Type 0
+IfOpenMemory (Ok a) P = Unit {0}
+IfOpenMemory (Err Device) P = Unit {0}
+IfOpenMemory (Err (Damaged damage)) P = Unit {0}
+IfOpenMemory (Err Memory) P = P

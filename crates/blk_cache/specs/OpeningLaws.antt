@@ -1,0 +1,51 @@
+-- The laws of an opening and of an end.
+use Rattle.std.specs.Prelude.{◌≡◌, ℕ, length}
+use Rattle.blk_image.specs.Image.{Image, Index, AreBytes}
+use Rattle.blk_image.specs.Footprint.{SameOutside, one_word}
+use Rattle.blk_model.specs.Holding.{open_state}
+use Rattle.blk_model.specs.Room.{items, total}
+use Rattle.blk_model.specs.State.{State, Bounds}
+use Rattle.blk_format.specs.NewFolder.{IsMade}
+use Rattle.blk_volume.specs.Found.{found}
+use Rattle.blk_volume.specs.Sound.{IsSound}
+use Rattle.blk_kept.specs.Keeping.{KeepsSome}
+use Rattle.blk_disk.specs.Open.{IsOpen}
+use Rattle.blk_scan.specs.declared.scan.Scan.{Scan}
+use Rattle.blk_scan.specs.Scans.{IsEmptyScan, IsScanOf}
+use Rattle.blk_repair.specs.Repair.{IsRepairable, IsRepaired}
+use Rattle.blk_cache.specs.declared.cache.Cache.{Cache}
+use Rattle.blk_cache.specs.BoundNames.{AreAllFree}
+use Rattle.blk_cache.specs.CacheKeeping.{KeepsState}
+use Rattle.blk_cache.specs.Opening.{HoldsStill}
+
+-- Of a folder.
+
+-- a folder that was just made may be repaired by the empty scan
+abbrev pub MadeFoldersAreRepairable : Type 0
+MadeFoldersAreRepairable = (moment : ℕ) (image : Image) (scan : Scan) → IsMade moment image → IsEmptyScan scan → IsRepairable scan image
+
+-- once a folder is repaired it keeps what was found at the entry, opened
+abbrev pub RepairedFoldersKeepTheirState : Type 0
+RepairedFoldersKeepTheirState = (entry image : Image) (limits : Bounds) → IsRepaired entry image → AreBytes image → KeepsSome (open_state (found entry) limits) image
+
+-- and its items and bytes are those that were told at the entry
+pub record AreTotalsTold (scan : Scan) (entry : Image) (limits : Bounds) : Type 0 where
+  pub items_told : length scan.kept.items ≡ items (open_state (found entry) limits)
+  pub bytes_told : scan.bytes ≡ total (open_state (found entry) limits)
+
+abbrev pub RepairedFoldersHaveTheToldTotals : Type 0
+RepairedFoldersHaveTheToldTotals = (scan : Scan) (entry image : Image) (limits : Bounds) → IsScanOf entry scan → IsRepaired entry image → AreBytes image → AreTotalsTold scan entry limits
+
+-- Of a cache.
+
+-- where a cache keeps a state on a folder, that may be written
+abbrev pub KeptFoldersAreOpen : Type 0
+KeptFoldersAreOpen = (cache : Cache) (state : State) (image : Image) → KeepsState cache state image → IsOpen cache.files image
+
+-- and where it has no name bound, the same is found while the crash word changes
+abbrev pub FreeCachesHoldStill : Type 0
+FreeCachesHoldStill = (cache : Cache) (state : State) (from image : Image) → KeepsState cache state from → AreAllFree cache.handles → SameOutside (one_word Index 32) from image → HoldsStill from image
+
+-- and the folder is sound then
+abbrev pub FreeCachesEndSound : Type 0
+FreeCachesEndSound = (cache : Cache) (state : State) (from image : Image) → KeepsState cache state from → AreAllFree cache.handles → SameOutside (one_word Index 32) from image → AreBytes image → IsSound image

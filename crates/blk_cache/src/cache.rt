@@ -1,0 +1,28 @@
+// What a cache keeps.
+ghost use Rattle.std.specs.Prelude.{◌≡◌, length};
+ghost use Rattle.blk_cache.specs.BoundNames.{AreBoundAmong};
+
+use blk_disk::BlockFiles;
+use blk_handles::Handles;
+use blk_model::Limits;
+
+/// A cache: what it keeps in memory of its folder and of its clients.
+///
+/// All its memory is taken when it is opened.
+#[derive(Drop)]
+pub struct Cache {
+    pub(crate) limits: Limits,
+    // The items and the bytes that count against the limits.
+    pub(crate) items: u64,
+    pub(crate) bytes: u64,
+    // What the open objects are charged, each as a main item.
+    pub(crate) open_bytes: u64,
+    pub(crate) handles: Handles,
+    pub(crate) files: BlockFiles,
+    // The dirty word of what isn't settled: the number of the session.
+    pub(crate) mark: u32,
+    // Room for the key of a parent and the name of a part.
+    pub(crate) name: Vec<u8>,
+    ghost stand: { AreBoundAmong files handles },
+    ghost room: { length name.items ≡ 65564 },
+}

@@ -1,0 +1,14 @@
+//! A cache over a folder: its opening, its totals, and its end.
+#![tactic(auto)]
+
+mod cache;
+mod ending;
+mod fault;
+mod laws;
+mod names;
+mod opening;
+mod starting;
+
+pub use cache::Cache;
+pub use fault::OpenFault;
+pub use laws::{kept_folders_end_sound, repaired_folders_keep_their_state};

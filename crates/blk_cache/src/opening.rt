@@ -1,0 +1,149 @@
+// A folder is opened: it is made or checked, and repaired by what it holds.
+ghost use Rattle.std.specs.Prelude.{◌≡◌, ◌≤◌, IfOk, None, OnOk, Some};
+ghost use Rattle.std.specs.Option.{ForSome};
+ghost use Rattle.blk_image.specs.Told.{Passes, Rises, Stays};
+ghost use Rattle.blk_format.specs.BlockFiles.{first_damage, IsWellFormed};
+ghost use Rattle.blk_format.specs.Headers.{IsUnfinished};
+ghost use Rattle.blk_io.specs.Faults.{IfDamaged, IfDevice, damage_of};
+ghost use Rattle.blk_index.specs.Start.{IsFinished, IsLookDamage};
+ghost use Rattle.blk_disk.specs.Loading.{IsLoadDamage};
+ghost use Rattle.blk_disk.specs.Open.{IsOpen};
+ghost use Rattle.blk_repair.specs.Repair.{EndsWithCrashWord, IsRepairDamage, IsRepairable};
+ghost use Rattle.blk_repair_laws.specs.MendedChanges.{IsMidRepair};
+ghost use Rattle.blk_scan.specs.Scans.{StandAmong};
+ghost use Rattle.blk_cache.specs.Opened.{IsFirstDamage, IsJustMade, IsOpenedAs, IsOpeningDamage};
+ghost use Rattle.blk_cache.specs.Opening.{HoldsStill, IfOpenDamaged, IfOpenDevice, IfOpenMemory, IsUsable};
+
+use crate::fault::OpenFault;
+use blk_disk::BlockFiles;
+use blk_index::{Start, look, make, word};
+use blk_io::{Fault, Folder};
+use blk_repair::{THIS_ID, repair};
+use blk_scan::{Scan, scan_files};
+use std::alloc::Global;
+
+// What a cache keeps of a folder that was opened: its block files, how many items it has with how many bytes, and the
+// number of the session.
+#[derive(Drop)]
+pub(crate) struct Opened {
+    pub(crate) files: BlockFiles,
+    pub(crate) items: u64,
+    pub(crate) bytes: u64,
+    pub(crate) mark: u32,
+}
+
+// Opens a folder, which is made where it is unfinished.
+pub(crate) fn open_folder<F: Folder>(
+    alloc: Global,
+    f: &mut F,
+    moment: u64,
+) -> Result<Opened, OpenFault>
+    ensures opened { IfOk result (λ opened. ForSome (F.told f.old).files (λ from. ForSome (F.told f.new).files (IsOpenedAs from opened))) }
+    ensures checked { OnOk result (ForSome (F.told f.old).files IsUsable) }
+    ensures stops { ForSome (F.told f.old).files (λ from. Passes (F.told f.old) (F.told f.new) (HoldsStill from)) }
+    ensures last { OnOk result (ForSome (F.told f.old).files (λ _. EndsWithCrashWord (F.told f.old) (F.told f.new))) }
+    ensures damaged { IfOpenDamaged result (IsOpeningDamage (F.told f.new)) }
+    ensures first { IfOpenDamaged result (λ damage. ForSome (F.told f.old).files (IsFirstDamage damage)) }
+    ensures unwritten { IfOpenDamaged result (λ _. ForSome (F.told f.old).files (λ _. Stays (F.told f.old) (F.told f.new))) }
+    ensures memory { IfOpenMemory result (Stays (F.told f.old) (F.told f.new)) }
+    ensures silent { (F.told f.old).files ≡ None → (F.told f.new).files ≡ None }
+    ensures later { F.faults f.old ≤ F.faults f.new }
+    ensures device { IfOpenDevice result (Rises (F.faults f.old) (F.faults f.new)) }
+{
+    match look(f)? {
+        Start::Unfinished => Ok(open_new(alloc, f, moment)?),
+        Start::Finished => open_finished(alloc, f),
+    }
+}
+
+// Makes a folder, and opens it.
+fn open_new<F: Folder>(alloc: Global, f: &mut F, moment: u64) -> Result<Opened, Fault>
+    requires unfinished { ForSome (F.told f.old).files IsUnfinished }
+    ensures opened { IfOk result (λ opened. ForSome (F.told f.old).files (λ from. ForSome (F.told f.new).files (IsOpenedAs from opened))) }
+    ensures stops { ForSome (F.told f.old).files (λ from. Passes (F.told f.old) (F.told f.new) (HoldsStill from)) }
+    ensures last { OnOk result (ForSome (F.told f.old).files (λ _. EndsWithCrashWord (F.told f.old) (F.told f.new))) }
+    ensures damaged { IfDamaged result (IsOpeningDamage (F.told f.new)) }
+    ensures untold { IfDamaged result (λ _. (F.told f.old).files ≡ None) }
+    ensures silent { (F.told f.old).files ≡ None → (F.told f.new).files ≡ None }
+    ensures later { F.faults f.old ≤ F.faults f.new }
+    ensures device { IfDevice result (Rises (F.faults f.old) (F.faults f.new)) }
+{
+    make(f, moment)?;
+    open_made(alloc, f)
+}
+
+// Opens a folder that was just made.
+fn open_made<F: Folder>(alloc: Global, f: &mut F) -> Result<Opened, Fault>
+    requires made { ForSome (F.told f.old).files IsJustMade }
+    ensures opened { IfOk result (λ opened. ForSome (F.told f.old).files (λ from. ForSome (F.told f.new).files (IsOpenedAs from opened))) }
+    ensures stops { ForSome (F.told f.old).files (λ from. Passes (F.told f.old) (F.told f.new) (IsMidRepair from)) }
+    ensures last { OnOk result (ForSome (F.told f.old).files (λ _. EndsWithCrashWord (F.told f.old) (F.told f.new))) }
+    ensures damaged { IfDamaged result (IsOpeningDamage (F.told f.new)) }
+    ensures untold { IfDamaged result (λ _. (F.told f.old).files ≡ None) }
+    ensures silent { (F.told f.old).files ≡ None → (F.told f.new).files ≡ None }
+    ensures later { F.faults f.old ≤ F.faults f.new }
+    ensures device { IfDevice result (Rises (F.faults f.old) (F.faults f.new)) }
+{
+    let files = BlockFiles::load(f)?;
+    mend(f, files, &Scan::empty(alloc))
+}
+
+// Opens a folder whose index is finished.
+fn open_finished<F: Folder>(alloc: Global, f: &mut F) -> Result<Opened, OpenFault>
+    requires finished { ForSome (F.told f.old).files IsFinished }
+    ensures opened { IfOk result (λ opened. ForSome (F.told f.old).files (λ from. ForSome (F.told f.new).files (IsOpenedAs from opened))) }
+    ensures checked { OnOk result (ForSome (F.told f.old).files IsWellFormed) }
+    ensures stops { ForSome (F.told f.old).files (λ from. Passes (F.told f.old) (F.told f.new) (HoldsStill from)) }
+    ensures last { OnOk result (ForSome (F.told f.old).files (λ _. EndsWithCrashWord (F.told f.old) (F.told f.new))) }
+    ensures damaged { IfOpenDamaged result (IsOpeningDamage (F.told f.new)) }
+    ensures first { IfOpenDamaged result (λ damage. ForSome (F.told f.old).files (λ from. first_damage from ≡ Some (damage_of damage))) }
+    ensures unwritten { IfOpenDamaged result (λ _. ForSome (F.told f.old).files (λ _. Stays (F.told f.old) (F.told f.new))) }
+    ensures memory { IfOpenMemory result (Stays (F.told f.old) (F.told f.new)) }
+    ensures silent { (F.told f.old).files ≡ None → (F.told f.new).files ≡ None }
+    ensures later { F.faults f.old ≤ F.faults f.new }
+    ensures device { IfOpenDevice result (Rises (F.faults f.old) (F.faults f.new)) }
+{
+    let files = BlockFiles::load(f)?;
+    open_loaded(alloc, f, files)
+}
+
+// Opens a folder whose block files were loaded.
+fn open_loaded<F: Folder>(alloc: Global, f: &mut F, files: BlockFiles) -> Result<Opened, OpenFault>
+    requires is_open { ForSome (F.told f.old).files (IsOpen files) }
+    ensures opened { IfOk result (λ opened. ForSome (F.told f.old).files (λ from. IsWellFormed from → ForSome (F.told f.new).files (IsOpenedAs from opened))) }
+    ensures stops { ForSome (F.told f.old).files (λ from. IsWellFormed from → Passes (F.told f.old) (F.told f.new) (IsMidRepair from)) }
+    ensures last { OnOk result (ForSome (F.told f.old).files (λ from. IsWellFormed from → EndsWithCrashWord (F.told f.old) (F.told f.new))) }
+    ensures damaged { IfOpenDamaged result (IsOpeningDamage (F.told f.new)) }
+    ensures untold { ForSome (F.told f.old).files IsWellFormed → IfOpenDamaged result (λ _. (F.told f.old).files ≡ None) }
+    ensures memory { IfOpenMemory result (Stays (F.told f.old) (F.told f.new)) }
+    ensures silent { (F.told f.old).files ≡ None → (F.told f.new).files ≡ None }
+    ensures later { F.faults f.old ≤ F.faults f.new }
+    ensures device { IfOpenDevice result (Rises (F.faults f.old) (F.faults f.new)) }
+{
+    let scan = scan_files(alloc, f, &files)?;
+    Ok(mend(f, files, &scan)?)
+}
+
+// Repairs a folder by its scan, and reads the number of the session.
+fn mend<F: Folder>(f: &mut F, files: BlockFiles, scan: &Scan) -> Result<Opened, Fault>
+    requires stand { StandAmong files scan.now }
+    requires is_open { ForSome (F.told f.old).files (IsOpen files) }
+    ensures opened { IfOk result (λ opened. ForSome (F.told f.old).files (λ from. IsRepairable scan.now from → ForSome (F.told f.new).files (IsOpenedAs from opened))) }
+    ensures stops { ForSome (F.told f.old).files (λ from. IsRepairable scan.now from → Passes (F.told f.old) (F.told f.new) (IsMidRepair from)) }
+    ensures last { OnOk result (ForSome (F.told f.old).files (λ from. IsRepairable scan.now from → EndsWithCrashWord (F.told f.old) (F.told f.new))) }
+    ensures damaged { IfDamaged result (IsOpeningDamage (F.told f.new)) }
+    ensures untold { ForSome (F.told f.old).files (IsRepairable scan.now) → IfDamaged result (λ _. (F.told f.old).files ≡ None) }
+    ensures silent { (F.told f.old).files ≡ None → (F.told f.new).files ≡ None }
+    ensures later { F.faults f.old ≤ F.faults f.new }
+    ensures device { IfDevice result (Rises (F.faults f.old) (F.faults f.new)) }
+{
+    let mut files = files;
+    repair(f, &mut files, scan)?;
+    let mark = word(f, THIS_ID)?;
+    Ok(Opened {
+        files,
+        items: scan.items(),
+        bytes: scan.bytes(),
+        mark,
+    })
+}

@@ -1,0 +1,74 @@
+// A cache is opened.
+ghost use Rattle.std.specs.Prelude.{◌≡◌, ◌≤◌, IfOk, None, OnOk};
+ghost use Rattle.std.specs.Option.{ForSome};
+ghost use Rattle.blk_image.specs.Image.{Index as index, byte};
+ghost use Rattle.blk_image.specs.Told.{Passes, Rises, Stays};
+ghost use Rattle.blk_model.specs.Bounds.{bounds_of};
+ghost use Rattle.blk_model.specs.Holding.{open_state};
+ghost use Rattle.blk_format.specs.Headers.{this_id_of};
+ghost use Rattle.blk_volume.specs.Found.{found};
+ghost use Rattle.blk_repair.specs.Repair.{EndsWithCrashWord};
+ghost use Rattle.blk_cache.specs.BoundNames.{AreAllFree};
+ghost use Rattle.blk_cache.specs.CacheKeeping.{KeepsState};
+ghost use Rattle.blk_cache.specs.Opened.{IsFirstDamage, IsOpeningDamage};
+ghost use Rattle.blk_cache.specs.Opening.{HoldsStill, IfOpenDamaged, IfOpenDevice, IfOpenMemory, IsUsable, opened_id};
+
+use crate::cache::Cache;
+use crate::fault::OpenFault;
+use crate::names::take_memory;
+use crate::opening::open_folder;
+use blk_io::Folder;
+use blk_model::Limits;
+use std::alloc::Global;
+
+impl Cache {
+    /// Opens the folder for a session. An unfinished one is made, at this moment in microseconds since 1970 UTC; any
+    /// other is checked and repaired, so that it keeps what was found in it. No handle name is bound.
+    ///
+    /// The last step makes the crash word 1, in a session with the next number; the first where the folder was made. It
+    /// may be stopped anywhere and begun again.
+    ///
+    /// # Errors
+    ///
+    /// `Damaged` with the first check of the index and of the block files that fails; then nothing was written. `Memory`
+    /// where there was too little of it, before anything was written: a session takes no more later. `Device` where the
+    /// folder failed in this call.
+    pub fn start<F: Folder>(
+        alloc: Global,
+        f: &mut F,
+        limits: Limits,
+        moment: u64,
+    ) -> Result<Cache, OpenFault>
+        ensures keeps { IfOk result (λ cache. ForSome (F.told f.old).files (λ from. ForSome (F.told f.new).files (KeepsState cache (open_state (found from) (bounds_of limits))))) }
+        ensures free { IfOk result (λ cache. AreAllFree cache.handles) }
+        ensures checked { OnOk result (ForSome (F.told f.old).files IsUsable) }
+        ensures session { OnOk result (ForSome (F.told f.old).files (λ from. ForSome (F.told f.new).files (λ image. this_id_of (byte image index) ≡ opened_id from))) }
+
+        // At each word the same is found, and the folder is unfinished or well formed where it was.
+        ensures stops { ForSome (F.told f.old).files (λ from. Passes (F.told f.old) (F.told f.new) (HoldsStill from)) }
+        ensures last { OnOk result (ForSome (F.told f.old).files (λ _. EndsWithCrashWord (F.told f.old) (F.told f.new))) }
+
+        // A folder that tells its files gives a damage only where a check of its headers fails, and the first one.
+        ensures damaged { IfOpenDamaged result (IsOpeningDamage (F.told f.new)) }
+        ensures first { IfOpenDamaged result (λ damage. ForSome (F.told f.old).files (IsFirstDamage damage)) }
+        ensures unwritten { IfOpenDamaged result (λ _. ForSome (F.told f.old).files (λ _. Stays (F.told f.old) (F.told f.new))) }
+        ensures memory { IfOpenMemory result (Stays (F.told f.old) (F.told f.new)) }
+
+        ensures silent { (F.told f.old).files ≡ None → (F.told f.new).files ≡ None }
+        ensures later { F.faults f.old ≤ F.faults f.new }
+        ensures device { IfOpenDevice result (Rises (F.faults f.old) (F.faults f.new)) }
+    {
+        let names = take_memory(alloc)?;
+        let opened = open_folder(alloc, f, moment)?;
+        Ok(Cache {
+            limits,
+            items: opened.items,
+            bytes: opened.bytes,
+            open_bytes: 0,
+            handles: names.handles,
+            files: opened.files,
+            mark: opened.mark,
+            name: names.room,
+        })
+    }
+}
