@@ -1,8 +1,9 @@
 // The walk and the chains of a small folder in memory that tells nothing.
+use crate::folders::put_all;
 use blk_addr::Claims;
-use blk_audit::{Walked, chains, read_lists, walk};
+use blk_audit::{ScanFault, Walked, chains, read_lists, walk};
 use blk_disk::BlockFiles;
-use blk_io::{Failed, FileId, Folder, MemFolder, SilentFolder, StopFolder, write_word};
+use blk_io::{Failed, Fault, FileId, Folder, MemFolder, SilentFolder, StopFolder, write_word};
 use std::alloc::Global;
 use std::test::Fail;
 
@@ -12,16 +13,7 @@ type Silent = SilentFolder<StopFolder>;
 fn folder(alloc: Global) -> Result<Silent, Failed> {
     let inner = StopFolder::new(MemFolder::without_trail(alloc), u64::MAX);
     let mut f = SilentFolder::new(inner);
-    f.set_len(FileId::Index, 262512)?;
-    for (n, size) in [36u32, 256, 1024, 4096].iter().enumerate() {
-        let file = FileId::Block(n as u8);
-        f.set_len(file, 45056)?;
-        let blocks = if n < 2 { 1024 } else { 0 };
-        let words = [0xC104_CAC3, 0x20000, n as u32, *size, 0, blocks];
-        for (i, word) in words.iter().enumerate() {
-            f.write_at(file, 4 * i as u64, &word.to_le_bytes())?;
-        }
-    }
+    put_all(&mut f, [1024, 1024, 0, 0])?;
     Ok(f)
 }
 
@@ -42,33 +34,59 @@ fn words_of(walked: &Walked) -> [u32; 3] {
     words
 }
 
-#[test]
-fn a_walk_goes_along_the_completed_list(rt: HostRuntime) -> Result<(), Fail> {
-    let (a, b, c) = (0x9000_0000, 0x9000_0001, 0x9000_03FF);
-    let mut f = folder(rt.alloc())?;
+// Three nodes, and the words of three records.
+const NODES: [u32; 3] = [0x9000_0000, 0x9000_0001, 0x9000_03FF];
+
+const RECORDS: [u32; 3] = [0xA001_0000, 0xA001_0001, 0xA001_0002];
+
+// A folder whose list begins with the second node, behind which are the third and the first.
+fn listed(alloc: Global) -> Result<Silent, Failed> {
+    let [a, b, c] = NODES;
+    let mut f = folder(alloc)?;
     write_word(&mut f, FileId::Index, 288, b)?;
     link(&mut f, 1, c, b)?;
     link(&mut f, 1023, a, b)?;
     link(&mut f, 0, a, c)?;
-    let files = BlockFiles::load(&mut f)?;
+    Ok(f)
+}
+
+// What is walked, and the folder calls that it takes.
+fn walked(alloc: Global, f: &mut Silent) -> Result<([u32; 3], u64), ScanFault> {
+    let files = BlockFiles::load(f)?;
     let start = f.calls();
-    match walk(rt.alloc(), &mut f, &files) {
-        Ok(walked) => assert_eq!(rt; words_of(&walked), [b, c, a]),
-        Err(_) => panic!(rt; "it is walked"),
-    }
-    assert_eq!(rt; f.calls().wrapping_sub(start), 3);
-    write_word(&mut f, FileId::Index, 328, c)?;
-    write_word(&mut f, FileId::Index, 332, 2)?;
-    match walk(rt.alloc(), &mut f, &files) {
-        Ok(walked) => assert_eq!(rt; words_of(&walked), [b, a, 0]),
-        Err(_) => panic!(rt; "it is walked"),
-    }
-    link(&mut f, 0, b, c)?;
-    write_word(&mut f, FileId::Index, 328, 0)?;
-    match walk(rt.alloc(), &mut f, &files) {
-        Ok(walked) => assert_eq!(rt; words_of(&walked), [b, c, a]),
-        Err(_) => panic!(rt; "it is walked"),
-    }
+    let walked = walk(alloc, f, &files)?;
+    Ok((words_of(&walked), f.calls().wrapping_sub(start)))
+}
+
+// Puts a removal of the third node in flight.
+fn put_removal(f: &mut Silent) -> Result<(), Fault> {
+    write_word(f, FileId::Index, 328, NODES[2])?;
+    write_word(f, FileId::Index, 332, 2)?;
+    Ok(())
+}
+
+// Takes the operation out of flight, and has the last node lead to the first.
+fn put_ring(f: &mut Silent) -> Result<(), Fault> {
+    link(f, 0, NODES[1], NODES[2])?;
+    write_word(f, FileId::Index, 328, 0)?;
+    Ok(())
+}
+
+// What is walked with the removal in flight, and then in the ring.
+fn walked_on(alloc: Global, f: &mut Silent) -> Result<[[u32; 3]; 2], ScanFault> {
+    put_removal(f)?;
+    let without = walked(alloc, f)?.0;
+    put_ring(f)?;
+    Ok([without, walked(alloc, f)?.0])
+}
+
+#[test]
+fn a_walk_goes_along_the_completed_list(rt: HostRuntime) -> Result<(), Fail> {
+    let [a, b, c] = NODES;
+    let mut f = listed(rt.alloc())?;
+    assert!(rt; walked(rt.alloc(), &mut f) == Ok(([b, c, a], 3)));
+    let on = [[b, a, 0], [b, c, a]];
+    assert!(rt; walked_on(rt.alloc(), &mut f) == Ok(on));
     Ok(())
 }
 
@@ -78,47 +96,62 @@ fn chain(f: &mut Silent, n: u32, hash: u32, next: u32) -> Result<(), Failed> {
     write_word(f, FileId::Block(1), 8192 + 256 * u64::from(n) + 4, next)
 }
 
-#[test]
-fn a_chain_ends_before_another_bucket_and_before_a_met_record(rt: HostRuntime) -> Result<(), Fail> {
-    let (a, b, c) = (0xA001_0000, 0xA001_0001, 0xA001_0002);
-    let mut f = folder(rt.alloc())?;
+// A folder with one chain of three records, of which the third has a hash of another bucket.
+fn chained(alloc: Global) -> Result<Silent, Failed> {
+    let [a, b, c] = RECORDS;
+    let mut f = folder(alloc)?;
     write_word(&mut f, FileId::Index, 368 + 4 * 5, a)?;
     chain(&mut f, 0, 5, b)?;
     chain(&mut f, 1, 0x1_0005, c)?;
     chain(&mut f, 2, 6, 0)?;
-    let files = BlockFiles::load(&mut f)?;
-    let named = Claims::new(rt.alloc());
+    Ok(f)
+}
+
+// How many records the chains reach, the second of them, and the folder calls that it takes.
+fn reached(alloc: Global, f: &mut Silent) -> Result<(usize, Option<u32>, u64), ScanFault> {
+    let files = BlockFiles::load(f)?;
+    let named = Claims::new(alloc);
     let start = f.calls();
-    match chains(rt.alloc(), &mut f, &files, &named) {
-        Ok(reached) => assert_eq!(rt;
-            (reached.count(), reached.at(1).map(|w| w.word())),
-            (2, Some(b))
-        ),
-        Err(_) => panic!(rt; "they are followed"),
-    }
-    assert_eq!(rt; f.calls().wrapping_sub(start), 67);
-    chain(&mut f, 2, 5, a)?;
+    let reached = chains(alloc, f, &files, &named)?;
+    let second = reached.at(1).map(|word| word.word());
+    Ok((reached.count(), second, f.calls().wrapping_sub(start)))
+}
+
+// Has the third record name the first one, and lists the nodes of the three.
+fn list(f: &mut Silent) -> Result<(), Fault> {
+    chain(f, 2, 5, RECORDS[0])?;
     let first = 0x9000_0000;
-    write_word(&mut f, FileId::Index, 288, first)?;
-    link(&mut f, 0, first + 1, first)?;
-    link(&mut f, 1, first + 2, first)?;
-    link(&mut f, 2, first + 2, first + 1)?;
-    write_word(&mut f, FileId::Block(0), 8192 + 24, a)?;
-    write_word(&mut f, FileId::Block(0), 8192 + 36 + 24, b)?;
-    write_word(&mut f, FileId::Block(0), 8192 + 72 + 24, c)?;
-    let start = f.calls();
-    match read_lists(rt.alloc(), &mut f, &files) {
-        Ok(lists) => assert_eq!(rt;
-            (
-                lists.walked.count(),
-                lists.reached.count(),
-                lists.reached.contains(c),
-                lists.reached.contains(c + 0x0100_0000)
-            ),
-            (3, 3, true, false)
-        ),
-        Err(_) => panic!(rt; "they are read"),
+    write_word(f, FileId::Index, 288, first)?;
+    link(f, 0, first + 1, first)?;
+    link(f, 1, first + 2, first)?;
+    link(f, 2, first + 2, first + 1)?;
+    for (at, record) in [8216, 8252, 8288].iter().zip(RECORDS) {
+        write_word(f, FileId::Block(0), *at, record)?;
     }
-    assert_eq!(rt; f.calls().wrapping_sub(start), 68);
+    Ok(())
+}
+
+// What is read of the lists: the nodes, the records, and whether the third record and a longer one at its place are reached;
+// and the folder calls that it takes.
+fn read(alloc: Global, f: &mut Silent) -> Result<(usize, usize, [bool; 2], u64), ScanFault> {
+    list(f)?;
+    let files = BlockFiles::load(f)?;
+    let start = f.calls();
+    let lists = read_lists(alloc, f, &files)?;
+    let calls = f.calls().wrapping_sub(start);
+    let third = [
+        lists.reached.contains(RECORDS[2]),
+        lists.reached.contains(RECORDS[2].wrapping_add(0x0100_0000)),
+    ];
+    Ok((lists.walked.count(), lists.reached.count(), third, calls))
+}
+
+#[test]
+fn a_chain_ends_before_another_bucket_and_before_a_met_record(rt: HostRuntime) -> Result<(), Fail> {
+    let mut f = chained(rt.alloc())?;
+    let chain = (2, Some(RECORDS[1]), 67);
+    assert!(rt; reached(rt.alloc(), &mut f) == Ok(chain));
+    let lists = (3, 3, [true, false], 68);
+    assert!(rt; read(rt.alloc(), &mut f) == Ok(lists));
     Ok(())
 }

@@ -3,60 +3,42 @@ ghost use Rattle.std.specs.Prelude.{◌≡◌, ◌<◌, ◌^◌, IfSome, IsTrue}
 ghost use Rattle.blk_format.specs.Address.{blocks_256, kind_of};
 ghost use Rattle.blk_disk.specs.Tables.{stands_among};
 
+use crate::folders::put_all;
 use blk_addr::{Addr, Kind};
 use blk_chain::{Found, find, link_front, unlink};
 use blk_disk::BlockFiles;
 use blk_index::bucket;
-use blk_io::{
-    Damage, Failed, Fault, FileId, Folder, MemFolder, SilentFolder, StopFolder, read_word,
-};
+use blk_io::{Damage, Failed, Fault, FileId, Folder, MemFolder, SilentFolder, StopFolder};
 use blk_record::{EntryMut, RecordMut, super_fast_hash};
-use blk_repair::mend_chain;
 use std::alloc::Global;
 use std::test::Fail;
 
 // A folder in memory that tells nothing.
-type Silent = SilentFolder<MemFolder>;
-
-const INDEX_LEN: u64 = 262512;
-
-// Every block file has 36864 bytes of blocks.
-const SIZE: u64 = 45056;
-
-// The bytes of a block of each of the four files.
-const BLOCKS: [u32; 4] = [36, 256, 1024, 4096];
+pub(crate) type Silent = SilentFolder<MemFolder>;
 
 // Three keys of one bucket, with their hashes, and two keys of one hash. The hashes are from a program of the
 // published function.
-const KEYS: [&[u8]; 3] = [b"iev", b"jio", b"nab"];
+pub(crate) const KEYS: [&[u8]; 3] = [b"iev", b"jio", b"nab"];
 
 const TWINS: [&[u8]; 2] = [b"lniw", b"zrti"];
 
 // The words of three records.
-const WORDS: [u32; 3] = [0xA001_0000, 0xA001_0001, 0xA001_0002];
+pub(crate) const WORDS: [u32; 3] = [0xA001_0000, 0xA001_0001, 0xA001_0002];
 
 // The flags of a plain entry and of a child.
-const PLAIN: u32 = 0;
+pub(crate) const PLAIN: u32 = 0;
 
 const CHILD: u32 = 2;
 
 // A folder with an index that names nothing, and four block files that have blocks and no allocation.
-fn folder(alloc: Global) -> Result<Silent, Failed> {
+pub(crate) fn folder(alloc: Global) -> Result<Silent, Failed> {
     let mut f = SilentFolder::new(MemFolder::new(alloc));
-    f.set_len(FileId::Index, INDEX_LEN)?;
-    for (n, size) in BLOCKS.iter().enumerate() {
-        let file = FileId::Block(n as u8);
-        f.set_len(file, SIZE)?;
-        let words = [0xC104_CAC3, 0x20000, n as u32, *size, 0, 1024];
-        for (i, word) in words.iter().enumerate() {
-            f.write_at(file, 4 * i as u64, &word.to_le_bytes())?;
-        }
-    }
+    put_all(&mut f, [1024; 4])?;
     Ok(f)
 }
 
 // The place of the record of a word.
-fn place_of(word: u32) -> u64
+pub(crate) fn place_of(word: u32) -> u64
     ensures { result < 2 ^ 32 }
 {
     8192 + 256 * u64::from(word % 65536)
@@ -81,14 +63,20 @@ fn record_for(key: &[u8], flags: u32, next: u32) -> [u8; 96] {
 }
 
 // Writes a record and its key, by the format alone.
-fn put_record(f: &mut Silent, word: u32, key: &[u8], flags: u32, next: u32) -> Result<(), Failed> {
+pub(crate) fn put_record(
+    f: &mut Silent,
+    word: u32,
+    key: &[u8],
+    flags: u32,
+    next: u32,
+) -> Result<(), Failed> {
     let bytes = record_for(key, flags, next);
     f.write_at(FileId::Block(1), place_of(word), &bytes)?;
     f.write_at(FileId::Block(1), place_of(word) + 96, key)
 }
 
 // The record of a word, where it is one that stands.
-fn record_of(files: &BlockFiles, word: u32) -> Option<Addr>
+pub(crate) fn record_of(files: &BlockFiles, word: u32) -> Option<Addr>
     ensures kind { IfSome result (λ addr. kind_of addr ≡ blocks_256) }
     ensures stands { IfSome result (λ addr. IsTrue (stands_among files.now addr)) }
 {
@@ -147,7 +135,7 @@ fn take<F: Folder>(f: &mut SilentFolder<F>, key: &[u8]) -> Result<bool, Fault> {
 }
 
 // A folder with three records in one chain, the last key in front.
-fn three(alloc: Global) -> Result<Silent, Fault> {
+pub(crate) fn three(alloc: Global) -> Result<Silent, Fault> {
     let mut f = folder(alloc)?;
     for (key, word) in KEYS.iter().zip(WORDS) {
         add(&mut f, word, key, PLAIN)?;
@@ -201,9 +189,8 @@ fn a_folder_that_tells_its_files_is_searched(rt: HostRuntime) -> Result<(), Fail
 #[test]
 fn each_of_three_records_of_one_bucket_is_unlinked(rt: HostRuntime) {
     for key in 0..3usize {
-        assert_eq!(rt;
-            taken(rt.alloc(), key),
-            Ok((true, WITHOUT[key], false)),
+        assert!(rt;
+            taken(rt.alloc(), key) == Ok((true, WITHOUT[key], false)),
             "{key}"
         );
     }
@@ -226,7 +213,7 @@ fn emptied(alloc: Global) -> Result<([Three; 3], u32), Fault> {
 #[test]
 fn a_chain_is_emptied_record_by_record(rt: HostRuntime) {
     let one = [Some((WORDS[0], 0)), None, None];
-    assert_eq!(rt; emptied(rt.alloc()), Ok(([WITHOUT[1], one, [None; 3]], 0)));
+    assert!(rt; emptied(rt.alloc()) == Ok(([WITHOUT[1], one, [None; 3]], 0)));
 }
 
 // The bytes of the record before the middle one of three, when that one is unlinked.
@@ -266,7 +253,7 @@ fn keys_of_one_hash_are_told_apart(rt: HostRuntime) {
         Some((WORDS[1], 0)),
         8 + 1 + 2 + 2,
     );
-    assert_eq!(rt; twins(rt.alloc()), Ok(found));
+    assert!(rt; twins(rt.alloc()) == Ok(found));
 }
 
 // The folder calls that it takes to find the last of three records of other hashes.
@@ -301,7 +288,7 @@ fn a_child_has_another_name(rt: HostRuntime) {
     let found = [None, Some((WORDS[1], 0)), Some((WORDS[0], WORDS[1]))];
 
     // The child is passed by one call.
-    assert_eq!(rt; with_child(rt.alloc()), Ok((found, 8 + 1 + 1 + 2)));
+    assert!(rt; with_child(rt.alloc()) == Ok((found, 8 + 1 + 1 + 2)));
 }
 
 // Makes the bucket of a key name this record.
@@ -338,7 +325,7 @@ fn behind_another_length(alloc: Global) -> Result<(Option<(u32, u32)>, u64), Fau
 fn a_record_of_another_length_is_passed_by_one_call(rt: HostRuntime) {
     // Eight calls load the files, and one reads the word of the bucket.
     let found = (Some((WORDS[0], WORDS[1])), 8 + 1 + 1 + 2);
-    assert_eq!(rt; behind_another_length(rt.alloc()), Ok(found));
+    assert!(rt; behind_another_length(rt.alloc()) == Ok(found));
 }
 
 // A search for a key of 32768 bytes, which are in an external file.
@@ -362,7 +349,7 @@ fn the_longest_key_is_found_by_three_calls_for_its_record(rt: HostRuntime) -> Re
 
     // The record, and two pieces of the key.
     let found = (Some((WORDS[0], 0)), 8 + 1 + 3);
-    assert_eq!(rt; external(rt.alloc(), &key), Ok(found));
+    assert!(rt; external(rt.alloc(), &key) == Ok(found));
     Ok(())
 }
 
@@ -387,7 +374,7 @@ fn damage(at: u32, found: u32) -> Fault {
 fn a_loop_of_records_ends(rt: HostRuntime) {
     // Eight calls load the files, one reads the word of the bucket, and one each record.
     let found = (Err(damage(4, WORDS[0])), 8 + 1 + 131_073);
-    assert_eq!(rt; search(rt.alloc(), WORDS[0]), Ok(found));
+    assert!(rt; search(rt.alloc(), WORDS[0]) == Ok(found));
 }
 
 #[test]
@@ -395,9 +382,9 @@ fn a_word_that_names_no_record_is_a_damage(rt: HostRuntime) {
     // No address, a node, and a record past the end of its file.
     for wrong in [0x2001_0000, 0x9000_0000, 0xA001_0100] {
         let found = (Err(damage(4, wrong)), 8 + 1 + 1);
-        assert_eq!(rt; search(rt.alloc(), wrong), Ok(found), "{wrong}");
+        assert!(rt; search(rt.alloc(), wrong) == Ok(found), "{wrong}");
     }
-    assert_eq!(rt; search(rt.alloc(), 0), Ok((Ok(None), 8 + 1 + 1)));
+    assert!(rt; search(rt.alloc(), 0) == Ok((Ok(None), 8 + 1 + 1)));
 }
 
 // A search for the only key, in a record whose seal is 5.
@@ -426,21 +413,16 @@ fn stopped_taking(alloc: Global, key: usize, steps: u64) -> Result<(bool, Three)
 #[test]
 fn unlinking_takes_effect_at_one_word(rt: HostRuntime) {
     // The word of the bucket.
-    assert_eq!(rt; stopped_taking(rt.alloc(), 2, 0), Ok((false, WHOLE)));
-    assert_eq!(rt; stopped_taking(rt.alloc(), 2, 1), Ok((true, WITHOUT[2])));
+    for (steps, done, found) in [(0, false, WHOLE), (1, true, WITHOUT[2])] {
+        assert!(rt; stopped_taking(rt.alloc(), 2, steps) == Ok((done, found)));
+    }
 
     // The seal of the record before, its next, and the seal.
     for key in 0..2usize {
-        assert_eq!(rt; stopped_taking(rt.alloc(), key, 0), Ok((false, WHOLE)));
-        assert_eq!(rt; stopped_taking(rt.alloc(), key, 1), Ok((false, WHOLE)));
-        assert_eq!(rt;
-            stopped_taking(rt.alloc(), key, 2),
-            Ok((false, WITHOUT[key]))
-        );
-        assert_eq!(rt;
-            stopped_taking(rt.alloc(), key, 3),
-            Ok((true, WITHOUT[key]))
-        );
+        for steps in 0..4 {
+            let found = if steps < 2 { WHOLE } else { WITHOUT[key] };
+            assert!(rt; stopped_taking(rt.alloc(), key, steps) == Ok((steps == 3, found)));
+        }
     }
 }
 
@@ -464,40 +446,6 @@ fn stopped_linking(alloc: Global, steps: u64) -> Result<(bool, Three), Fault> {
 
 #[test]
 fn linking_takes_effect_at_one_word(rt: HostRuntime) {
-    assert_eq!(rt; stopped_linking(rt.alloc(), 0), Ok((false, WITHOUT[2])));
-    assert_eq!(rt; stopped_linking(rt.alloc(), 1), Ok((true, WHOLE)));
-}
-
-// Makes a bucket the chain of two records.
-fn mend(f: &mut Silent, number: u16, words: [u32; 2]) -> Result<(), Fault> {
-    let files = BlockFiles::load(f)?;
-    let Some(front) = files.entry(words[0]) else {
-        return Err(Fault::Device);
-    };
-    let Some(behind) = files.entry(words[1]) else {
-        return Err(Fault::Device);
-    };
-    mend_chain(f, &files, number, &[front, behind])
-}
-
-// A folder in which the three records are one chain, the last in front.
-fn chain_of_three(alloc: Global) -> Result<Silent, Fault> {
-    let mut f = folder(alloc)?;
-    add(&mut f, WORDS[0], KEYS[0], PLAIN)?;
-    add(&mut f, WORDS[1], KEYS[1], PLAIN)?;
-    add(&mut f, WORDS[2], KEYS[2], PLAIN)?;
-    Ok(f)
-}
-
-#[test]
-fn bucket_is_made_the_chain_of_its_kept_records(rt: HostRuntime) -> Result<(), Fail> {
-    let mut f = chain_of_three(rt.alloc())?;
-    let number = (super_fast_hash(KEYS[0]) % 65536) as u16;
-    assert_eq!(rt; mend(&mut f, number, [WORDS[2], WORDS[0]]), Ok(()));
-    assert_eq!(rt; bucket(&mut f, number), Ok(WORDS[2]));
-    let behind = read_word(&mut f, FileId::Block(1), place_of(WORDS[2]) + 4);
-    assert_eq!(rt; behind, Ok(WORDS[0]));
-    let end = read_word(&mut f, FileId::Block(1), place_of(WORDS[0]) + 4);
-    assert_eq!(rt; end, Ok(0));
-    Ok(())
+    assert!(rt; stopped_linking(rt.alloc(), 0) == Ok((false, WITHOUT[2])));
+    assert!(rt; stopped_linking(rt.alloc(), 1) == Ok((true, WHOLE)));
 }

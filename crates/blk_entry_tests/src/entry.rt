@@ -5,6 +5,7 @@ ghost use Rattle.blk_disk.specs.Tables.{stands_among};
 ghost use Rattle.blk_entry.specs.Keys.{may_hold, most_key};
 ghost use Rattle.blk_entry.specs.Writing.{FitsKey};
 
+use crate::folders::{SIZE, put_files};
 use blk_addr::{Addr, Kind};
 use blk_disk::BlockFiles;
 use blk_entry::{
@@ -16,11 +17,8 @@ use blk_record::{EntryMut, NodeMut, RecordMut, super_fast_hash};
 use std::alloc::Global;
 use std::test::Fail;
 
-// Every block file has 36864 bytes of blocks.
-const SIZE: u64 = 45056;
-
-// The bytes of a block of each of the four files.
-const BLOCKS: [u32; 4] = [36, 256, 1024, 4096];
+// A folder in memory that tells nothing.
+type Mem = SilentFolder<MemFolder>;
 
 // The first node, and where it begins.
 const NODE: u32 = 0x9000_0000;
@@ -60,16 +58,9 @@ const MOMENT: u64 = 0x0102_0304_0506_0708;
 const FILL: u8 = 0xEE;
 
 // A folder with the four block files, which have blocks and no allocation.
-fn folder(alloc: Global) -> Result<SilentFolder<MemFolder>, Failed> {
+fn folder(alloc: Global) -> Result<Mem, Failed> {
     let mut f = SilentFolder::new(MemFolder::new(alloc));
-    for (n, size) in BLOCKS.iter().enumerate() {
-        let file = FileId::Block(n as u8);
-        f.set_len(file, SIZE)?;
-        let words = [0xC104_CAC3, 0x20000, n as u32, *size, 0, 1024];
-        for (i, word) in words.iter().enumerate() {
-            f.write_at(file, 4 * i as u64, &word.to_le_bytes())?;
-        }
-    }
+    put_files(&mut f, SIZE, [1024; 4])?;
     Ok(f)
 }
 
@@ -84,7 +75,7 @@ fn key_of(alloc: Global, size: usize) -> Result<Vec<u8>, Fail> {
 }
 
 // Writes the record of a key in the first block, by the format alone.
-fn put_record(f: &mut SilentFolder<MemFolder>, long_key: u32, key: &[u8]) -> Result<(), Failed> {
+fn put_record(f: &mut Mem, long_key: u32, key: &[u8]) -> Result<(), Failed> {
     let mut bytes = [0; 96];
     let mut record = EntryMut::new(&mut bytes);
     record.set_word(0, super_fast_hash(key));
@@ -98,7 +89,7 @@ fn put_record(f: &mut SilentFolder<MemFolder>, long_key: u32, key: &[u8]) -> Res
 }
 
 // Writes a key at its place.
-fn put_key(f: &mut SilentFolder<MemFolder>, long_key: u32, key: &[u8]) -> Result<(), Failed> {
+fn put_key(f: &mut Mem, long_key: u32, key: &[u8]) -> Result<(), Failed> {
     match long_key {
         0 => f.write_at(FileId::Block(1), 8192 + 96, key),
         0xA301_0004 => f.write_at(FileId::Block(1), 8192 + 1024, key),
@@ -154,23 +145,14 @@ fn equals<F: Folder>(f: &mut F, word: u32, key: &[u8]) -> Result<bool, Fault> {
 }
 
 // The same, and the number of the folder calls that it makes.
-fn counted_equals(
-    f: &mut SilentFolder<MemFolder>,
-    word: u32,
-    key: &[u8],
-) -> Result<(bool, u64), Fault> {
+fn counted_equals(f: &mut Mem, word: u32, key: &[u8]) -> Result<(bool, u64), Fault> {
     let before = f.calls();
     let same = equals(f, word, key)?;
     Ok((same, f.calls().wrapping_sub(before)))
 }
 
 // Whether an entry has a key, where the file of the records gets another length after the files are loaded.
-fn equals_in_cut_file(
-    f: &mut SilentFolder<MemFolder>,
-    word: u32,
-    key: &[u8],
-    length: u64,
-) -> Result<bool, Fault> {
+fn equals_in_cut_file(f: &mut Mem, word: u32, key: &[u8], length: u64) -> Result<bool, Fault> {
     let files = BlockFiles::load(f)?;
     f.set_len(FileId::Block(1), length)?;
     match entry_of(&files, word) {
@@ -189,7 +171,7 @@ fn piece<F: Folder>(f: &mut F, word: u32, at: u32, out: &mut [u8]) -> Result<usi
 }
 
 // The length of the key of an entry.
-fn length(f: &mut SilentFolder<MemFolder>, word: u32) -> Result<u32, Fault> {
+fn length(f: &mut Mem, word: u32) -> Result<u32, Fault> {
     let files = BlockFiles::load(f)?;
     match entry_of(&files, word) {
         Some(entry) => field(f, &files, entry, 32),
@@ -226,164 +208,210 @@ fn head<F: Folder>(f: &mut F, word: u32) -> Result<(u32, u32, u32, u32), Fault> 
 }
 
 // A word of a file.
-fn word(f: &mut SilentFolder<MemFolder>, file: FileId, at: u64) -> Result<u32, Failed> {
+fn word(f: &mut Mem, file: FileId, at: u64) -> Result<u32, Failed> {
     let mut bytes = [0; 4];
     f.read_at(file, at, &mut bytes)?;
     Ok(u32::from_le_bytes(bytes))
+}
+
+// A folder with the record of a key in the first block, and with the key at its place.
+fn folder_with(alloc: Global, long_key: u32, key: &[u8]) -> Result<Mem, Failed> {
+    let mut f = folder(alloc)?;
+    put_record(&mut f, long_key, key)?;
+    put_key(&mut f, long_key, key)?;
+    Ok(f)
+}
+
+// The length of the key of an entry, and whether the key is this one, and the front of it.
+fn compared(f: &mut Mem, entry: u32, key: &[u8]) -> Result<(u32, [bool; 2]), Fault> {
+    let front = &key[..key.len().saturating_sub(1)];
+    let key_len = length(f, entry)?;
+    Ok((key_len, [equals(f, entry, key)?, equals(f, entry, front)?]))
+}
+
+// Reads a whole key, its last byte where there is room for three, and none behind it: how many bytes are read each time,
+// and the three.
+fn pieces(f: &mut Mem, entry: u32, out: &mut [u8]) -> Result<([usize; 3], [u8; 3]), Fault> {
+    let key_len = (out.len() % 0x1_0000_0000) as u32;
+    let all = piece(f, entry, 0, out)?;
+    let mut end = [9; 3];
+    let last = piece(f, entry, key_len.saturating_sub(1), &mut end)?;
+    let none = piece(f, entry, key_len, &mut end)?;
+    Ok(([all, last, none], end))
+}
+
+// Whether an entry has a key of another last byte; first with the hash of its own key in its record, and then with that of
+// the other.
+fn compared_with_another(
+    f: &mut Mem,
+    entry: u32,
+    long_key: u32,
+    key: &mut [u8],
+) -> Result<[bool; 2], Fault> {
+    if let Some(byte) = key.last_mut() {
+        *byte ^= 1;
+    }
+    let first = equals(f, entry, key)?;
+    put_record(f, long_key, key)?;
+    Ok([first, equals(f, entry, key)?])
 }
 
 #[test]
 fn keys_of_each_storage_are_read_and_compared(rt: HostRuntime) -> Result<(), Fail> {
     for (key_len, entry, long_key) in ENTRIES {
         let size = key_len as usize;
-        let mut f = folder(rt.alloc())?;
         let mut key = key_of(rt.alloc(), size)?;
-        put_record(&mut f, long_key, &key)?;
-        put_key(&mut f, long_key, &key)?;
-        assert_eq!(rt; length(&mut f, entry), Ok(key_len));
-        assert_eq!(rt; equals(&mut f, entry, &key), Ok(true), "{size} bytes");
-        assert_eq!(rt;
-            equals(&mut f, entry, &key[..key.len().saturating_sub(1)]),
-            Ok(false)
-        );
+        let mut f = folder_with(rt.alloc(), long_key, &key)?;
+        let same = Ok((key_len, [true, false]));
+        assert!(rt; compared(&mut f, entry, &key) == same, "{size} bytes");
 
         // All of it, and a piece of which only the front is there.
         let mut all = key_of(rt.alloc(), size)?;
         all.fill(0);
-        assert_eq!(rt; piece(&mut f, entry, 0, &mut all), Ok(size));
+        let last = key.last().copied().unwrap_or(0);
+        let read = Ok(([size, 1, 0], [last, 9, 9]));
+        assert!(rt; pieces(&mut f, entry, &mut all) == read, "{size} bytes");
         assert!(rt; all == key);
-        let mut end = [9; 3];
-        assert_eq!(rt;
-            piece(&mut f, entry, key_len.saturating_sub(1), &mut end),
-            Ok(1)
-        );
-        assert_eq!(rt; key.last().copied(), Some(end[0]));
-        assert_eq!(rt; [end[1], end[2]], [9, 9]);
-        assert_eq!(rt; piece(&mut f, entry, key_len, &mut end), Ok(0));
-
-        // Another last byte: the record has the hash of the first key, and then that of the other.
-        if let Some(byte) = key.last_mut() {
-            *byte ^= 1;
-        }
-        assert_eq!(rt; equals(&mut f, entry, &key), Ok(false));
-        put_record(&mut f, long_key, &key)?;
-        assert_eq!(rt; equals(&mut f, entry, &key), Ok(false));
+        let other = compared_with_another(&mut f, entry, long_key, &mut key);
+        assert!(rt; other == Ok([false, false]), "{size} bytes");
     }
     Ok(())
 }
 
+// Whether the entry in the first block has a key, the bytes that are read of it, and its head, once its node was marked and
+// is clean again.
+fn read_and_marked<F: Folder>(
+    f: &mut F,
+    key: &[u8],
+) -> Result<(bool, usize, (u32, u32, u32, u32)), Fault> {
+    let mut out = [0; 8];
+    let same = equals(f, 0xA001_0000, key)?;
+    let read = piece(f, 0xA001_0000, 0, &mut out)?;
+    mark(f, 7)?;
+    mark(f, 0)?;
+    Ok((same, read, head(f, 0xA001_0000)?))
+}
+
 #[test]
 fn a_folder_that_tells_its_files_is_read_and_marked(rt: HostRuntime) -> Result<(), Fail> {
-    let mut silent = folder(rt.alloc())?;
     let key = key_of(rt.alloc(), 20)?;
-    put_record(&mut silent, 0, &key)?;
-    put_key(&mut silent, 0, &key)?;
-    let mut f = silent.into_inner();
-    let mut out = [0; 8];
-    assert_eq!(rt; equals(&mut f, 0xA001_0000, &key), Ok(true));
-    assert_eq!(rt; piece(&mut f, 0xA001_0000, 0, &mut out), Ok(8));
-    assert_eq!(rt; mark(&mut f, 7), Ok(()));
-    assert_eq!(rt; mark(&mut f, 0), Ok(()));
-    assert_eq!(rt; head(&mut f, 0xA001_0000), Ok((20, 5, 0x8000_0002, NODE)));
+    let mut f = folder_with(rt.alloc(), 0, &key)?.into_inner();
+    let read = (true, 8, (20, 5, 0x8000_0002, NODE));
+    assert!(rt; read_and_marked(&mut f, &key) == Ok(read));
     Ok(())
+}
+
+// The mark and the seal of the first node.
+fn node_words(f: &mut Mem) -> Result<[u32; 2], Failed> {
+    let mark = word(f, FileId::Block(0), NODE_AT + 28)?;
+    Ok([mark, word(f, FileId::Block(0), NODE_AT + 32)?])
+}
+
+// Marks the first node: the number of folder calls, and its words then.
+fn marked(f: &mut Mem, number: u32) -> Result<(u64, [u32; 2]), Fault> {
+    let before = f.calls();
+    mark(f, number)?;
+    let calls = f.calls().wrapping_sub(before);
+    Ok((calls, node_words(f)?))
 }
 
 #[test]
 fn a_node_is_marked_and_clean_again(rt: HostRuntime) -> Result<(), Fail> {
     let mut f = folder(rt.alloc())?;
-    f.write_at(
-        FileId::Block(0),
-        NODE_AT + 24,
-        &0xA001_0000u32.to_le_bytes(),
-    )?;
-    let before = f.calls();
-    assert_eq!(rt; mark(&mut f, 7), Ok(()));
+    let contents = 0xA001_0000u32.to_le_bytes();
+    f.write_at(FileId::Block(0), NODE_AT + 24, &contents)?;
 
     // Eight calls load the files, one reads the node, and three write a word each.
-    assert_eq!(rt; f.calls().wrapping_sub(before), 8 + 1 + 3);
-    assert_eq!(rt; word(&mut f, FileId::Block(0), NODE_AT + 28)?, 7);
-    assert_eq!(rt; word(&mut f, FileId::Block(0), NODE_AT + 32)?, DIRTY_SEAL);
-    assert_eq!(rt; mark(&mut f, 0), Ok(()));
-    assert_eq!(rt; word(&mut f, FileId::Block(0), NODE_AT + 28)?, 0);
-    assert_eq!(rt; word(&mut f, FileId::Block(0), NODE_AT + 32)?, CLEAN_SEAL);
+    assert!(rt; marked(&mut f, 7) == Ok((8 + 1 + 3, [7, DIRTY_SEAL])));
+    assert!(rt; marked(&mut f, 0) == Ok((8 + 1 + 3, [0, CLEAN_SEAL])));
     Ok(())
 }
 
+// A damage: its file, its place and its word.
+type Place = (FileId, u64, u32);
+
 // The file, the place and the word of a damage.
-fn found<T: Drop>(answer: Result<T, Fault>) -> Option<(FileId, u64, u32)> {
+fn found<T: Drop>(answer: Result<T, Fault>) -> Option<Place> {
     match answer {
         Err(Fault::Damaged(damage)) => Some((damage.file, damage.at, damage.found)),
         _ => None,
     }
 }
 
+// The damages where the record in the first block names this place of its key.
+fn with_long_key(f: &mut Mem, long_key: u32, key: &[u8]) -> Result<[Option<Place>; 2], Failed> {
+    put_record(f, long_key, key)?;
+    let mut out = [0; 8];
+    Ok([
+        found(piece(f, 0xA001_0000, 0, &mut out)),
+        found(equals(f, 0xA001_0000, key)),
+    ])
+}
+
+// The damages of a length that two blocks don't have, and of a seal that isn't the hash.
+fn with_wrong_words(f: &mut Mem) -> Result<[Option<Place>; 2], Failed> {
+    let mut out = [0; 8];
+    let length = found(piece(f, 0xA101_0000, 0, &mut out));
+    f.write_at(FileId::Block(1), 8192 + 92, &5u32.to_le_bytes())?;
+    Ok([length, found(piece(f, 0xA001_0000, 0, &mut out))])
+}
+
 #[test]
 fn a_wrong_record_is_a_damage(rt: HostRuntime) -> Result<(), Fail> {
     let mut f = folder(rt.alloc())?;
     let key = key_of(rt.alloc(), 928)?;
-    let mut out = [0; 8];
 
     // No address, one of another kind, and one of blocks that are past the last.
     for wrong in [0x2001_0000, 0xC003_0000, 0xA301_0400] {
-        put_record(&mut f, wrong, &key)?;
-        assert_eq!(rt;
-            found(piece(&mut f, 0xA001_0000, 0, &mut out)),
-            Some((FileId::Block(1), 8192 + 36, wrong))
-        );
-        assert_eq!(rt;
-            found(equals(&mut f, 0xA001_0000, &key)),
-            Some((FileId::Block(1), 8192 + 36, wrong))
-        );
+        let damage = Some((FileId::Block(1), 8192 + 36, wrong));
+        let damages = with_long_key(&mut f, wrong, &key);
+        assert!(rt; damages == Ok([damage, damage]));
     }
-
-    // A length that two blocks don't have, and a seal that isn't the hash.
-    assert_eq!(rt;
-        found(piece(&mut f, 0xA101_0000, 0, &mut out)),
-        Some((FileId::Block(1), 8192 + 32, 928))
-    );
-    f.write_at(FileId::Block(1), 8192 + 92, &5u32.to_le_bytes())?;
-    assert_eq!(rt;
-        found(piece(&mut f, 0xA001_0000, 0, &mut out)),
-        Some((FileId::Block(1), 8192 + 92, 5))
-    );
+    let length = Some((FileId::Block(1), 8192 + 32, 928));
+    let seal = Some((FileId::Block(1), 8192 + 92, 5));
+    assert!(rt; with_wrong_words(&mut f) == Ok([length, seal]));
     Ok(())
+}
+
+// The damages of an external file that ends in the second piece of its key, and of a record whose last two bytes are past
+// the end of its file.
+fn with_cut_files(f: &mut Mem, key: &[u8]) -> Result<[Option<Place>; 3], Failed> {
+    let mut out = [0; 8];
+    f.set_len(FileId::External(1), 19000)?;
+    Ok([
+        found(equals(f, 0xA001_0000, key)),
+        found(piece(f, 0xA001_0000, 18995, &mut out)),
+        found(equals_in_cut_file(f, 0xA001_0000, key, 8192 + 94)),
+    ])
 }
 
 #[test]
 fn too_few_bytes_are_a_damage(rt: HostRuntime) -> Result<(), Fail> {
-    let mut f = folder(rt.alloc())?;
     let key = key_of(rt.alloc(), 20000)?;
-    put_record(&mut f, 0x8000_0001, &key)?;
-    put_key(&mut f, 0x8000_0001, &key)?;
-    let mut out = [0; 8];
-
-    // An external file that ends in the second piece of its key.
-    f.set_len(FileId::External(1), 19000)?;
+    let mut f = folder_with(rt.alloc(), 0x8000_0001, &key)?;
     let second = Some((FileId::External(1), 16398, 19000 - 16398));
-    assert_eq!(rt; found(equals(&mut f, 0xA001_0000, &key)), second);
     let end = Some((FileId::External(1), 18995, 5));
-    assert_eq!(rt; found(piece(&mut f, 0xA001_0000, 18995, &mut out)), end);
-
-    // A record whose last two bytes are past the end of its file.
     let record = Some((FileId::Block(1), 8192, 94));
-    let cut = equals_in_cut_file(&mut f, 0xA001_0000, &key, 8192 + 94);
-    assert_eq!(rt; found(cut), record);
+    assert!(rt; with_cut_files(&mut f, &key) == Ok([second, end, record]));
     Ok(())
+}
+
+// The damages of marking the first node and making it clean, and the number of folder calls.
+fn unmarked(f: &mut Mem) -> ([Option<Place>; 2], u64) {
+    let before = f.calls();
+    let damages = [found(mark(f, 7)), found(mark(f, 0))];
+    (damages, f.calls().wrapping_sub(before))
 }
 
 #[test]
 fn a_node_that_does_not_check_is_not_marked(rt: HostRuntime) -> Result<(), Fail> {
     let mut f = folder(rt.alloc())?;
     f.write_at(FileId::Block(0), NODE_AT + 32, &5u32.to_le_bytes())?;
-    let before = f.calls();
-    let wrong = Some((FileId::Block(0), NODE_AT + 32, 5));
-    assert_eq!(rt; found(mark(&mut f, 7)), wrong);
-    assert_eq!(rt; found(mark(&mut f, 0)), wrong);
 
     // Eight calls load the files each time, and one reads the node.
-    assert_eq!(rt; f.calls().wrapping_sub(before), 2 * (8 + 1));
-    assert_eq!(rt; word(&mut f, FileId::Block(0), NODE_AT + 28)?, 0);
-    assert_eq!(rt; word(&mut f, FileId::Block(0), NODE_AT + 32)?, 5);
+    let wrong = Some((FileId::Block(0), NODE_AT + 32, 5));
+    assert!(rt; unmarked(&mut f) == ([wrong, wrong], 2 * (8 + 1)));
+    assert!(rt; node_words(&mut f) == Ok([0, 5]));
     Ok(())
 }
 
@@ -428,12 +456,7 @@ fn new_entry(files: &BlockFiles, words: (u32, u32), child: bool, key: &[u8]) -> 
 }
 
 // Writes a new entry, where its places fit the key.
-fn put_entry(
-    f: &mut SilentFolder<MemFolder>,
-    words: (u32, u32),
-    child: bool,
-    key: &[u8],
-) -> Result<(), Fault> {
+fn put_entry(f: &mut Mem, words: (u32, u32), child: bool, key: &[u8]) -> Result<(), Fault> {
     let files = BlockFiles::load(f)?;
     match new_entry(&files, words, child, key) {
         Some(new) => write_entry(f, &files, &new, key, MOMENT),
@@ -442,7 +465,7 @@ fn put_entry(
 }
 
 // Fills all blocks, and makes the external file of a key.
-fn fill(f: &mut SilentFolder<MemFolder>, key_len: u32) -> Result<(), Failed> {
+fn fill(f: &mut Mem, key_len: u32) -> Result<(), Failed> {
     for n in 0..4 {
         f.write_at(FileId::Block(n), 8192, &[FILL; 36864])?;
     }
@@ -451,7 +474,7 @@ fn fill(f: &mut SilentFolder<MemFolder>, key_len: u32) -> Result<(), Failed> {
 }
 
 // The bytes of a file.
-fn bytes_of(alloc: Global, f: &mut SilentFolder<MemFolder>, file: FileId) -> Result<Vec<u8>, Fail> {
+fn bytes_of(alloc: Global, f: &mut Mem, file: FileId) -> Result<Vec<u8>, Fail> {
     let mut bytes = Vec::new(alloc);
     bytes.resize(f.length(file)?.unwrap_or(0) as usize, 0)?;
     f.read_at(file, 0, &mut bytes)?;
@@ -465,18 +488,19 @@ fn blank(bytes: &mut [u8], from: usize, count: usize) {
     }
 }
 
-// Whether a file of two folders is the same outside of some ranges, each a place and a number of bytes.
+// Whether a file of two folders is the same outside of two ranges, each a place and a number of bytes.
 fn same_but(
     alloc: Global,
-    folders: (&mut SilentFolder<MemFolder>, &mut SilentFolder<MemFolder>),
+    f: &mut Mem,
+    g: &mut Mem,
     file: FileId,
-    ranges: &[(usize, usize)],
+    ranges: [(usize, usize); 2],
 ) -> Result<bool, Fail> {
-    let mut one = bytes_of(alloc, folders.0, file)?;
-    let mut other = bytes_of(alloc, folders.1, file)?;
+    let mut one = bytes_of(alloc, f, file)?;
+    let mut other = bytes_of(alloc, g, file)?;
     for (from, count) in ranges {
-        blank(&mut one, *from, *count);
-        blank(&mut other, *from, *count);
+        blank(&mut one, from, count);
+        blank(&mut other, from, count);
     }
     Ok(one == other)
 }
@@ -492,22 +516,16 @@ fn place_of_key(long_key: u32) -> (FileId, u64) {
 }
 
 // Whether a key lies at its place, with one zero byte behind it, and with zeros in the record where it lies elsewhere.
-fn has_key(
-    alloc: Global,
-    f: &mut SilentFolder<MemFolder>,
-    long_key: u32,
-    key: &[u8],
-) -> Result<bool, Fail> {
+fn has_key(f: &mut Mem, long_key: u32, key: &[u8], out: &mut [u8]) -> Result<bool, Failed> {
     let (file, at) = place_of_key(long_key);
-    let mut there = key_of(alloc, key.len())?;
-    f.read_at(file, at, &mut there)?;
+    f.read_at(file, at, out)?;
     let mut behind = [1];
     f.read_at(file, at.saturating_add(key.len() as u64), &mut behind)?;
     let mut place = [0; 160];
     if long_key != 0 {
         f.read_at(FileId::Block(1), 8192 + 96, &mut place)?;
     }
-    Ok(there.as_slice() == key && behind == [0] && place == [0; 160])
+    Ok(&*out == key && behind == [0] && place == [0; 160])
 }
 
 // The words of a record that is the first of its file, with the seal that its bytes have.
@@ -541,12 +559,7 @@ fn wanted_node(entry: u32) -> [u8; 36] {
 }
 
 // Whether record and node have all their words.
-fn has_records(
-    f: &mut SilentFolder<MemFolder>,
-    words: (u32, u32),
-    child: bool,
-    key: &[u8],
-) -> Result<bool, Failed> {
+fn has_records(f: &mut Mem, words: (u32, u32), child: bool, key: &[u8]) -> Result<bool, Failed> {
     let mut record = [0; 96];
     f.read_at(FileId::Block(1), 8192, &mut record)?;
     let mut node = [0; 36];
@@ -554,91 +567,131 @@ fn has_records(
     Ok(record == wanted_record(words.1, child, key) && node == wanted_node(words.0))
 }
 
-// Whether all other bytes of the files are as before.
-fn spares_the_rest(
+// The ranges of a file that are written where an entry gets a key of so many bytes with one behind it.
+fn written_in(file: FileId, long_key: u32, size: usize) -> [(usize, usize); 2] {
+    let (place, at) = place_of_key(long_key);
+    let key = if file == place {
+        (at as usize, size)
+    } else {
+        (0, 0)
+    };
+    if file == FileId::Block(0) {
+        return [(8192, 36), key];
+    }
+    if file == FileId::Block(1) && long_key != 0 {
+        return [(8192, 256), key];
+    }
+    if file == FileId::Block(1) {
+        return [(8192, 96), key];
+    }
+    [(0, 0), key]
+}
+
+// Whether the files of two folders are the same where an entry with a key of so many bytes isn't written.
+fn same_elsewhere(
     alloc: Global,
-    f: &mut SilentFolder<MemFolder>,
+    f: &mut Mem,
+    g: &mut Mem,
     long_key: u32,
-    key_len: u32,
+    size: usize,
 ) -> Result<bool, Fail> {
-    let size = key_len as usize + 1;
+    let mut same = true;
+    for file in [
+        FileId::Block(0),
+        FileId::Block(1),
+        FileId::Block(2),
+        FileId::Block(3),
+        FileId::External(1),
+    ] {
+        let ranges = written_in(file, long_key, size);
+        same &= same_but(alloc, f, g, file, ranges)?;
+    }
+    Ok(same)
+}
+
+// Whether all other bytes of the files are as before.
+fn spares_the_rest(alloc: Global, f: &mut Mem, long_key: u32, key_len: u32) -> Result<bool, Fail> {
     let mut g = folder(alloc)?;
     fill(&mut g, key_len)?;
-    let record = if long_key == 0 { 96 + size } else { 256 };
-    let (file, at) = place_of_key(long_key);
-    let key = (at as usize, size);
-    let others = if file == FileId::Block(1) {
-        key
-    } else {
-        (0, 0)
-    };
-    let nodes = same_but(alloc, (f, &mut g), FileId::Block(0), &[(8192, 36)])?;
-    let records = same_but(
-        alloc,
-        (f, &mut g),
-        FileId::Block(1),
-        &[(8192, record), others],
-    )?;
-    let middle = same_but(alloc, (f, &mut g), FileId::Block(2), &[])?;
-    let high = if file == FileId::Block(3) {
-        key
-    } else {
-        (0, 0)
-    };
-    let large = same_but(alloc, (f, &mut g), FileId::Block(3), &[high])?;
-    let outside = if file == FileId::External(1) {
-        key
-    } else {
-        (0, 0)
-    };
-    let external = same_but(alloc, (f, &mut g), FileId::External(1), &[outside])?;
-    Ok(nodes && records && middle && large && external)
+    same_elsewhere(alloc, f, &mut g, long_key, key_len as usize + 1)
+}
+
+// The number of folder calls that write an entry.
+fn calls_of_writing(f: &mut Mem, words: (u32, u32), child: bool, key: &[u8]) -> Result<u64, Fault> {
+    let before = f.calls();
+    put_entry(f, words, child, key)?;
+    Ok(f.calls().wrapping_sub(before))
+}
+
+// Whether record, node and key of a new entry are written, and nothing else; the last argument gets the key.
+fn is_written(
+    f: &mut Mem,
+    words: (u32, u32),
+    child: bool,
+    key: &[u8],
+    out: &mut [u8],
+) -> Result<bool, Failed> {
+    let records = has_records(f, words, child, key)?;
+    Ok(has_key(f, words.1, key, out)? && records)
+}
+
+// Reads a key in two pieces: the number of bytes of each.
+fn halves(f: &mut Mem, entry: u32, out: &mut [u8]) -> Result<[usize; 2], Fault> {
+    let half = out.len() / 2;
+    let (front, end) = out.split_at_mut(half);
+    let first = piece(f, entry, 0, front)?;
+    let at = (half % 0x1_0000_0000) as u32;
+    Ok([first, piece(f, entry, at, end)?])
+}
+
+// Whether an entry has its key, the front of it, and a key of another last byte, each with the number of folder calls.
+fn counted_three(f: &mut Mem, entry: u32, key: &mut [u8]) -> Result<[(bool, u64); 3], Fault> {
+    let same = counted_equals(f, entry, key)?;
+    let front = &key[..key.len().saturating_sub(1)];
+    let shorter = counted_equals(f, entry, front)?;
+    if let Some(byte) = key.last_mut() {
+        *byte ^= 1;
+    }
+    Ok([same, shorter, counted_equals(f, entry, key)?])
 }
 
 #[test]
 fn new_entries_are_written_and_read(rt: HostRuntime) -> Result<(), Fail> {
     for (key_len, entry, long_key) in ENTRIES {
+        let size = key_len as usize;
+        let words = (entry, long_key);
         let child = key_len % 2 == 1;
         let mut f = folder(rt.alloc())?;
         fill(&mut f, key_len)?;
-        let mut key = key_of(rt.alloc(), key_len as usize)?;
-        let before = f.calls();
-        assert_eq!(rt; put_entry(&mut f, (entry, long_key), child, &key), Ok(()));
+        let mut key = key_of(rt.alloc(), size)?;
+        let mut read = key_of(rt.alloc(), size)?;
 
         // Eight calls load the files, and four write.
-        assert_eq!(rt; f.calls().wrapping_sub(before), 8 + 4, "{key_len} bytes");
-        assert!(rt; has_records(&mut f, (entry, long_key), child, &key)?);
-        assert!(rt; has_key(rt.alloc(), &mut f, long_key, &key)?);
+        let calls = calls_of_writing(&mut f, words, child, &key);
+        assert_eq!(rt; calls, Ok(8 + 4), "{key_len} bytes");
+        assert!(rt;
+            is_written(&mut f, words, child, &key, &mut read)?,
+            "{key_len} bytes"
+        );
         assert!(rt;
             spares_the_rest(rt.alloc(), &mut f, long_key, key_len)?,
             "{key_len} bytes"
         );
 
-        // The key is read in two pieces, and compared with itself, its front and a key of another last byte.
-        let mut read = key_of(rt.alloc(), key_len as usize)?;
+        // The key is read in two pieces.
         read.fill(0);
-        let half = read.len() / 2;
-        let (front, end) = read.split_at_mut(half);
-        assert_eq!(rt; piece(&mut f, entry, 0, front), Ok(front.len()));
-        assert_eq!(rt; piece(&mut f, entry, key_len / 2, end), Ok(end.len()));
+        let pieces = halves(&mut f, entry, &mut read);
+        assert!(rt; pieces == Ok([size / 2, size - size / 2]));
         assert!(rt; read == key);
 
-        // Eight calls load the files, one reads the record, and one reads the key, or two a longer one.
+        // Eight calls load the files, one reads the record, and one reads the key, or two a longer one. Where length or hash
+        // differ the key isn't read.
         let pieces = if key_len > 16398 { 2 } else { 1 };
-        let equal = Ok((true, 8 + 1 + pieces));
-        assert_eq!(rt;
-            counted_equals(&mut f, entry, &key),
-            equal,
+        let answers = [(true, 8 + 1 + pieces), (false, 8 + 1), (false, 8 + 1)];
+        assert!(rt;
+            counted_three(&mut f, entry, &mut key) == Ok(answers),
             "{key_len} bytes"
         );
-
-        // Where length or hash differ the key isn't read.
-        let front = &key[..key.len().saturating_sub(1)];
-        assert_eq!(rt; counted_equals(&mut f, entry, front), Ok((false, 8 + 1)));
-        if let Some(byte) = key.last_mut() {
-            *byte ^= 1;
-        }
-        assert_eq!(rt; counted_equals(&mut f, entry, &key), Ok((false, 8 + 1)));
     }
     Ok(())
 }

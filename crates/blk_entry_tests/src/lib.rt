@@ -1,4 +1,5 @@
-//! The tests of the crates of entries: records and keys, the use list, chains, streams, the audit's reading half and its verdicts.
+//! The tests of the crates of entries: records and keys, the use list, chains, streams, the audit's reading half and its verdicts, and
+//! what repair makes of a list and of a chain.
 #![tactic(auto)]
 
 #[cfg(test)]
@@ -10,7 +11,11 @@ mod chain_told;
 #[cfg(test)]
 mod entry;
 #[cfg(test)]
+mod folders;
+#[cfg(test)]
 mod lru;
+#[cfg(test)]
+mod repair;
 #[cfg(test)]
 mod scan;
 #[cfg(test)]

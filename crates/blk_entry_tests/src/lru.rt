@@ -4,6 +4,7 @@ ghost use Rattle.std.specs.Option.{ForSome};
 ghost use Rattle.blk_disk.specs.Tables.{is_node_among};
 ghost use Rattle.blk_disk.specs.Open.{IsOpen};
 
+use crate::folders::{opened, put_all};
 use blk_addr::Addr;
 use blk_disk::BlockFiles;
 use blk_io::{
@@ -12,19 +13,10 @@ use blk_io::{
 };
 use blk_lru::{after, before, complete, first, insert_front, last, pending, remove, touch};
 use blk_record::{IndexHead, NodeView, Record};
-use blk_repair::mend_list;
 use std::alloc::Global;
 use std::test::Fail;
 
-const MAGIC: u32 = 0xC104_CAC3;
-
-const INDEX_LEN: usize = 262512;
-
-const NODES_LEN: usize = 45056;
-
-const SIZES: [u32; 4] = [36, 256, 1024, 4096];
-
-const NODES: [u32; 3] = [0x9000_0000, 0x9000_0001, 0x9000_0002];
+pub(crate) const NODES: [u32; 3] = [0x9000_0000, 0x9000_0001, 0x9000_0002];
 
 // The place of the first node, the bytes of a node, and the place of its seal.
 const NODES_AT: u64 = 8192;
@@ -39,7 +31,7 @@ const MOMENT: u64 = 0x0123_4567_89AB_CDEF;
 const TIMES: [u32; 4] = [0x89AB_CDEF, 0x0123_4567, 0x89AB_CDEF, 0x0123_4567];
 
 // A folder in memory that stops, and tells nothing.
-type Silent = SilentFolder<StopFolder>;
+pub(crate) type Silent = SilentFolder<StopFolder>;
 
 // Lets so many steps pass.
 fn stopping(inner: MemFolder, steps: u64) -> Silent {
@@ -51,51 +43,17 @@ fn again(f: Silent, steps: u64) -> Silent {
     stopping(f.into_inner().into_inner(), steps)
 }
 
-// A block file with these words at its front.
-fn block_file(alloc: Global, words: &[u32]) -> Result<Vec<u8>, Fail> {
-    let mut bytes = Vec::new(alloc);
-    bytes.resize(NODES_LEN, 0)?;
-    let front = words.iter().flat_map(|word| word.to_le_bytes());
-    for (slot, byte) in bytes.iter_mut().zip(front) {
-        *slot = byte;
-    }
-    Ok(bytes)
-}
-
-// The words of the header of a block file, of which the first has nodes.
-fn header(number: u32, size: u32) -> [u32; 6] {
-    let blocks = if number == 0 { 1024 } else { 0 };
-    [MAGIC, 0x20000, number, size, 0, blocks]
-}
-
-// A folder with an index of zeros and four block files, which tells its files.
-fn telling(alloc: Global) -> Result<MemFolder, Fail> {
-    let mut f = MemFolder::new(alloc);
-    let mut index = Vec::new(alloc);
-    index.resize(INDEX_LEN, 0)?;
-    f.add_file(FileId::Index, &index)?;
-    let first = block_file(alloc, &header(0, 36))?;
-    f.add_file(FileId::Block(0), &first)?;
-    let second = block_file(alloc, &header(1, 256))?;
-    f.add_file(FileId::Block(1), &second)?;
-    let third = block_file(alloc, &header(2, 1024))?;
-    f.add_file(FileId::Block(2), &third)?;
-    let fourth = block_file(alloc, &header(3, 4096))?;
-    f.add_file(FileId::Block(3), &fourth)?;
-    Ok(f)
+// A folder with an index of zeros and four block files, of which the first has nodes, and which tells its files.
+fn telling(alloc: Global) -> Result<MemFolder, Failed> {
+    let mut f = SilentFolder::new(MemFolder::new(alloc));
+    put_all(&mut f, [1024, 0, 0, 0])?;
+    Ok(f.into_inner())
 }
 
 // Such a folder, which tells nothing.
 fn folder(alloc: Global) -> Result<Silent, Failed> {
     let mut f = stopping(MemFolder::without_trail(alloc), u64::MAX);
-    f.set_len(FileId::Index, INDEX_LEN as u64)?;
-    for (n, size) in SIZES.iter().enumerate() {
-        let file = FileId::Block(n as u8);
-        f.set_len(file, NODES_LEN as u64)?;
-        for (i, word) in header(n as u32, *size).iter().enumerate() {
-            f.write_at(file, 4 * i as u64, &word.to_le_bytes())?;
-        }
-    }
+    put_all(&mut f, [1024, 0, 0, 0])?;
     Ok(f)
 }
 
@@ -110,7 +68,7 @@ fn node_word<F: Folder>(f: &mut F, word: u32, at: u32) -> Result<u32, Fault> {
 }
 
 // The head, the tail, the transaction and the operation, and the next and the prev of each node.
-fn shown<F: Folder>(f: &mut F) -> Result<([u32; 4], [u32; 3], [u32; 3]), Fault> {
+pub(crate) fn shown<F: Folder>(f: &mut F) -> Result<([u32; 4], [u32; 3], [u32; 3]), Fault> {
     let mut words = [0; 4];
     for (slot, at) in words.iter_mut().zip([
         IndexHead::HEADS,
@@ -206,7 +164,7 @@ fn calls_of(f: &mut Silent, files: &BlockFiles, change: Change, word: u32) -> Re
 }
 
 // A folder whose list has these nodes, the last of them in front.
-fn listing(alloc: Global, listed: &[u32]) -> Result<(Silent, BlockFiles), Fail> {
+pub(crate) fn listing(alloc: Global, listed: &[u32]) -> Result<(Silent, BlockFiles), Fail> {
     let mut f = folder(alloc)?;
     let files = BlockFiles::load(&mut f)?;
     for word in listed {
@@ -230,7 +188,7 @@ fn stopped(
 }
 
 // The nodes of three words, where all stand.
-fn three(files: &BlockFiles) -> Option<(Addr, Addr, Addr)>
+pub(crate) fn three(files: &BlockFiles) -> Option<(Addr, Addr, Addr)>
     ensures first { IfSome result (λ nodes. IsTrue (is_node_among files.now nodes.0)) }
     ensures second { IfSome result (λ nodes. IsTrue (is_node_among files.now nodes.1)) }
     ensures third { IfSome result (λ nodes. IsTrue (is_node_among files.now nodes.2)) }
@@ -241,37 +199,84 @@ fn three(files: &BlockFiles) -> Option<(Addr, Addr, Addr)>
     Some((one, two, three))
 }
 
+// What a folder shows of its list.
+pub(crate) type Shown = ([u32; 4], [u32; 3], [u32; 3]);
+
+// Makes a change, and shows the list then.
+fn changed(f: &mut Silent, files: &BlockFiles, change: Change, word: u32) -> Result<Shown, Fault> {
+    change_list(f, files, change, word)?;
+    shown(f)
+}
+
 #[test]
 fn three_nodes_are_inserted_one_is_touched_and_one_removed(rt: HostRuntime) -> Result<(), Fail> {
     let [zero, one, two] = NODES;
     let (mut f, files) = listing(rt.alloc(), &NODES)?;
-    assert_eq!(rt; change_list(&mut f, &files, Change::Touch, one), Ok(()));
     let touched = ([one, zero, 0, 1], [zero, two, zero], [two, one, one]);
-    assert_eq!(rt; shown(&mut f), Ok(touched));
-    assert_eq!(rt; times(&mut f, one), Ok(TIMES));
-    assert_eq!(rt; change_list(&mut f, &files, Change::Remove, two), Ok(()));
+    let touch = changed(&mut f, &files, Change::Touch, one);
+    assert!(rt; touch == Ok(touched));
+    assert!(rt; times(&mut f, one) == Ok(TIMES));
     let removed = ([one, zero, 0, 2], [zero, zero, 0], [one, one, one]);
-    assert_eq!(rt; shown(&mut f), Ok(removed));
+    let remove = changed(&mut f, &files, Change::Remove, two);
+    assert!(rt; remove == Ok(removed));
     Ok(())
+}
+
+// A node that is read.
+#[derive(Clone, Copy)]
+enum Reading {
+    First,
+    Last,
+    Before,
+    After,
+}
+
+// What is read by a look from the node of a word, where that one stands.
+fn look(
+    f: &mut Silent,
+    files: &BlockFiles,
+    from: Reading,
+    word: u32,
+) -> Result<Option<Addr>, Fault> {
+    let Some(node) = files.node(word) else {
+        return Ok(None);
+    };
+    match from {
+        Reading::First => first(f, files),
+        Reading::Last => last(f, files),
+        Reading::Before => before(f, files, node),
+        Reading::After => after(f, files, node),
+    }
+}
+
+// The word of the node that is read, or 0, and the number of folder calls.
+fn counted_look(
+    f: &mut Silent,
+    files: &BlockFiles,
+    from: Reading,
+    word: u32,
+) -> Result<(u32, u64), Fault> {
+    let start = f.calls();
+    let node = look(f, files, from, word)?;
+    let found = node.map(|node| node.word()).unwrap_or(0);
+    Ok((found, f.calls().wrapping_sub(start)))
 }
 
 #[test]
 fn reading_takes_one_call(rt: HostRuntime) -> Result<(), Fail> {
+    let [zero, one, two] = NODES;
     let (mut f, files) = listing(rt.alloc(), &NODES)?;
-    let Some((zero, one, two)) = three(&files) else {
-        panic!(rt; "the nodes stand");
-    };
-    let start = f.calls();
-    assert_eq!(rt; first(&mut f, &files), Ok(Some(two)));
-    assert_eq!(rt; f.calls().wrapping_sub(start), 1);
-    assert_eq!(rt; last(&mut f, &files), Ok(Some(zero)));
-    assert_eq!(rt; f.calls().wrapping_sub(start), 2);
-    assert_eq!(rt; before(&mut f, &files, one), Ok(Some(two)));
-    assert_eq!(rt; f.calls().wrapping_sub(start), 3);
-    assert_eq!(rt; after(&mut f, &files, one), Ok(Some(zero)));
-    assert_eq!(rt; f.calls().wrapping_sub(start), 4);
-    assert_eq!(rt; before(&mut f, &files, two), Ok(None));
-    assert_eq!(rt; after(&mut f, &files, zero), Ok(None));
+    for (from, word, found) in [
+        (Reading::First, one, two),
+        (Reading::Last, one, zero),
+        (Reading::Before, one, two),
+        (Reading::After, one, zero),
+        (Reading::Before, two, 0),
+        (Reading::After, zero, 0),
+    ] {
+        let read = counted_look(&mut f, &files, from, word);
+        assert!(rt; read == Ok((found, 1)));
+    }
     Ok(())
 }
 
@@ -279,9 +284,13 @@ fn reading_takes_one_call(rt: HostRuntime) -> Result<(), Fail> {
 fn changes_take_few_calls(rt: HostRuntime) -> Result<(), Fail> {
     let [zero, one, two] = NODES;
     let (mut f, files) = listing(rt.alloc(), &[zero, one])?;
-    assert_eq!(rt; calls_of(&mut f, &files, Change::Insert, two), Ok(17));
-    assert_eq!(rt; calls_of(&mut f, &files, Change::Touch, one), Ok(39));
-    assert_eq!(rt; calls_of(&mut f, &files, Change::Remove, two), Ok(17));
+    for (change, word, calls) in [
+        (Change::Insert, two, 17),
+        (Change::Touch, one, 39),
+        (Change::Remove, two, 17),
+    ] {
+        assert_eq!(rt; calls_of(&mut f, &files, change, word), Ok(calls));
+    }
     Ok(())
 }
 
@@ -399,6 +408,13 @@ fn written_nodes_are_sealed(rt: HostRuntime) -> Result<(), Fail> {
     Ok(())
 }
 
+// Completes the operation in flight, and says whether these nodes are sealed then.
+fn completed_and_sealed(f: Silent, files: &BlockFiles, nodes: &[u32]) -> Result<bool, Fault> {
+    let mut f = again(f, u64::MAX);
+    complete(&mut f, files)?;
+    are_sealed(&mut f, nodes)
+}
+
 #[test]
 fn completing_seals_the_nodes_of_the_list(rt: HostRuntime) -> Result<(), Fail> {
     let [zero, one, two] = NODES;
@@ -410,9 +426,7 @@ fn completing_seals_the_nodes_of_the_list(rt: HostRuntime) -> Result<(), Fail> {
     ] {
         for steps in 2..22 {
             let (f, files) = stopped(rt.alloc(), listed, change, word, steps)?;
-            let mut f = again(f, u64::MAX);
-            assert_eq!(rt; complete(&mut f, &files), Ok(()));
-            assert_eq!(rt; are_sealed(&mut f, new), Ok(true));
+            assert_eq!(rt; completed_and_sealed(f, &files, new), Ok(true));
         }
     }
     Ok(())
@@ -435,6 +449,16 @@ fn in_flight(
     Ok((f, files))
 }
 
+// Completes the operation: the number of folder calls, the words of the index then, and whether no node was linked anew.
+fn given_up(f: &mut Silent, files: &BlockFiles) -> Result<(u64, [u32; 4], bool), Fault> {
+    let (_, nexts, prevs) = shown(f)?;
+    let start = f.calls();
+    complete(f, files)?;
+    let calls = f.calls().wrapping_sub(start);
+    let (words, next, prev) = shown(f)?;
+    Ok((calls, words, next == nexts && prev == prevs))
+}
+
 #[test]
 fn operation_that_does_not_count_is_given_up(rt: HostRuntime) -> Result<(), Fail> {
     let [zero, one, two] = NODES;
@@ -448,27 +472,26 @@ fn operation_that_does_not_count_is_given_up(rt: HostRuntime) -> Result<(), Fail
         (one, 2, Some(zero), 5),
     ] {
         let (mut f, files) = in_flight(rt.alloc(), transaction, operation, broken)?;
-        let (_, nexts, prevs) = shown(&mut f)?;
-        let start = f.calls();
-        assert_eq!(rt; complete(&mut f, &files), Ok(()));
-        assert_eq!(rt; f.calls().wrapping_sub(start), calls);
-        assert_eq!(rt;
-            shown(&mut f),
-            Ok(([two, zero, 0, operation], nexts, prevs))
-        );
+        let words = [two, zero, 0, operation];
+        assert!(rt; given_up(&mut f, &files) == Ok((calls, words, true)));
     }
     Ok(())
+}
+
+// The number of folder calls that complete the operation, and of those that find none then.
+fn calls_of_completing(f: Silent, files: &BlockFiles) -> Result<[u64; 2], Fault> {
+    let mut f = again(f, u64::MAX);
+    let start = f.calls();
+    complete(&mut f, files)?;
+    let between = f.calls();
+    complete(&mut f, files)?;
+    Ok([between.wrapping_sub(start), f.calls().wrapping_sub(between)])
 }
 
 #[test]
 fn completing_takes_few_calls(rt: HostRuntime) -> Result<(), Fail> {
     let (f, files) = stopped(rt.alloc(), &NODES, Change::Touch, NODES[1], 2)?;
-    let mut f = again(f, u64::MAX);
-    let start = f.calls();
-    assert_eq!(rt; complete(&mut f, &files), Ok(()));
-    assert_eq!(rt; f.calls().wrapping_sub(start), 34);
-    assert_eq!(rt; complete(&mut f, &files), Ok(()));
-    assert_eq!(rt; f.calls().wrapping_sub(start), 35);
+    assert_eq!(rt; calls_of_completing(f, &files), Ok([34, 1]));
     Ok(())
 }
 
@@ -602,17 +625,6 @@ fn short_reads_are_damages(rt: HostRuntime) -> Result<(), Fail> {
     Ok(())
 }
 
-// The block files of a folder whose index has its length.
-fn opened<F: Folder>(f: &mut F) -> Result<Option<BlockFiles>, Fault>
-    ensures is_open { IfOk result (λ files. IfSome files (λ files. ForSome (F.told f.new).files (IsOpen files))) }
-{
-    if f.length(FileId::Index)? != Some(INDEX_LEN as u64) {
-        return Ok(None);
-    }
-    let files = BlockFiles::load(f)?;
-    Ok(Some(files))
-}
-
 // Inserts three nodes, touches the last one, and takes the first two out but for that one.
 fn change_each<F: Folder>(f: &mut F) -> Result<Option<BlockFiles>, Fault>
     ensures is_open { IfOk result (λ files. IfSome files (λ files. ForSome (F.told f.new).files (IsOpen files))) }
@@ -654,24 +666,5 @@ fn each_call_on_a_folder_that_tells_its_files(rt: HostRuntime) -> Result<(), Fai
     let mut f = telling(rt.alloc())?;
     let words = [Some(zero), Some(one), Some(zero), Some(one)];
     assert_eq!(rt; each_call(&mut f), Ok(Some((words, 0))));
-    Ok(())
-}
-
-// Repairs the list of the three nodes, of which the first and the last are kept.
-fn mend(f: &mut Silent, files: &BlockFiles) -> Result<(), Fault> {
-    let Some((zero, one, two)) = three(files) else {
-        return Err(Fault::Device);
-    };
-    mend_list(f, files, &[two, one, zero], &[two, zero])
-}
-
-#[test]
-fn list_is_made_that_of_the_kept_nodes(rt: HostRuntime) -> Result<(), Fail> {
-    let [zero, _, two] = NODES;
-    let (mut f, files) = listing(rt.alloc(), &NODES)?;
-    write_word(&mut f, FileId::Index, IndexHead::TAILS, 0)?;
-    assert_eq!(rt; mend(&mut f, &files), Ok(()));
-    let mended = ([two, zero, 0, 2], [zero, 0, zero], [two, two, two]);
-    assert_eq!(rt; shown(&mut f), Ok(mended));
     Ok(())
 }

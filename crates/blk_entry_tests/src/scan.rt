@@ -1,6 +1,7 @@
 // The verdict on a node, in a small folder in memory that tells nothing.
 ghost use Rattle.std.specs.Prelude.{◌<◌, ◌≤◌, length};
 
+use crate::folders::{INDEX_LEN, put_files};
 use blk_addr::{Addr, Kind};
 use blk_audit::{Lists, ScanFault, read_lists};
 use blk_disk::BlockFiles;
@@ -10,9 +11,6 @@ use std::alloc::Global;
 use std::test::Fail;
 
 type Mem = SilentFolder<MemFolder>;
-
-// The bytes of a block of each of the four files.
-const BLOCKS: [u32; 4] = [36, 256, 1024, 4096];
 
 // The address of the record: the first block of 256 bytes.
 const ENTRY: u32 = 0xA001_0000;
@@ -24,14 +22,7 @@ fn folder(alloc: Global, key: &[u8], hash: u32) -> Result<Mem, Failed>
     requires { length key.now < 100 }
 {
     let mut f = SilentFolder::new(MemFolder::new(alloc));
-    for (n, size) in BLOCKS.iter().enumerate() {
-        let file = FileId::Block(n as u8);
-        f.set_len(file, 20480)?;
-        let words = [0xC104_CAC3, 0x20000, n as u32, *size, 0, 1024];
-        for (i, word) in words.iter().enumerate() {
-            f.write_at(file, 4 * i as u64, &word.to_le_bytes())?;
-        }
-    }
+    put_files(&mut f, 20480, [1024; 4])?;
     put_record(&mut f, 0, key, hash)?;
     Ok(f)
 }
@@ -97,13 +88,35 @@ fn put_index(f: &mut Mem, file: FileId, place: u64) -> Result<(), Failed> {
     Ok(())
 }
 
+// The number of the reason where a word of the record is another one, which is put back then.
+fn reason_of(f: &mut Mem, at: u64, old: u32, word: u32) -> Result<u32, Fault> {
+    put(f, RECORDS, 8192, at, word)?;
+    let reason = number(f, ENTRY, 0, true)?;
+    put(f, RECORDS, 8192, at, old)?;
+    Ok(reason)
+}
+
+// The numbers where the first stream lies in a file that isn't there, and in one that has its length.
+fn reasons_of_a_file(f: &mut Mem) -> Result<[u32; 2], Fault> {
+    put(f, RECORDS, 8192, 40, 16385)?;
+    put(f, RECORDS, 8192, 56, 0x8000_0001)?;
+    let missing = number(f, ENTRY, 0, true)?;
+    f.set_len(FileId::External(1), 16385)?;
+    Ok([missing, number(f, ENTRY, 0, true)?])
+}
+
 #[test]
 fn a_wrong_word_is_a_reason(rt: HostRuntime) -> Result<(), Fail> {
     let mut f = folder(rt.alloc(), b"abc", 0xD2BE_198A)?;
-    assert_eq!(rt; number(&mut f, ENTRY, 0, true)?, 0);
-    assert_eq!(rt; number(&mut f, 0x9000_0000, 0, true)?, 1);
-    assert_eq!(rt; number(&mut f, ENTRY, 1, true)?, 6);
-    assert_eq!(rt; number(&mut f, ENTRY, 0, false)?, 10);
+    for (contents, dirty, reached, reason) in [
+        (ENTRY, 0, true, 0),
+        (0x9000_0000, 0, true, 1),
+        (ENTRY, 1, true, 6),
+        (ENTRY, 0, false, 10),
+    ] {
+        let found = number(&mut f, contents, dirty, reached);
+        assert_eq!(rt; found, Ok(reason));
+    }
     for (at, old, word, reason) in [
         (92, 0u32, 1u32, 2u32),
         (20, 0, 1, 3),
@@ -116,27 +129,25 @@ fn a_wrong_word_is_a_reason(rt: HostRuntime) -> Result<(), Fail> {
         (72, 0, 1, 12),
         (72, 0, 2, 12),
     ] {
-        put(&mut f, RECORDS, 8192, at, word)?;
-        assert_eq!(rt; number(&mut f, ENTRY, 0, true)?, reason);
-        put(&mut f, RECORDS, 8192, at, old)?;
+        assert_eq!(rt; reason_of(&mut f, at, old, word), Ok(reason), "{at}");
     }
-    put(&mut f, RECORDS, 8192, 40, 16385)?;
-    put(&mut f, RECORDS, 8192, 56, 0x8000_0001)?;
-    assert_eq!(rt; number(&mut f, ENTRY, 0, true)?, 11);
-    f.set_len(FileId::External(1), 16385)?;
-    assert_eq!(rt; number(&mut f, ENTRY, 0, true)?, 0);
+    assert_eq!(rt; reasons_of_a_file(&mut f), Ok([11, 0]));
     Ok(())
 }
 
-#[test]
-fn a_parent_and_a_part_have_their_index(rt: HostRuntime) -> Result<(), Fail> {
-    let mut f = folder(rt.alloc(), b"k", 0x4EA5_85C0)?;
-    put(&mut f, RECORDS, 8192, 72, 1)?;
-    put(&mut f, RECORDS, 8192, 48, 8256)?;
-    put(&mut f, RECORDS, 8192, 64, 0xC203_0000)?;
+// A folder whose record is a parent that has part 0.
+fn parent(alloc: Global) -> Result<Mem, Failed> {
+    let mut f = folder(alloc, b"k", 0x4EA5_85C0)?;
+    for (at, word) in [(72, 1u32), (48, 8256), (64, 0xC203_0000)] {
+        put(&mut f, RECORDS, 8192, at, word)?;
+    }
     put_index(&mut f, FileId::Block(3), 8192)?;
-    assert_eq!(rt; (has(&mut f, 0)?, has(&mut f, 1)?), (true, false));
-    let mut f = folder(rt.alloc(), b"Range_k:1:0", 0x216A_AC0E)?;
+    Ok(f)
+}
+
+// A folder whose record is part 0 of that parent.
+fn part(alloc: Global) -> Result<Mem, Failed> {
+    let mut f = folder(alloc, b"Range_k:1:0", 0x216A_AC0E)?;
     for (at, word) in [
         (72, 2u32),
         (44, 1024),
@@ -147,16 +158,34 @@ fn a_parent_and_a_part_have_their_index(rt: HostRuntime) -> Result<(), Fail> {
         put(&mut f, RECORDS, 8192, at, word)?;
     }
     put_index(&mut f, RECORDS, 8192 + 256)?;
-    match verdict(&mut f, ENTRY, 0, true)? {
+    Ok(f)
+}
+
+// The number of the part that the record is, if it is one.
+fn part_of(f: &mut Mem) -> Result<Option<u32>, Fault> {
+    match verdict(f, ENTRY, 0, true)? {
         Verdict::Loaded(loaded) => match loaded.role {
-            Role::Part(name) => assert_eq!(rt; name.part, 0),
-            _ => panic!(rt; "it is a part"),
+            Role::Part(name) => Ok(Some(name.part)),
+            _ => Ok(None),
         },
-        Verdict::Dropped(_) => panic!(rt; "it is loaded"),
+        Verdict::Dropped(_) => Ok(None),
     }
-    put(&mut f, RECORDS, 8192, 44, 1023)?;
-    put(&mut f, RECORDS, 8192, 60, 0xA301_0004)?;
-    assert_eq!(rt; number(&mut f, ENTRY, 0, true)?, 12);
+}
+
+// The number of the reason where the part's data is a byte shorter.
+fn reason_of_a_shorter_part(f: &mut Mem) -> Result<u32, Fault> {
+    put(f, RECORDS, 8192, 44, 1023)?;
+    put(f, RECORDS, 8192, 60, 0xA301_0004)?;
+    number(f, ENTRY, 0, true)
+}
+
+#[test]
+fn a_parent_and_a_part_have_their_index(rt: HostRuntime) -> Result<(), Fail> {
+    let mut f = parent(rt.alloc())?;
+    assert_eq!(rt; [has(&mut f, 0), has(&mut f, 1)], [Ok(true), Ok(false)]);
+    let mut f = part(rt.alloc())?;
+    assert_eq!(rt; part_of(&mut f), Ok(Some(0)));
+    assert_eq!(rt; reason_of_a_shorter_part(&mut f), Ok(12));
     Ok(())
 }
 
@@ -171,15 +200,8 @@ const ROOM: u32 = 4096;
 fn many(alloc: Global) -> Result<Counted, Failed> {
     let inner = StopFolder::new(MemFolder::without_trail(alloc), u64::MAX);
     let mut f = SilentFolder::new(inner);
-    f.set_len(FileId::Index, 262512)?;
-    for (n, size) in BLOCKS.iter().enumerate() {
-        let file = FileId::Block(n as u8);
-        f.set_len(file, 8192 + 256 * u64::from(ROOM))?;
-        let words = [0xC104_CAC3, 0x20000, n as u32, *size, 0, ROOM];
-        for (i, word) in words.iter().enumerate() {
-            f.write_at(file, 4 * i as u64, &word.to_le_bytes())?;
-        }
-    }
+    f.set_len(FileId::Index, INDEX_LEN)?;
+    put_files(&mut f, 8192 + 256 * u64::from(ROOM), [ROOM; 4])?;
     write_word(&mut f, FileId::Index, 288, 0x9000_0000)?;
     write_word(&mut f, FileId::Index, 368 + 4 * 0x198A, ENTRY)?;
     for i in 0..ENTRIES {

@@ -1,8 +1,9 @@
 // Streams in a folder in memory that tells nothing.
-ghost use Rattle.std.specs.Prelude.{◌≡◌, ◌<◌, IfSome, IsTrue};
+ghost use Rattle.std.specs.Prelude.{◌≡◌, IfSome, IsTrue};
 ghost use Rattle.blk_format.specs.Address.{blocks_256, kind_of};
 ghost use Rattle.blk_disk.specs.Tables.{stands_among};
 
+use crate::folders::{INDEX_LEN, put_files};
 use blk_addr::{Addr, Kind};
 use blk_disk::BlockFiles;
 use blk_io::{Damage, Failed, Fault, FileId, Folder, MemFolder, SilentFolder, StopFolder};
@@ -13,23 +14,13 @@ use std::test::Fail;
 
 type Mem = SilentFolder<MemFolder>;
 
-// The bytes of a block of each of the four files.
-const BLOCKS: [u32; 4] = [36, 256, 1024, 4096];
-
 // The address of the record: the first block of 256 bytes.
 const ENTRY: u32 = 0xA001_0000;
 
 // A folder with the headers of four block files: the first of records has these words, and these blocks marked.
 fn headers(alloc: Global, map: u32, words: [(u64, u32); 4]) -> Result<Mem, Failed> {
     let mut f = SilentFolder::new(MemFolder::new(alloc));
-    for (n, size) in BLOCKS.iter().enumerate() {
-        let file = FileId::Block(n as u8);
-        f.set_len(file, 8192)?;
-        let words = [0xC104_CAC3, 0x20000, n as u32, *size];
-        for (i, word) in words.iter().enumerate() {
-            f.write_at(file, 4 * i as u64, &word.to_le_bytes())?;
-        }
-    }
+    put_files(&mut f, 8192, [0; 4])?;
     let file = FileId::Block(1);
     f.set_len(file, 10240)?;
     for (at, word) in words {
@@ -43,7 +34,7 @@ fn headers(alloc: Global, map: u32, words: [(u64, u32); 4]) -> Result<Mem, Faile
 fn folder(alloc: Global) -> Result<Mem, Failed> {
     // Two allocations, 1024 blocks, one group with three free ones and 254 with four.
     let mut f = headers(alloc, 0xF1, [(16, 2), (20, 1024), (32, 1), (36, 254)])?;
-    f.set_len(FileId::Index, 262_512)?;
+    f.set_len(FileId::Index, INDEX_LEN)?;
     f.write_at(FileId::Block(1), 9216 + 996, b"last")?;
     f.set_len(FileId::External(1), 20000)?;
     f.write_at(FileId::External(1), 19997, b"end")?;
@@ -62,7 +53,7 @@ fn bare_with(alloc: Global, index: u64) -> Result<Mem, Failed> {
 
 // The same with a whole index.
 fn bare(alloc: Global) -> Result<Mem, Failed> {
-    bare_with(alloc, 262_512)
+    bare_with(alloc, INDEX_LEN)
 }
 
 // Writes the record, with these sizes and addresses of its streams.
@@ -99,14 +90,15 @@ fn entry_of(files: &BlockFiles) -> Option<Addr>
 }
 
 // Reads a stream, and gives the number of its bytes and of the folder calls.
-fn get(f: &mut Mem, stream: u8, offset: u64, out: &mut [u8]) -> Result<(usize, u64), Fault>
-    requires { stream < 3 }
-{
+fn get(f: &mut Mem, stream: u8, offset: u64, out: &mut [u8]) -> Result<(usize, u64), Fault> {
     let files = BlockFiles::load(f)?;
     let before = f.calls();
     let Some(entry) = entry_of(&files) else {
         return Err(Fault::Device);
     };
+    if stream > 2 {
+        return Err(Fault::Device);
+    }
     let n = read(f, &files, entry, stream, offset, out)?;
     Ok((n, f.calls().wrapping_sub(before)))
 }
@@ -205,39 +197,57 @@ fn resized(alloc: Global, f: &mut Mem, had: usize, size: usize) -> Result<bool, 
     Ok(done && read && same && used(f)? == owned(size))
 }
 
+// Makes these bytes the first stream: its size and its address, the length of the first file, and what is used then.
+fn stored(
+    f: &mut Mem,
+    cut: bool,
+    bytes: &[u8],
+) -> Result<([u32; 2], Option<u64>, [(u32, u32); 3]), Fault> {
+    let _calls = put(f, 0, 0, cut, bytes)?;
+    Ok((named(f, 0)?, f.length(FileId::External(1))?, used(f)?))
+}
+
 #[test]
 fn a_stream_lies_in_the_storage_of_its_length(rt: HostRuntime) -> Result<(), Fail> {
     // No place; four blocks of 256 bytes; one of 1024 bytes, and four; one of 4096, and four; a file.
     let cases = [
-        (0, 0),
-        (1023, 0xA301_0004),
-        (1024, 0xB002_0000),
-        (4095, 0xB302_0000),
-        (4096, 0xC003_0000),
-        (16384, 0xC303_0000),
-        (16385, 0x8000_0001),
+        (0, 0, None),
+        (1023, 0xA301_0004, None),
+        (1024, 0xB002_0000, None),
+        (4095, 0xB302_0000, None),
+        (4096, 0xC003_0000, None),
+        (16384, 0xC303_0000, None),
+        (16385, 0x8000_0001, Some(16385)),
     ];
-    for (size, addr) in cases {
+    for (size, addr, file) in cases {
         let mut f = bare(rt.alloc())?;
         let bytes = pattern(rt.alloc(), 0, size)?;
-        assert!(rt; put(&mut f, 0, 0, false, &bytes).is_ok(), "{size}");
-        assert_eq!(rt; named(&mut f, 0)?, [size as u32, addr], "{size}");
-        assert!(rt; used(&mut f)? == owned(size), "{size}");
+        let found = Ok(([size as u32, addr], file, owned(size)));
+        assert!(rt; stored(&mut f, false, &bytes) == found, "{size}");
     }
     Ok(())
+}
+
+// Writes three bytes far behind the end of the second stream, and reads from two places before them on: what is read, and
+// the stream's size and address, and what is used then.
+fn write_far_behind(
+    f: &mut Mem,
+    out: &mut [u8],
+) -> Result<((usize, u64), [u32; 2], [(u32, u32); 3]), Fault> {
+    let _calls = put(f, 1, 5000, false, b"abc")?;
+    let read = get(f, 1, 4998, out)?;
+    Ok((read, named(f, 1)?, used(f)?))
 }
 
 #[test]
 fn bytes_far_behind_the_end_come_after_zeros(rt: HostRuntime) -> Result<(), Fail> {
     let mut f = bare(rt.alloc())?;
-    assert!(rt; put(&mut f, 1, 5000, false, b"abc").is_ok());
     let mut out = [7; 9];
-    assert_eq!(rt; get(&mut f, 1, 4998, &mut out), Ok((5, 2)));
-    assert_eq!(rt; out, *b"\0\0abc\x07\x07\x07\x07");
 
     // Two blocks of 4096 bytes, which are marked, and no others beside that of the record.
-    assert_eq!(rt; named(&mut f, 1)?, [5003, 0xC103_0000]);
-    assert!(rt; used(&mut f)? == [(1, 1), (0, 0), (1, 2)]);
+    let found = ((5, 2), [5003, 0xC103_0000], [(1, 1), (0, 0), (1, 2)]);
+    assert!(rt; write_far_behind(&mut f, &mut out) == Ok(found));
+    assert_eq!(rt; out, *b"\0\0abc\x07\x07\x07\x07");
     Ok(())
 }
 
@@ -245,15 +255,12 @@ fn bytes_far_behind_the_end_come_after_zeros(rt: HostRuntime) -> Result<(), Fail
 fn a_cut_to_few_bytes_leaves_the_file(rt: HostRuntime) -> Result<(), Fail> {
     let mut f = bare(rt.alloc())?;
     let bytes = pattern(rt.alloc(), 0, 20000)?;
-    assert!(rt; put(&mut f, 0, 0, false, &bytes).is_ok());
-    assert_eq!(rt; named(&mut f, 0)?, [20000, 0x8000_0001]);
-    assert_eq!(rt; f.length(FileId::External(1)), Ok(Some(20000)));
+    let whole = ([20000, 0x8000_0001], Some(20000), owned(20000));
+    assert!(rt; stored(&mut f, false, &bytes) == Ok(whole));
 
     // One block of 256 bytes, behind that of the record.
-    assert!(rt; put(&mut f, 0, 0, true, &[b'z'; 10]).is_ok());
-    assert_eq!(rt; named(&mut f, 0)?, [10, 0xA001_0001]);
-    assert_eq!(rt; f.length(FileId::External(1)), Ok(None));
-    assert!(rt; used(&mut f)? == [(2, 2), (0, 0), (0, 0)]);
+    let cut = ([10, 0xA001_0001], None, [(2, 2), (0, 0), (0, 0)]);
+    assert!(rt; stored(&mut f, true, &[b'z'; 10]) == Ok(cut));
     Ok(())
 }
 
@@ -264,9 +271,10 @@ fn streams_are_grown_and_cut_into_each_other(rt: HostRuntime) -> Result<(), Fail
     let mut had = 0usize;
     for old in sizes {
         for new in sizes {
-            assert!(rt; resized(rt.alloc(), &mut f, had, old)?, "{had} {old}");
-            assert!(rt; resized(rt.alloc(), &mut f, old, new)?, "{old} {new}");
-            had = new;
+            for size in [old, new] {
+                assert!(rt; resized(rt.alloc(), &mut f, had, size)?, "{had} {size}");
+                had = size;
+            }
         }
     }
     Ok(())
@@ -399,22 +407,34 @@ fn moments(alloc: Global, write: &Write, all: u64) -> Result<(Moment, Moment), F
     Ok((before, after))
 }
 
+// After so many steps of a write: whether these were all, the size and the address of stream 1, the marks, and whether a
+// reader finds these bytes.
+fn at_step(
+    alloc: Global,
+    write: &Write,
+    steps: u64,
+    bytes: &Vec<u8>,
+) -> Result<(bool, [u32; 2], [u32; 3], bool), Fail> {
+    let (done, mut f) = stopped(alloc, write, steps)?;
+    let found = has(&mut f, bytes)?;
+    Ok((done, named(&mut f, 1)?, marks_of(&mut f)?, found))
+}
+
 // The first number of steps after which a stopped write leaves something wrong. After so many the record has the new size,
 // and not yet the new address, which comes with the next step.
 fn first_wrong(alloc: Global, write: &Write, sized: u64, all: u64) -> Result<Option<u64>, Fail> {
     let (before, after) = moments(alloc, write, all)?;
     for steps in 0..all.saturating_add(1) {
-        let (done, mut f) = stopped(alloc, write, steps)?;
         let now = if steps > sized { &after } else { &before };
         let size = if steps < sized {
             before.words[0]
         } else {
             after.words[0]
         };
-        let words = named(&mut f, 1)? == [size, now.words[1]];
-        let marks = are_marked(marks_of(&mut f)?, now, &before, &after);
-        let bytes = has(&mut f, &now.bytes)? == (steps != sized);
-        if !words || !marks || !bytes || done != (steps == all) {
+        let (done, words, marks, found) = at_step(alloc, write, steps, &now.bytes)?;
+        let named = words == [size, now.words[1]];
+        let marked = are_marked(marks, now, &before, &after);
+        if !named || !marked || found != (steps != sized) || done != (steps == all) {
             return Ok(Some(steps));
         }
     }
@@ -475,62 +495,65 @@ fn few_calls_write_a_stream(rt: HostRuntime) -> Result<(), Fail> {
 #[test]
 fn a_piece_is_read_by_two_calls(rt: HostRuntime) -> Result<(), Fail> {
     let mut f = folder(rt.alloc())?;
-    let mut out = [7; 6];
-    assert_eq!(rt; get(&mut f, 0, 996, &mut out), Ok((4, 2)));
-    assert_eq!(rt; out, *b"last\x07\x07");
-    assert_eq!(rt; get(&mut f, 1, 19997, &mut out), Ok((3, 2)));
-    assert_eq!(rt; out, *b"endt\x07\x07");
 
-    // At the end, far past it, and of a stream without bytes.
-    assert_eq!(rt; get(&mut f, 0, 1000, &mut out), Ok((0, 1)));
-    assert_eq!(rt; get(&mut f, 1, 0x1_0000_0000_0000, &mut out), Ok((0, 1)));
-    assert_eq!(rt; get(&mut f, 2, 0, &mut out), Ok((0, 1)));
+    // The last two pieces; then at the end, far past it, and of a stream without bytes.
+    for (stream, offset, answer, bytes) in [
+        (0, 996, (4, 2), *b"last\x07\x07"),
+        (1, 19997, (3, 2), *b"end\x07\x07\x07"),
+        (0, 1000, (0, 1), [7; 6]),
+        (1, 0x1_0000_0000_0000, (0, 1), [7; 6]),
+        (2, 0, (0, 1), [7; 6]),
+    ] {
+        let mut out = [7; 6];
+        let read = get(&mut f, stream, offset, &mut out);
+        assert!(rt; read == Ok(answer) && out == bytes, "{stream} {offset}");
+    }
     Ok(())
+}
+
+// Seven words of the first block file of records.
+fn words_at(f: &mut Mem, places: [u64; 7]) -> Result<[u32; 7], Failed> {
+    let mut words = [0; 7];
+    for (slot, at) in words.iter_mut().zip(places) {
+        *slot = word(f, at)?;
+    }
+    Ok(words)
+}
+
+// Drops the streams: the folder calls, and then the length of the first file, words of the header, and words of the record.
+fn dropped(f: &mut Mem) -> Result<(u64, Option<u64>, [[u32; 7]; 2]), Fault> {
+    let calls = empty(f)?;
+    let file = f.length(FileId::External(1))?;
+    let header = words_at(f, [16, 24, 28, 32, 36, 56, 80])?;
+    let record = words_at(f, [8196, 8232, 8236, 8240, 8248, 8252, 8256])?;
+    Ok((calls, file, [header, record]))
 }
 
 #[test]
 fn dropped_streams_leave_their_places(rt: HostRuntime) -> Result<(), Fail> {
     let mut f = folder(rt.alloc())?;
-    assert_eq!(rt; empty(&mut f), Ok(1 + 11 + 5));
-    assert_eq!(rt; f.length(FileId::External(1)), Ok(None));
 
-    // One allocation, a group with three free blocks and 255 with four, updating, and the map.
-    let header = [
-        (16, 1),
-        (24, 0),
-        (28, 0),
-        (32, 1),
-        (36, 255),
-        (56, 0),
-        (80, 1),
-    ];
-    for (at, value) in header {
-        assert_eq!(rt; word(&mut f, at)?, value);
-    }
-
-    // The record has its link, and no stream.
-    let record = [
-        (4, 0xA001_0007),
-        (40, 0),
-        (44, 0),
-        (48, 0),
-        (56, 0),
-        (60, 0),
-        (64, 0),
-    ];
-    for (at, value) in record {
-        assert_eq!(rt; word(&mut f, 8192 + at)?, value);
-    }
+    // One allocation, a group with three free blocks and 255 with four, updating, and the map; the record has its link, and
+    // no stream.
+    let words = [[1, 0, 0, 1, 255, 0, 1], [0xA001_0007, 0, 0, 0, 0, 0, 0]];
+    assert!(rt; dropped(&mut f) == Ok((1 + 11 + 5, None, words)));
     assert_eq!(rt; empty(&mut f), Ok(1));
     Ok(())
+}
+
+// The faults of reading a stream and of dropping all, where the first has this size and this address.
+fn faults_of(f: &mut Mem, size: u32, addr: u32) -> Result<[Option<Fault>; 2], Failed> {
+    put_record(f, [size, 0, 0], [addr, 0, 0])?;
+    let mut out = [0; 3];
+    Ok([get(f, 0, 0, &mut out).err(), empty(f).err()])
 }
 
 #[test]
 fn wrong_words_are_damages(rt: HostRuntime) -> Result<(), Fail> {
     let mut f = folder(rt.alloc())?;
     let mut out = [0; 3];
-    f.set_len(FileId::External(1), 19998)?;
     let file = FileId::External(1);
+    f.set_len(file, 19998)?;
     let cut = Fault::Damaged(Damage {
         file,
         at: 19997,
@@ -546,12 +569,11 @@ fn wrong_words_are_damages(rt: HostRuntime) -> Result<(), Fail> {
         (0, 0xA301_0004, 56, 0xA301_0004),
     ];
     for (size, addr, at, found) in cases {
-        put_record(&mut f, [size, 0, 0], [addr, 0, 0])?;
         let file = FileId::Block(1);
         let at = 8192 + at;
-        let wrong = Fault::Damaged(Damage { file, at, found });
-        assert_eq!(rt; get(&mut f, 0, 0, &mut out), Err(wrong));
-        assert_eq!(rt; empty(&mut f), Err(wrong));
+        let wrong = Some(Fault::Damaged(Damage { file, at, found }));
+        let faults = faults_of(&mut f, size, addr);
+        assert!(rt; faults == Ok([wrong, wrong]), "{size} {addr}");
     }
     Ok(())
 }

@@ -1,6 +1,6 @@
 use Rattle.std.proofs.Common.{rules}
 use Rattle.blk_disk.proofs.Agreeing.{loaded_agrees}
-use Rattle.blk_entry_tests.proofs.lru.opened.Goals as goal
+use Rattle.blk_entry_tests.proofs.folders.opened.Goals as goal
 
 pub returns : goal.returns
 returns g c = record {
