@@ -14,7 +14,7 @@ use blk_io::FileId;
 pub(crate) type Case = (&'static [Change], u64, &'static [(u32, u32)]);
 
 // The reasons 1 to 10 and 16, each alone, or with one that follows from it.
-pub(crate) const ALONE: [Case; 24] = [
+const ALONE: [Case; 24] = [
     (
         &[Word(N[7], CONTENTS, 0), Bucket(OF_STREAMS, 0)],
         11,
@@ -66,7 +66,7 @@ pub(crate) const ALONE: [Case; 24] = [
 ];
 
 // The reasons 11, 13 and 14.
-pub(crate) const STREAM_CASES: [Case; 16] = [
+const STREAM_CASES: [Case; 16] = [
     (&[Word(STREAMS, SIZES, 0x8000_0000)], 11, &[(N[7], 11)]),
     (&[Word(STREAMS, SIZES, 600)], 11, &[(N[7], 11)]),
     (&[Word(STREAMS, SIZES, 0)], 11, &[(N[7], 11)]),
@@ -102,7 +102,7 @@ pub(crate) const STREAM_CASES: [Case; 16] = [
 ];
 
 // A parent and its part, where the parent isn't right, or isn't that of the part.
-pub(crate) const PARENTS: [Case; 14] = [
+const PARENTS: [Case; 14] = [
     (
         &[Word(PARENT, SIZES + 4, 5), Word(PARENT, ADDRS + 4, UNOWNED)],
         10,
@@ -216,7 +216,7 @@ const PARTS: [Case; 20] = [
 ];
 
 // Loops and joins of the list and of chains, and a file of records that is too short.
-pub(crate) const SHAPES: [Case; 15] = [
+const SHAPES: [Case; 15] = [
     (&[Word(N[11], NODE_NEXT, N[0])], 12, &[]),
     (&[Word(N[11], NODE_NEXT, N[5])], 12, &[]),
     (&[Word(N[11], NODE_NEXT, 0)], 12, &[]),
@@ -334,7 +334,7 @@ pub(crate) const SHAPES: [Case; 15] = [
 ];
 
 // Operations in flight: those that count, and six that don't.
-pub(crate) const OPERATIONS: [Case; 14] = [
+const OPERATIONS: [Case; 14] = [
     (
         &[Index(TRANSACTION, N[0]), Index(OPERATION, 2)],
         11,
@@ -448,7 +448,7 @@ const MOST_REASONS: [Change; 12] = [
 ];
 
 // Several reasons for one node, of which the first counts, and all sixteen in two folders.
-pub(crate) const TOGETHER: [Case; 3] = [
+const TOGETHER: [Case; 3] = [
     (
         &[
             Word(STREAMS, STATE, 1),

@@ -1,5 +1,5 @@
 // The repair of the same folders, and a stop at each of its words.
-use crate::cases::{ALONE, Case, OPERATIONS, PARENTS, SHAPES, STOPPED, STREAM_CASES, TOGETHER};
+use crate::cases::{Case, STOPPED, TABLES};
 use crate::folders::Change::{Index, Length};
 use crate::folders::{Change, OPERATION, TRANSACTION, audited, change_all, dropped_at};
 use crate::worked::make_all;
@@ -145,15 +145,8 @@ fn first_left(alloc: Global, tables: &[&[Case]]) -> Result<Option<(usize, usize)
 }
 
 #[test]
-fn repair_mends_what_is_dropped(rt: HostRuntime) -> Result<(), Fail> {
-    assert_eq!(rt; first_left(rt.alloc(), &[&ALONE, &STREAM_CASES])?, None);
-    Ok(())
-}
-
-#[test]
-fn repair_mends_parents_lists_chains_and_operations(rt: HostRuntime) -> Result<(), Fail> {
-    let tables: [&[Case]; 4] = [&PARENTS, &SHAPES, &OPERATIONS, &TOGETHER];
-    assert_eq!(rt; first_left(rt.alloc(), &tables)?, None);
+fn repair_mends_what_is_damaged(rt: HostRuntime) -> Result<(), Fail> {
+    assert_eq!(rt; first_left(rt.alloc(), &TABLES)?, None);
     Ok(())
 }
 
