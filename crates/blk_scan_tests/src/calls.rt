@@ -1,8 +1,11 @@
-// The folder calls of an audit of many entries.
+// The folder calls of an audit of many entries, and of a repair.
 use crate::folders::{Entry, Mem, add, audited, give_blocks, put_index};
-use blk_audit::ScanFault;
+use crate::repairs::mend;
+use blk_disk::BlockFiles;
 use blk_index::make;
 use blk_io::{Fault, FileId, Folder, MemFolder, SilentFolder};
+use blk_repair::repair;
+use blk_scan::scan_files;
 use std::alloc::Global;
 use std::test::Fail;
 
@@ -95,12 +98,12 @@ fn add_one(alloc: Global, f: &mut Mem, sort: Sort, i: u32) -> Result<(), Fail> {
     Ok(())
 }
 
-// A folder of these entries.
-fn many(alloc: Global, sort: Sort) -> Result<Mem, Fail> {
+// A folder of so many entries.
+fn many(alloc: Global, sort: Sort, entries: u32) -> Result<Mem, Fail> {
     let mut f = SilentFolder::new(MemFolder::without_trail(alloc));
     make(&mut f, 7)?;
     give_blocks(&mut f, 5120, [5120, 5120, 512, 512])?;
-    for i in 0..ENTRIES {
+    for i in 0..entries {
         add_one(alloc, &mut f, sort, i)?;
     }
     Ok(f)
@@ -108,7 +111,7 @@ fn many(alloc: Global, sort: Sort) -> Result<Mem, Fail> {
 
 // How many entries are kept, and the folder calls of the audit.
 fn counts(alloc: Global, sort: Sort) -> Result<(u64, u64), Fail> {
-    let mut f = many(alloc, sort)?;
+    let mut f = many(alloc, sort, ENTRIES)?;
     let start = f.calls();
     let scan = audited(alloc, &mut f)?;
     Ok((scan.items(), f.calls().wrapping_sub(start)))
@@ -126,6 +129,31 @@ fn an_audit_of_4000_entries_takes_few_calls(rt: HostRuntime) -> Result<(), Fail>
         let (items, calls) = counts(rt.alloc(), sort)?;
         assert_eq!(rt; items, 4000);
         assert!(rt; calls <= 120 + 100 * each, "{calls} calls, {each}");
+    }
+    Ok(())
+}
+
+// The folder calls of a repair of so many entries, where all is repaired already.
+fn repair_calls(alloc: Global, sort: Sort, entries: u32) -> Result<u64, Fail> {
+    let mut f = many(alloc, sort, entries)?;
+    mend(alloc, &mut f)?;
+    let mut files = BlockFiles::load(&mut f)?;
+    let scan = scan_files(alloc, &mut f, &files)?;
+    let start = f.calls();
+    repair(&mut f, &mut files, &scan)?;
+    Ok(f.calls().wrapping_sub(start))
+}
+
+#[test]
+fn a_repair_of_what_is_repaired_takes_few_calls(rt: HostRuntime) -> Result<(), Fail> {
+    // Each external file is listed once.
+    for (sort, entries, externals) in [
+        (Sort::Plain, 0, 0),
+        (Sort::Plain, ENTRIES, 0),
+        (Sort::External, ENTRIES, 100),
+    ] {
+        let calls = repair_calls(rt.alloc(), sort, entries)?;
+        assert!(rt; calls <= 60 + externals, "{calls} calls, {externals}");
     }
     Ok(())
 }

@@ -2,7 +2,7 @@
 use crate::folders::Change::{Bucket, Gone, Index, Length, Word};
 use crate::folders::{
     ADDRS, BACK, CONTENTS, Change, DIRTY, FLAGS, HEAD, KEY, KEY_LEN, LONG_KEY, NEXT, NODE_NEXT,
-    NODE_SEAL, OPERATION, PREV, SEAL, SIZES, STATE, TRANSACTION,
+    NODE_SEAL, OPERATION, PREV, SEAL, SIZES, STATE, TAIL, TRANSACTION,
 };
 use crate::worked::{
     BLOCKS, IEV, JIO, LNIW, MAGIC, N, NAB, OF_LONGER, OF_STREAMS, OF_THREE, OF_TWO, OTHER_INDEX,
@@ -14,7 +14,7 @@ use blk_io::FileId;
 pub(crate) type Case = (&'static [Change], u64, &'static [(u32, u32)]);
 
 // The reasons 1 to 10 and 16, each alone, or with one that follows from it.
-pub(crate) const ALONE: [Case; 24] = [
+const ALONE: [Case; 24] = [
     (
         &[Word(N[7], CONTENTS, 0), Bucket(OF_STREAMS, 0)],
         11,
@@ -66,7 +66,7 @@ pub(crate) const ALONE: [Case; 24] = [
 ];
 
 // The reasons 11, 13 and 14.
-pub(crate) const STREAM_CASES: [Case; 16] = [
+const STREAM_CASES: [Case; 16] = [
     (&[Word(STREAMS, SIZES, 0x8000_0000)], 11, &[(N[7], 11)]),
     (&[Word(STREAMS, SIZES, 600)], 11, &[(N[7], 11)]),
     (&[Word(STREAMS, SIZES, 0)], 11, &[(N[7], 11)]),
@@ -102,7 +102,7 @@ pub(crate) const STREAM_CASES: [Case; 16] = [
 ];
 
 // A parent and its part, where the parent isn't right, or isn't that of the part.
-pub(crate) const PARENTS: [Case; 14] = [
+const PARENTS: [Case; 14] = [
     (
         &[Word(PARENT, SIZES + 4, 5), Word(PARENT, ADDRS + 4, UNOWNED)],
         10,
@@ -216,7 +216,7 @@ const PARTS: [Case; 20] = [
 ];
 
 // Loops and joins of the list and of chains, and a file of records that is too short.
-pub(crate) const SHAPES: [Case; 15] = [
+const SHAPES: [Case; 15] = [
     (&[Word(N[11], NODE_NEXT, N[0])], 12, &[]),
     (&[Word(N[11], NODE_NEXT, N[5])], 12, &[]),
     (&[Word(N[11], NODE_NEXT, 0)], 12, &[]),
@@ -334,7 +334,7 @@ pub(crate) const SHAPES: [Case; 15] = [
 ];
 
 // Operations in flight: those that count, and six that don't.
-pub(crate) const OPERATIONS: [Case; 14] = [
+const OPERATIONS: [Case; 14] = [
     (
         &[Index(TRANSACTION, N[0]), Index(OPERATION, 2)],
         11,
@@ -431,8 +431,24 @@ pub(crate) const OPERATIONS: [Case; 14] = [
     ),
 ];
 
+// Changes for which eleven of the twelve are dropped, each for a reason of its own.
+const MOST_REASONS: [Change; 12] = [
+    Word(N[0], DIRTY, 1),
+    Word(JIO, STATE, 2),
+    Word(NAB, FLAGS, 4),
+    Word(LNIW, KEY_LEN, 0),
+    Word(ZRTI, LONG_KEY, 1),
+    Word(PARENT_INDEX, 64, 0),
+    Word(STREAMS, 0, 0x029D_191A),
+    Word(TWIN, SIZES, 100),
+    Word(TWIN, ADDRS, 0xA001_0010),
+    Bucket(OF_LONGER, 0),
+    Word(BLOCKS, SIZES, 5),
+    Word(N[11], CONTENTS, 0),
+];
+
 // Several reasons for one node, of which the first counts, and all sixteen in two folders.
-pub(crate) const TOGETHER: [Case; 3] = [
+const TOGETHER: [Case; 3] = [
     (
         &[
             Word(STREAMS, STATE, 1),
@@ -443,20 +459,7 @@ pub(crate) const TOGETHER: [Case; 3] = [
         &[(N[7], 3)],
     ),
     (
-        &[
-            Word(N[0], DIRTY, 1),
-            Word(JIO, STATE, 2),
-            Word(NAB, FLAGS, 4),
-            Word(LNIW, KEY_LEN, 0),
-            Word(ZRTI, LONG_KEY, 1),
-            Word(PARENT_INDEX, 64, 0),
-            Word(STREAMS, 0, 0x029D_191A),
-            Word(TWIN, SIZES, 100),
-            Word(TWIN, ADDRS, 0xA001_0010),
-            Bucket(OF_LONGER, 0),
-            Word(BLOCKS, SIZES, 5),
-            Word(N[11], CONTENTS, 0),
-        ],
+        &MOST_REASONS,
         1,
         &[
             (N[0], 6),
@@ -503,9 +506,12 @@ pub(crate) const TABLES: [&[Case]; 7] = [
     &TOGETHER,
 ];
 
-// Changes after which repair is stopped at each of its words: a removal in flight and a list whose last node points back;
-// and a move in flight, a record that doesn't check and a dirty parent.
-pub(crate) const STOPPED: [&[Change]; 2] = [
+// Changes after which repair is stopped at each of its words: a removal in flight and a list whose last node points back; a
+// move in flight, a record that doesn't check and a dirty parent; a record in two chains, and a node that isn't sealed; blocks
+// that are claimed twice, in and out of a chain; an insertion in flight into a list without a head; an operation that
+// doesn't count, a loop in a chain and one in the list; a file of records that is too short; files that nothing names;
+// external files that are gone or too short, and another tail; and almost all reasons.
+pub(crate) const STOPPED: [&[Change]; 10] = [
     &[
         Index(TRANSACTION, N[1]),
         Index(OPERATION, 2),
@@ -517,4 +523,40 @@ pub(crate) const STOPPED: [&[Change]; 2] = [
         Word(JIO, SEAL, 1),
         Word(N[6], DIRTY, 1),
     ],
+    &[
+        Word(JIO, NEXT, STREAMS),
+        Word(JIO, SEAL, 0),
+        Word(N[3], NODE_SEAL, 0),
+    ],
+    &[
+        Word(TWIN, SIZES, 1024),
+        Word(TWIN, ADDRS, PART_DATA),
+        Word(TWIN, SEAL, 0),
+        Bucket(OF_TWO, LNIW),
+    ],
+    &[
+        Index(TRANSACTION, N[11]),
+        Index(OPERATION, 1),
+        Index(HEAD, 0),
+    ],
+    &[
+        Index(TRANSACTION, N[1]),
+        Index(OPERATION, 4),
+        Word(IEV, NEXT, NAB),
+        Word(IEV, SEAL, 0),
+        Word(N[11], NODE_NEXT, N[0]),
+        Word(N[11], NODE_SEAL, 0),
+    ],
+    &[Length(FileId::Block(1), 8448), Bucket(OF_THREE, IEV)],
+    &[
+        Length(FileId::Block(9), 8192),
+        Length(FileId::External(7), 100),
+        Length(FileId::External(9), 0),
+    ],
+    &[
+        Length(FileId::External(1), 19999),
+        Gone(FileId::External(2)),
+        Index(TAIL, N[3]),
+    ],
+    &MOST_REASONS,
 ];

@@ -1,5 +1,5 @@
 // The repair of the same folders, and a stop at each of its words.
-use crate::cases::{ALONE, Case, OPERATIONS, PARENTS, SHAPES, STOPPED, STREAM_CASES, TOGETHER};
+use crate::cases::{Case, STOPPED, TABLES};
 use crate::folders::Change::{Index, Length};
 use crate::folders::{Change, OPERATION, TRANSACTION, audited, change_all, dropped_at};
 use crate::worked::make_all;
@@ -20,6 +20,9 @@ const INDEX_WORDS: u64 = 2;
 // More steps than any of these repairs takes.
 const MOST_STEPS: u64 = 1000;
 
+// A repair that follows on a stopped one is stopped within so many steps.
+const NEXT_STEPS: u64 = 23;
+
 // A folder in which no step is made yet and all may be made.
 fn empty(alloc: Global) -> Mem {
     SilentFolder::new(StopFolder::new(MemFolder::without_trail(alloc), u64::MAX))
@@ -30,16 +33,25 @@ fn again(f: Mem, steps: u64) -> Mem {
     SilentFolder::new(StopFolder::new(f.into_inner().into_inner(), steps))
 }
 
-// The folder of all kinds of entries with some changes, where so many more steps pass.
-fn changed(alloc: Global, changes: &[Change], steps: u64) -> Result<Mem, Fail> {
+// The folder of all kinds of entries: as it is made, where every seal is 0, or repaired once, where each is sealed.
+fn whole(alloc: Global, sealed: bool) -> Result<Mem, Fail> {
     let mut f = empty(alloc);
     make_all(alloc, &mut f)?;
+    if sealed {
+        mend(alloc, &mut f)?;
+    }
+    Ok(f)
+}
+
+// That folder with some changes, where so many more steps pass.
+fn changed(alloc: Global, sealed: bool, changes: &[Change], steps: u64) -> Result<Mem, Fail> {
+    let mut f = whole(alloc, sealed)?;
     change_all(&mut f, changes)?;
     Ok(again(f, steps))
 }
 
 // Audits the folder and repairs it. Gives what was told before.
-fn mend(alloc: Global, f: &mut Mem) -> Result<Scan, ScanFault> {
+pub(crate) fn mend<F: Folder>(alloc: Global, f: &mut SilentFolder<F>) -> Result<Scan, ScanFault> {
     let mut files = BlockFiles::load(f)?;
     let scan = scan_files(alloc, f, &files)?;
     repair(f, &mut files, &scan)?;
@@ -64,37 +76,52 @@ fn is_tidy(scan: &Scan) -> bool {
 
 // Whether repair keeps what is kept and leaves nothing to mend, and a second one makes no other steps than those of the index.
 fn is_mended(alloc: Global, case: Case) -> Result<bool, Fail> {
-    let mut f = changed(alloc, case.0, u64::MAX)?;
+    let mut f = changed(alloc, false, case.0, u64::MAX)?;
     let before = mend(alloc, &mut f)?;
     let mut f = again(f, INDEX_WORDS);
     let then = mend(alloc, &mut f)?;
     Ok(is_same(&before, &then) && is_tidy(&then))
 }
 
-// Whether the same is kept as before where repair is stopped after so many steps, and the next one after some more; and
-// whether the first one came to its end.
+// Whether the same is kept in a stopped folder as before, and a repair that isn't stopped keeps it and leaves nothing to mend.
+fn is_ended_well(alloc: Global, f: Mem, before: &Scan) -> Result<bool, Fail> {
+    let mut f = again(f, u64::MAX);
+    let stopped = mend(alloc, &mut f)?;
+    let then = audited(alloc, &mut f)?;
+    Ok(is_same(before, &stopped) && is_same(before, &then) && is_tidy(&then))
+}
+
+// Whether the same is kept where repair is stopped after so many steps, and where the next one is after some more, and all ends
+// well; and whether the first one came to its end.
 fn is_stopped_well(
     alloc: Global,
+    sealed: bool,
     changes: &[Change],
     before: &Scan,
     steps: u64,
 ) -> Result<(bool, bool), Fail> {
-    let mut f = changed(alloc, changes, steps)?;
+    let mut f = changed(alloc, sealed, changes, steps)?;
     let ended = mend(alloc, &mut f).is_ok();
-    let mut f = again(f, steps % 7);
-    let _ = mend(alloc, &mut f).is_ok();
     let mut f = again(f, u64::MAX);
-    let then = audited(alloc, &mut f)?;
-    Ok((is_same(before, &then), ended))
+    let stopped = audited(alloc, &mut f)?;
+    let mut f = again(f, steps % NEXT_STEPS);
+    let _ = mend(alloc, &mut f).is_ok();
+    let same = is_same(before, &stopped) && is_ended_well(alloc, f, before)?;
+    Ok((same, ended))
 }
 
-// How many steps a repair takes, where what is kept stays at each stop before; or none, where it doesn't, or where the
-// repair takes more than so many.
-fn steps_of(alloc: Global, changes: &[Change], most: u64) -> Result<Option<u64>, Fail> {
-    let mut f = changed(alloc, changes, u64::MAX)?;
+// How many steps a repair takes, where what is kept stays at each stop before and all ends well; or none, where it doesn't, or
+// where the repair takes more than so many.
+fn steps_of(
+    alloc: Global,
+    sealed: bool,
+    changes: &[Change],
+    most: u64,
+) -> Result<Option<u64>, Fail> {
+    let mut f = changed(alloc, sealed, changes, u64::MAX)?;
     let before = audited(alloc, &mut f)?;
     for steps in 0..most {
-        let (same, ended) = is_stopped_well(alloc, changes, &before, steps)?;
+        let (same, ended) = is_stopped_well(alloc, sealed, changes, &before, steps)?;
         if !same {
             return Ok(None);
         }
@@ -118,23 +145,18 @@ fn first_left(alloc: Global, tables: &[&[Case]]) -> Result<Option<(usize, usize)
 }
 
 #[test]
-fn repair_mends_what_is_dropped(rt: HostRuntime) -> Result<(), Fail> {
-    assert_eq!(rt; first_left(rt.alloc(), &[&ALONE, &STREAM_CASES])?, None);
-    Ok(())
-}
-
-#[test]
-fn repair_mends_parents_lists_chains_and_operations(rt: HostRuntime) -> Result<(), Fail> {
-    let tables: [&[Case]; 4] = [&PARENTS, &SHAPES, &OPERATIONS, &TOGETHER];
-    assert_eq!(rt; first_left(rt.alloc(), &tables)?, None);
+fn repair_mends_what_is_damaged(rt: HostRuntime) -> Result<(), Fail> {
+    assert_eq!(rt; first_left(rt.alloc(), &TABLES)?, None);
     Ok(())
 }
 
 #[test]
 fn repair_may_be_stopped_at_each_word(rt: HostRuntime) -> Result<(), Fail> {
-    for (i, changes) in STOPPED.iter().enumerate() {
-        let steps = steps_of(rt.alloc(), changes, MOST_STEPS)?;
-        assert!(rt; steps.is_some(), "{i}");
+    for sealed in [false, true] {
+        for (i, changes) in STOPPED.iter().enumerate() {
+            let steps = steps_of(rt.alloc(), sealed, changes, MOST_STEPS)?;
+            assert!(rt; steps.is_some(), "{sealed}, {i}");
+        }
     }
     Ok(())
 }
@@ -162,7 +184,7 @@ fn repair_deletes_what_nothing_names_and_ends_what_does_not_count(
         Length(FileId::Block(9), 8192),
         Length(FileId::External(7), 100),
     ];
-    let mut f = changed(rt.alloc(), &others, u64::MAX)?;
+    let mut f = changed(rt.alloc(), false, &others, u64::MAX)?;
     let mended = mended_words(rt.alloc(), &mut f)?;
     assert_eq!(rt; mended, (0, [None, None, Some(20000)]));
     let mut f = empty(rt.alloc());
