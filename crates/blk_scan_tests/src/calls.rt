@@ -13,7 +13,7 @@ const OTHERS: u32 = 100;
 
 // What these are.
 #[derive(Clone, Copy)]
-enum Sort {
+pub(crate) enum Sort {
     Plain,
     // They have a stream in an external file.
     External,
@@ -96,7 +96,7 @@ fn add_one(alloc: Global, f: &mut Mem, sort: Sort, i: u32) -> Result<(), Fail> {
 }
 
 // A folder of these entries.
-fn many(alloc: Global, sort: Sort) -> Result<Mem, Fail> {
+pub(crate) fn many(alloc: Global, sort: Sort) -> Result<Mem, Fail> {
     let mut f = SilentFolder::new(MemFolder::without_trail(alloc));
     make(&mut f, 7)?;
     give_blocks(&mut f, 5120, [5120, 5120, 512, 512])?;
