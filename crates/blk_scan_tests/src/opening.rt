@@ -19,10 +19,7 @@ const MOMENT: u64 = 7;
 type Shown = ((u64, u64), u32, [u32; 2]);
 
 // A session, with the folder calls of its opening and of its end.
-fn session<F: Folder>(
-    alloc: Global,
-    f: &mut SilentFolder<F>,
-) -> Result<(Shown, u64, u64), Fail> {
+fn session<F: Folder>(alloc: Global, f: &mut SilentFolder<F>) -> Result<(Shown, u64, u64), Fail> {
     let start = f.calls();
     let cache = Cache::start(alloc, f, LIMITS, MOMENT)?;
     let opening = f.calls().wrapping_sub(start);
