@@ -10,13 +10,13 @@ use std::alloc::Global;
 use std::test::Fail;
 
 // The entries, and how many of them aren't plain ones with short keys.
-const ENTRIES: u32 = 4000;
+pub(crate) const ENTRIES: u32 = 4000;
 
 const OTHERS: u32 = 100;
 
 // What these are.
 #[derive(Clone, Copy)]
-enum Sort {
+pub(crate) enum Sort {
     Plain,
     // They have a stream in an external file.
     External,
@@ -99,7 +99,7 @@ fn add_one(alloc: Global, f: &mut Mem, sort: Sort, i: u32) -> Result<(), Fail> {
 }
 
 // A folder of so many entries.
-fn many(alloc: Global, sort: Sort, entries: u32) -> Result<Mem, Fail> {
+pub(crate) fn many(alloc: Global, sort: Sort, entries: u32) -> Result<Mem, Fail> {
     let mut f = SilentFolder::new(MemFolder::without_trail(alloc));
     make(&mut f, 7)?;
     give_blocks(&mut f, 5120, [5120, 5120, 512, 512])?;

@@ -10,6 +10,8 @@ mod folders;
 #[cfg(test)]
 mod long;
 #[cfg(test)]
+mod opening;
+#[cfg(test)]
 mod reasons;
 #[cfg(test)]
 mod repairs;
