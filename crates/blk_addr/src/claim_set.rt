@@ -10,8 +10,8 @@ use crate::{Addr, fields};
 use std::alloc::Global;
 use std::collections::BTreeSet;
 
-// The number of block files.
-const FILES: usize = 256;
+/// How many block files words can name: `data_0` to `data_255`.
+pub const BLOCK_FILES: usize = 256;
 
 /// The blocks and external numbers of added addresses, no two of which share one, with the number
 /// of addresses of each block file. The blocks take 2 MiB at most.
@@ -20,7 +20,7 @@ pub struct Claims {
     // block b of file f is the number f * 65536 + b
     blocks: Bitmap,
     externals: BTreeSet<u32>,
-    allocations: [u32; FILES],
+    allocations: [u32; BLOCK_FILES],
     // each count is at most the number of claimed blocks
     ghost counted: { (file : ℕ) → slice_index allocations file ≤ bits_of_files blocks.bytes.items },
 }
@@ -122,8 +122,8 @@ impl Claims {
 }
 
 // No allocations in each file.
-fn no_allocations() -> [u32; FILES]
+fn no_allocations() -> [u32; BLOCK_FILES]
     ensures { (file : ℕ) → slice_index result file ≡ 0 }
 {
-    [0; FILES]
+    [0; BLOCK_FILES]
 }

@@ -16,7 +16,7 @@ pub const BLOCKS_4K: u32 = 4;
 // An address can name so many blocks of a file.
 pub const BLOCKS_OF_FILE: u32 = 0x1_0000;
 
-// The blocks of an address lie in one group of so many.
+/// The blocks of an address lie in one group of so many.
 pub const GROUP: u32 = 4;
 
 const INITIALIZED: u32 = 0x8000_0000;
@@ -39,7 +39,8 @@ const FILE_MASK: u32 = 0xFF;
 
 const START_MASK: u32 = 0xFFFF;
 
-const NUMBER_MASK: u32 = 0x0FFF_FFFF;
+/// The last number of an external file, and the bits of an address word that have it.
+pub const LAST_EXTERNAL: u32 = 0x0FFF_FFFF;
 
 #[tactic(auto, unfolding(blk_format::specs::Address::is_initialized))]
 pub fn is_initialized(word: u32) -> bool
@@ -88,7 +89,7 @@ pub fn first_block(word: u32) -> u32
 pub fn external_number(word: u32) -> u32
     ensures { result ≡ address.external_number word }
 {
-    word & NUMBER_MASK
+    word & LAST_EXTERNAL
 }
 
 #[tactic(auto, unfolding(blk_format::specs::Address::names_external))]

@@ -12,8 +12,9 @@ mod no_memory;
 mod storage;
 
 pub use address::Addr;
-pub use claim_set::Claims;
+pub use claim_set::{BLOCK_FILES, Claims};
+pub use fields::{GROUP, LAST_EXTERNAL};
 pub use file_id::FileId;
 pub use kinds::Kind;
 pub use no_memory::NoMemory;
-pub use storage::{blocks_for, entry_blocks, kind_for};
+pub use storage::{LONGEST_SHORT_KEY, RECORD_BLOCK, blocks_for, entry_blocks, kind_for};

@@ -14,13 +14,14 @@ const MOST_IN_1K: u32 = 4095;
 
 const MOST_IN_4K: u32 = 16384;
 
-// A record's key needs a block more for each so many bytes.
-const BLOCK: u32 = 256;
+/// The bytes of a block of the files in which records lie. A record's key needs a block more for each so many bytes.
+pub const RECORD_BLOCK: u32 = 256;
 
-// The first length at which a key needs a second block of its record, and the longest key in a record.
+// The first length at which a key needs a second block of its record.
 const SECOND_BLOCK_FROM: u32 = 160;
 
-const MOST_IN_RECORD: u32 = 927;
+/// The longest key that lies in its record, in bytes.
+pub const LONGEST_SHORT_KEY: u32 = 927;
 
 /// The kind of data of `size` bytes, above 0.
 #[tactic(auto, unfolding(blk_format::specs::Storage::kind_for))]
@@ -56,9 +57,9 @@ pub fn blocks_for(size: u32) -> u32
 pub fn entry_blocks(key_len: u32) -> u32
     ensures { result ≡ storage.entry_blocks key_len }
 {
-    if key_len < SECOND_BLOCK_FROM || key_len > MOST_IN_RECORD {
+    if key_len < SECOND_BLOCK_FROM || key_len > LONGEST_SHORT_KEY {
         1
     } else {
-        (key_len - SECOND_BLOCK_FROM) / BLOCK + 2
+        (key_len - SECOND_BLOCK_FROM) / RECORD_BLOCK + 2
     }
 }

@@ -16,8 +16,7 @@ ghost use Rattle.blk_alloc.specs.Marking.{CanBeMarked};
 
 use crate::blocks::Blocks;
 use crate::fitting::blocks_in;
-use crate::layout::GROUP;
-use blk_addr::Kind;
+use blk_addr::{GROUP, Kind};
 use blk_disk::BlockFiles;
 use blk_io::{Failed, Folder};
 use blk_record::BlockHead;

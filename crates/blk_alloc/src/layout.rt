@@ -10,6 +10,3 @@ pub(crate) const ALLOCATIONS: usize = BlockHead::ALLOCATIONS as usize;
 pub(crate) const EMPTY: usize = BlockHead::EMPTY as usize;
 
 pub(crate) const UPDATING: usize = BlockHead::UPDATING as usize;
-
-// The blocks of a group.
-pub(crate) const GROUP: u32 = 4;

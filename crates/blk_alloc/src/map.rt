@@ -7,7 +7,7 @@ ghost use Rattle.blk_addr.specs.Bits.{has_bit, is_between};
 ghost use Rattle.blk_alloc.specs.Places as places;
 ghost use Rattle.blk_alloc.specs.Places.{IsLeastPlace};
 
-use crate::layout::GROUP;
+use blk_addr::GROUP;
 
 const BITS_OF_BYTE: u32 = 8;
 

@@ -9,8 +9,8 @@ ghost use Rattle.blk_io.specs.Faults.{IfDamaged, IfDevice};
 
 use crate::counters::Counters;
 use crate::finishing::finish;
-use crate::layout::GROUP;
 use crate::map::{longest_run, set_marks, word_of};
+use blk_addr::GROUP;
 use blk_io::{Failed, Fault, FileId, Folder, read_exact, write_words};
 use blk_record::BlockHead;
 

@@ -19,15 +19,12 @@ ghost use Rattle.blk_alloc.specs.Rebuilding.{AreFitted, AreHeaderBytes, AreItsAl
 use crate::claimed::{count_runs, mark_claimed};
 use crate::comparing::is_right;
 use crate::fitting::blocks_in;
-use crate::layout::{GROUP, MAP_LEN, UPDATING};
+use crate::layout::{MAP_LEN, UPDATING};
 use crate::mending::{mend, mend_counters, mend_word};
-use blk_addr::Claims;
+use blk_addr::{BLOCK_FILES, Claims, GROUP};
 use blk_disk::BlockFiles;
 use blk_io::{Failed, Fault, FileId, Folder, read_exact};
 use blk_record::BlockHead;
-
-// The numbers of block files.
-const NUMBERS: u16 = 256;
 
 // Makes the map and the counters of a file those of claims: of the map and the fields that were read, the
 // words that differ are written.
@@ -204,7 +201,7 @@ pub fn rebuild<F: Folder>(f: &mut F, files: &mut BlockFiles, claims: &Claims) ->
     ensures later { F.faults f.old ≤ F.faults f.new }
     ensures device { IfDevice result (Rises (F.faults f.old) (F.faults f.new)) }
 {
-    for number in 0..NUMBERS {
+    for number in 0..BLOCK_FILES {
         let file = number as u8;
         if files.max_entries(file).is_some() {
             rebuild_file(f, files, claims, file)?;

@@ -17,8 +17,8 @@ use blk_addr::{Addr, Claims, NoMemory};
 use blk_lru::Write;
 use std::alloc::Global;
 
-// The most nodes that are walked.
-const MOST_NODES: u32 = 131_072;
+/// The most nodes that are walked.
+pub const MOST_NODES: u32 = 131_072;
 
 /// The walked nodes of a use list, in its order: no node stands twice, and there are at most 131072.
 #[derive(Drop)]

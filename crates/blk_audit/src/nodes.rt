@@ -9,13 +9,10 @@ ghost use Rattle.blk_format.specs.Address.{file_selector, kind_of, rankings};
 use crate::counting::count_there;
 use crate::fault::ScanFault;
 use crate::filling::read_file;
-use blk_addr::{Addr, FileId, Kind};
+use blk_addr::{Addr, BLOCK_FILES, FileId, Kind};
 use blk_disk::BlockFiles;
 use blk_io::Folder;
 use std::alloc::Global;
-
-// The numbers of block files.
-const FILES: usize = 256;
 
 // What a node says, and whether it checks.
 #[derive(Clone, Copy, Debug)]
@@ -31,8 +28,8 @@ pub(crate) struct Node {
 // The nodes of the linked files, file after file: where those of each file begin, and how many there are.
 #[derive(Drop)]
 pub(crate) struct Nodes {
-    begins: [u32; FILES],
-    counts: [u32; FILES],
+    begins: [u32; BLOCK_FILES],
+    counts: [u32; BLOCK_FILES],
     nodes: Vec<Node>,
     ghost all_begins: { length begins ≡ 256 },
     ghost all_counts: { length counts ≡ 256 },
@@ -45,8 +42,8 @@ impl Nodes {
     // No nodes.
     pub(crate) fn none(alloc: Global) -> Nodes {
         Nodes {
-            begins: [0; FILES],
-            counts: [0; FILES],
+            begins: [0; BLOCK_FILES],
+            counts: [0; BLOCK_FILES],
             nodes: Vec::new(alloc),
         }
     }

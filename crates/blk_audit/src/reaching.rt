@@ -22,13 +22,12 @@ use blk_addr::{Addr, Claims, NoMemory};
 use blk_disk::BlockFiles;
 use blk_index::buckets;
 use blk_io::Folder;
+use blk_record::IndexHead;
 use std::alloc::Global;
 use std::collections::BTreeSet;
 
-// The most records of a chain, and the number of buckets.
+// The most records of a chain.
 const MOST_RECORDS: u32 = 16_777_216;
-
-const BUCKETS: u32 = 65_536;
 
 // The words of the table that one call reads, and the number of such calls.
 const PIECE: usize = 1024;
@@ -353,7 +352,7 @@ fn reach<F: Folder>(
     if !said.words.checks {
         return Ok(None);
     }
-    if said.words.hash % BUCKETS != bucket {
+    if said.words.hash % IndexHead::BUCKETS != bucket {
         return Ok(None);
     }
     reached.add(addr)?;

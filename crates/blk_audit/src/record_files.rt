@@ -16,7 +16,7 @@ ghost use Rattle.blk_audit.specs.Records.{AreRecordsOf, IsSaidBy};
 use crate::fault::ScanFault;
 use crate::record_words::read_words;
 use crate::records::{ReadRecord, first_of_record, record_of_bytes};
-use blk_addr::{Addr, Claims, Kind, NoMemory};
+use blk_addr::{Addr, Claims, Kind, NoMemory, RECORD_BLOCK};
 use blk_disk::BlockFiles;
 use blk_io::{Fault, FileId, Folder, read_exact};
 use blk_record::BlockHead;
@@ -28,9 +28,9 @@ const BLOCKS_OF_PIECE: u32 = 128;
 // The pieces of a file with the most blocks.
 const PIECES: u32 = 512;
 
-const BLOCK: usize = 256;
+const BLOCK: usize = RECORD_BLOCK as usize;
 
-const PIECE: usize = 32_768;
+const PIECE: usize = BLOCK * BLOCKS_OF_PIECE as usize;
 
 // A record that was read, with the address of its first block.
 #[derive(Clone, Copy, Debug)]

@@ -5,11 +5,8 @@ ghost use Rattle.blk_audit.specs.Records.{hash_in, record_in};
 ghost use Rattle.blk_audit.specs.Chaining.{first_block_of};
 
 use crate::record_words::{RecordWords, words_of};
-use blk_addr::{Addr, FileId, Kind};
+use blk_addr::{Addr, FileId, Kind, LONGEST_SHORT_KEY};
 use blk_record::{EntryView, Record, super_fast_hash};
-
-// The longest key that lies in its record.
-const MOST_IN_RECORD: u32 = 927;
 
 /// What was read of a record.
 #[derive(Clone, Copy, Debug)]
@@ -35,7 +32,7 @@ pub(crate) fn record_of_bytes(bytes: &[u8]) -> ReadRecord
 fn hash_of_key(key_len: u32, bytes: &[u8]) -> Option<u32>
     ensures { result ≡ hash_in key_len bytes.now }
 {
-    if key_len > MOST_IN_RECORD {
+    if key_len > LONGEST_SHORT_KEY {
         return None;
     }
     let key_len = key_len as usize;

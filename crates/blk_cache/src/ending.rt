@@ -15,7 +15,7 @@ ghost use Rattle.blk_cache.specs.Opening.{HoldsStill, EndsSession};
 use crate::cache::Cache;
 use blk_index::set_word;
 use blk_io::{Failed, Folder};
-use blk_repair::CRASH;
+use blk_record::IndexHead;
 
 impl Cache {
     /// The number of items, and the bytes that they are charged. Doomed open objects count too.
@@ -44,6 +44,6 @@ impl Cache {
         ensures later { F.faults f.old ≤ F.faults f.new }
         ensures failed { OnErr result (Rises (F.faults f.old) (F.faults f.new)) }
     {
-        set_word(f, CRASH, 0)
+        set_word(f, IndexHead::CRASH, 0)
     }
 }

@@ -18,7 +18,8 @@ use crate::fault::OpenFault;
 use blk_disk::BlockFiles;
 use blk_index::{Start, look, make, word};
 use blk_io::{Fault, Folder};
-use blk_repair::{THIS_ID, repair};
+use blk_record::IndexHead;
+use blk_repair::repair;
 use blk_scan::{Scan, scan_files};
 use std::alloc::Global;
 
@@ -139,7 +140,7 @@ fn mend<F: Folder>(f: &mut F, files: BlockFiles, scan: &Scan) -> Result<Opened, 
 {
     let mut files = files;
     repair(f, &mut files, scan)?;
-    let mark = word(f, THIS_ID)?;
+    let mark = word(f, IndexHead::THIS_ID)?;
     Ok(Opened {
         files,
         items: scan.items(),

@@ -12,11 +12,9 @@ ghost use Rattle.blk_disk.specs.Growth.{grow_steps, growth_of, lengthen_steps, r
 
 use crate::heads::{GROWTH, block_size};
 use crate::tables::BlockFiles;
+use blk_addr::GROUP;
 use blk_io::{Failed, FileId, Folder, write_words};
 use blk_record::BlockHead;
-
-// The blocks of a group.
-const GROUP: u32 = 4;
 
 // The place of the counter of empty groups, the last of the four.
 const EMPTY_GROUPS: u64 = BlockHead::EMPTY + 12;

@@ -8,16 +8,13 @@ ghost use Rattle.blk_format.specs.BlockFiles.{is_among, is_block_count, kind_amo
 ghost use Rattle.blk_addr.specs.Kind.{kind_number};
 
 use arrayvec::ArrayVec;
-use blk_addr::Kind;
+use blk_addr::{BLOCK_FILES, Kind};
 
 /// The most files of one kind.
 pub const MOST_FILES: usize = 60;
 
 // The kinds of the linked files, in the order in which they are taken up.
 pub(crate) const KINDS: [Kind; 4] = [Kind::Rankings, Kind::B256, Kind::B1K, Kind::B4K];
-
-// The numbers of block files.
-const NUMBERS: usize = 256;
 
 /// The linked block files: their numbers, by kind and in the order of the links, and what is
 /// known of each.
@@ -28,8 +25,8 @@ pub struct BlockFiles {
     b1k: ArrayVec<u8, MOST_FILES>,
     b4k: ArrayVec<u8, MOST_FILES>,
     // The number of blocks and the length in bytes of each linked file.
-    blocks: [u32; NUMBERS],
-    lengths: [u64; NUMBERS],
+    blocks: [u32; BLOCK_FILES],
+    lengths: [u64; BLOCK_FILES],
     ghost all_blocks: { length blocks ≡ 256 },
     ghost all_lengths: { length lengths ≡ 256 },
     // No number stands twice, in one kind or in two.
@@ -50,8 +47,8 @@ impl BlockFiles {
             b256: ArrayVec::new(),
             b1k: ArrayVec::new(),
             b4k: ArrayVec::new(),
-            blocks: [0; NUMBERS],
-            lengths: [0; NUMBERS],
+            blocks: [0; BLOCK_FILES],
+            lengths: [0; BLOCK_FILES],
         }
     }
 

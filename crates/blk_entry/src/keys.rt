@@ -16,18 +16,13 @@ ghost use Rattle.blk_entry.specs.Keys as keys;
 ghost use Rattle.blk_entry.specs.Keys.{CanBeRead, HasKeyBytes, HasKeyPlace, HasRecord, IsRecordHead, IsHeadDamage, IsInside, IsMisplacedKey, IsPiece, IsPlaceOfKey, is_short, key_at, key_address, key_bytes, bytes_before};
 
 use crate::data::{is_of, read_data};
-use blk_addr::{Addr, Kind, blocks_for, entry_blocks, kind_for};
+use blk_addr::{Addr, Kind, LONGEST_SHORT_KEY, RECORD_BLOCK, blocks_for, entry_blocks, kind_for};
 use blk_disk::{BlockFiles, file_of};
 use blk_io::{Damage, Fault, Folder};
 use blk_record::{BlockHead, EntryView, Record};
 
-// The longest key in a record, and the longest key of all: the name of a part.
-const MOST_IN_RECORD: u32 = 927;
-
-const MOST_KEY: u32 = 32796;
-
-// The bytes of a block of a record.
-const BLOCK: u64 = 256;
+/// The longest key of all, in bytes: the name of a part.
+pub const LONGEST_NAME: u32 = 32796;
 
 /// The words of a record that say what it is, and where its chain goes on.
 #[derive(Clone, Copy, Debug)]
@@ -158,7 +153,7 @@ pub fn record_damage(entry: Addr, at: u32, found: u32) -> Fault
     requires small { at < entry_size }
     ensures { keys.IsDamageAt entry at found result }
 {
-    let front = BlockHead::HEADER_LEN + u64::from(entry.start()) * BLOCK;
+    let front = BlockHead::HEADER_LEN + u64::from(entry.start()) * u64::from(RECORD_BLOCK);
     Fault::Damaged(Damage {
         file: file_of(entry),
         at: front + u64::from(at),
@@ -180,7 +175,7 @@ pub(crate) fn key_place(files: &BlockFiles, entry: Addr, head: Head) -> Result<K
     if !may_have(entry, head.key_len) {
         return Err(record_damage(entry, EntryView::KEY_LEN, head.key_len));
     }
-    if head.key_len <= MOST_IN_RECORD {
+    if head.key_len <= LONGEST_SHORT_KEY {
         return Ok(KeyPlace {
             addr: entry,
             skip: EntryView::SIZE as u32,
@@ -203,7 +198,7 @@ pub fn may_have(entry: Addr, key_len: u32) -> bool
     requires { kind_of entry ≡ blocks_256 }
     ensures { result ≡ keys.may_have entry key_len }
 {
-    1 <= key_len && key_len <= MOST_KEY && entry.blocks() == entry_blocks(key_len)
+    1 <= key_len && key_len <= LONGEST_NAME && entry.blocks() == entry_blocks(key_len)
 }
 
 /// The address of a long key of so many bytes, where the word is one that may hold it.

@@ -19,18 +19,16 @@ ghost use Rattle.blk_entry.specs.Writing.{AreWords, FitsKey, HoldsLongKey, IsSho
 
 use crate::data::write_ended;
 use bitflags::Flags;
-use blk_addr::Addr;
+use blk_addr::{Addr, RECORD_BLOCK};
 use blk_disk::BlockFiles;
 use blk_io::{Failed, Fault, Folder};
 use blk_record::{
-    EntryFlags, EntryMut, EntryView, NodeMut, NodeView, Record, RecordMut, super_fast_hash,
+    EntryFlags, EntryMut, EntryView, NodeMut, NodeView, Record, RecordMut, WORD_VALUES,
+    super_fast_hash,
 };
 
 // The bytes of a block of records.
-const BLOCK: usize = 256;
-
-// The numbers of a word.
-const WORD: u64 = 0x1_0000_0000;
+const BLOCK: usize = RECORD_BLOCK as usize;
 
 /// What a new entry has beside its key, and the places where it is written.
 #[derive(Clone, Copy, Debug)]
@@ -205,10 +203,13 @@ fn record_of(new: &NewEntry, key: &[u8], moment: u64) -> [u8; BLOCK]
         (EntryView::HASH as usize, super_fast_hash(key)),
         (EntryView::NEXT as usize, new.next),
         (EntryView::NODE as usize, new.node.word()),
-        (EntryView::CREATION_TIME as usize, (moment % WORD) as u32),
+        (
+            EntryView::CREATION_TIME as usize,
+            (moment % WORD_VALUES) as u32,
+        ),
         (
             EntryView::CREATION_TIME as usize + 4,
-            (moment / WORD) as u32,
+            (moment / WORD_VALUES) as u32,
         ),
         (EntryView::KEY_LEN as usize, key.len() as u32),
         (EntryView::LONG_KEY as usize, word_of(&new.long_key)),
@@ -238,8 +239,8 @@ fn flags_of(child: bool) -> u32
 fn node_of(new: &NewEntry, moment: u64) -> [u8; NodeView::SIZE]
     ensures { result ≡ node_bytes (new_node new.now moment) }
 {
-    let low = (moment % WORD) as u32;
-    let high = (moment / WORD) as u32;
+    let low = (moment % WORD_VALUES) as u32;
+    let high = (moment / WORD_VALUES) as u32;
     let words = [
         (NodeView::LAST_USED as usize, low),
         (NodeView::LAST_USED as usize + 4, high),

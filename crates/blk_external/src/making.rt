@@ -8,11 +8,9 @@ ghost use Rattle.blk_io.specs.Faults.{IfDamaged, IfDevice, IsShort};
 ghost use Rattle.blk_external.specs.Numbers.{IsNumber, HasFreeNumber, IsFirstFree, IsSearched, IsLeastExternal, most_number};
 ghost use Rattle.blk_external.specs.Making.{making, last_number, last_file_place, CreatesPrefix, CreatesInProgress, Creates, AreNumbersUsedUp};
 
-use blk_addr::Addr;
+use blk_addr::{Addr, LAST_EXTERNAL};
 use blk_io::{Damage, Failed, Fault, FileId, Folder, read_word, write_word};
 use blk_record::IndexHead;
-
-const MOST_NUMBER: u32 = 0x0FFF_FFFF;
 
 /// Makes an empty file with the first free number after the last one, and writes that number to the index.
 ///
@@ -66,8 +64,8 @@ fn first_free<F: Folder>(f: &mut F, last: u32) -> Result<Option<u32>, Failed>
     ensures later { F.faults f.old ≤ F.faults f.new }
     ensures failed { OnErr result (Rises (F.faults f.old) (F.faults f.new)) }
 {
-    let end = last.min(MOST_NUMBER) + 1;
-    match least_free(f, end, MOST_NUMBER + 1)? {
+    let end = last.min(LAST_EXTERNAL) + 1;
+    match least_free(f, end, LAST_EXTERNAL + 1)? {
         Some(number) => Ok(Some(number)),
         None => least_free(f, 1, end),
     }

@@ -24,10 +24,7 @@ use crate::writes::perform;
 use blk_addr::Addr;
 use blk_disk::BlockFiles;
 use blk_io::{Fault, Folder};
-use blk_record::NodeView;
-
-// The number of values that a word may have.
-const WORD_VALUES: u64 = 0x1_0000_0000;
+use blk_record::{NodeView, WORD_VALUES};
 
 /// Puts a node in front of the list. It is not in the list, and fewer than 131072 nodes are.
 ///

@@ -92,49 +92,49 @@ impl<'a> BlockHead<'a> {
     pub fn magic(&self) -> u32
         ensures { result ≡ magic_of (content self.now) }
     {
-        word(self.window, 0)
+        word(self.window, Self::MAGIC_PLACE as usize)
     }
 
     /// The version of the format.
     pub fn version(&self) -> u32
         ensures { result ≡ version_of (content self.now) }
     {
-        word(self.window, 4)
+        word(self.window, Self::VERSION_PLACE as usize)
     }
 
     /// The number of the file.
     pub fn this_file(&self) -> u16
         ensures { result ≡ this_file_of (content self.now) }
     {
-        half(self.window, 8)
+        half(self.window, Self::THIS_FILE as usize)
     }
 
     /// The number of the next file of its kind, or 0.
     pub fn next_file(&self) -> u16
         ensures { result ≡ next_file_of (content self.now) }
     {
-        half(self.window, 10)
+        half(self.window, Self::NEXT_FILE as usize)
     }
 
     /// The bytes of a block.
     pub fn entry_size(&self) -> u32
         ensures { result ≡ entry_size_of (content self.now) }
     {
-        word(self.window, 12)
+        word(self.window, Self::ENTRY_SIZE as usize)
     }
 
     /// The number of allocations.
     pub fn num_entries(&self) -> u32
         ensures { result ≡ allocations_of (content self.now) }
     {
-        word(self.window, 16)
+        word(self.window, Self::ALLOCATIONS as usize)
     }
 
     /// The number of blocks.
     pub fn max_entries(&self) -> u32
         ensures { result ≡ max_entries_of (content self.now) }
     {
-        word(self.window, 20)
+        word(self.window, Self::MAX_ENTRIES as usize)
     }
 
     /// One of 4 words: how many groups have a longest free run of `i + 1` blocks.
@@ -142,7 +142,7 @@ impl<'a> BlockHead<'a> {
         requires { i < 4 }
         ensures { result ≡ empty_of (content self.now) i }
     {
-        word(self.window, 24 + 4 * i)
+        word(self.window, Self::EMPTY as usize + 4 * i)
     }
 
     /// One of 4 words: the group where a search for `i + 1` blocks begins.
@@ -157,7 +157,7 @@ impl<'a> BlockHead<'a> {
     pub fn updating(&self) -> u32
         ensures { result ≡ updating_of (content self.now) }
     {
-        word(self.window, 56)
+        word(self.window, Self::UPDATING as usize)
     }
 
     /// One of 5 words that are not used.

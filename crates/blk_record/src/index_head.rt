@@ -48,8 +48,14 @@ impl<'a> IndexHead<'a> {
     /// The place of the last external number that was made.
     pub const LAST_FILE: u64 = 16;
 
+    /// The place of the number of the session.
+    pub const THIS_ID: u64 = 20;
+
     /// The place of the number of the table's words.
     pub const TABLE_LEN: u64 = 28;
+
+    /// The place of the word that is 1 while a session is open.
+    pub const CRASH: u64 = 32;
 
     /// The place of the moment of making, which takes two words.
     pub const CREATE_TIME: u64 = 40;
@@ -109,28 +115,28 @@ impl<'a> IndexHead<'a> {
     pub fn num_entries(&self) -> u32
         ensures { result ≡ num_entries_of (content self.now) }
     {
-        word(self.window, 8)
+        word(self.window, Self::NUM_ENTRIES as usize)
     }
 
     /// The sum of the items' charges, modulo 2^32.
     pub fn num_bytes(&self) -> u32
         ensures { result ≡ num_bytes_of (content self.now) }
     {
-        word(self.window, 12)
+        word(self.window, Self::NUM_BYTES as usize)
     }
 
     /// The last external number that was made.
     pub fn last_file(&self) -> u32
         ensures { result ≡ last_file_of (content self.now) }
     {
-        word(self.window, 16)
+        word(self.window, Self::LAST_FILE as usize)
     }
 
     /// The number of the session, raised at each opening.
     pub fn this_id(&self) -> u32
         ensures { result ≡ this_id_of (content self.now) }
     {
-        word(self.window, 20)
+        word(self.window, Self::THIS_ID as usize)
     }
 
     /// A word that is to be 0.
@@ -144,14 +150,14 @@ impl<'a> IndexHead<'a> {
     pub fn table_len(&self) -> u32
         ensures { result ≡ table_len_of (content self.now) }
     {
-        word(self.window, 28)
+        word(self.window, Self::TABLE_LEN as usize)
     }
 
     /// 1 while a session is open.
     pub fn crash(&self) -> u32
         ensures { result ≡ crash_of (content self.now) }
     {
-        word(self.window, 32)
+        word(self.window, Self::CRASH as usize)
     }
 
     /// A word that is to be 0.
@@ -165,7 +171,7 @@ impl<'a> IndexHead<'a> {
     pub fn create_time(&self) -> u64
         ensures { result ≡ create_time_of (content self.now) }
     {
-        long(self.window, 40)
+        long(self.window, Self::CREATE_TIME as usize)
     }
 
     /// One of 52 words that are not used.
@@ -196,7 +202,7 @@ impl<'a> IndexHead<'a> {
         requires { i < 5 }
         ensures { result ≡ sizes_of (content self.now) i }
     {
-        word(self.window, 268 + 4 * i)
+        word(self.window, Self::SIZES as usize + 4 * i)
     }
 
     /// One of 5 words: the head of the use list, and then zeros.
@@ -204,7 +210,7 @@ impl<'a> IndexHead<'a> {
         requires { i < 5 }
         ensures { result ≡ heads_of (content self.now) i }
     {
-        word(self.window, 288 + 4 * i)
+        word(self.window, Self::HEADS as usize + 4 * i)
     }
 
     /// One of 5 words: the tail of the use list, and then zeros.
@@ -212,21 +218,21 @@ impl<'a> IndexHead<'a> {
         requires { i < 5 }
         ensures { result ≡ tails_of (content self.now) i }
     {
-        word(self.window, 308 + 4 * i)
+        word(self.window, Self::TAILS as usize + 4 * i)
     }
 
     /// The node of the operation in flight, or 0.
     pub fn transaction(&self) -> u32
         ensures { result ≡ transaction_of (content self.now) }
     {
-        word(self.window, 328)
+        word(self.window, Self::TRANSACTION as usize)
     }
 
     /// The operation in flight: 1 insert, 2 remove, 3 move.
     pub fn operation(&self) -> u32
         ensures { result ≡ operation_of (content self.now) }
     {
-        word(self.window, 332)
+        word(self.window, Self::OPERATION as usize)
     }
 
     /// A word that is to be 0.

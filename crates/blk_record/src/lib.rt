@@ -23,3 +23,4 @@ pub use index_head::IndexHead;
 pub use node::{NodeMut, NodeView};
 pub use record::{Record, RecordMut, lent_fields_are_set};
 pub use sparse_head::SparseHead;
+pub use words::WORD_VALUES;

@@ -5,6 +5,9 @@ ghost use Rattle.blk_image.specs.Steps.{with_word};
 
 use byteorder::{ByteOrder, LittleEndian};
 
+/// How many values a word has: a time of two words is its low word and so many times its high word.
+pub const WORD_VALUES: u64 = 0x1_0000_0000;
+
 // The number of the two bytes from a place on.
 pub(crate) fn half(window: &[u8], at: usize) -> u16
     requires { at + 2 ≤ length window.now }

@@ -13,12 +13,6 @@ use blk_index::{set_word, word};
 use blk_io::{Fault, Folder};
 use blk_record::IndexHead;
 
-/// The place of the number of the session in the index, in bytes.
-pub const THIS_ID: u64 = 20;
-
-/// The place of the crash word in the index, in bytes.
-pub const CRASH: u64 = 32;
-
 /// Makes the counters of the index and the number of the session these, and then the crash word 1: the number of the
 /// items, twice, the sum of their charges modulo 2^32, and the number.
 ///
@@ -47,10 +41,10 @@ pub fn mend_index<F: Folder>(f: &mut F, items: u32, bytes: u32, this_id: u32) ->
         (IndexHead::SIZES, items),
         (IndexHead::NUM_ENTRIES, items),
         (IndexHead::NUM_BYTES, bytes),
-        (THIS_ID, this_id),
+        (IndexHead::THIS_ID, this_id),
     ];
     set_words(f, &words)?;
-    set_word(f, CRASH, 1)?;
+    set_word(f, IndexHead::CRASH, 1)?;
     Ok(())
 }
 

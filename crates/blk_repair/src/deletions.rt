@@ -14,15 +14,12 @@ ghost use Rattle.blk_repair.specs.Deletions.{DeletesAll, DeletesSome, IsMidDelet
 ghost use Rattle.blk_repair.specs.Maps.{IsNextRebuilt};
 ghost use Rattle.blk_repair.specs.Seals.{HasMendedLinksOf};
 
-use blk_addr::{Addr, Claims};
+use blk_addr::{Addr, Claims, LAST_EXTERNAL};
 use blk_disk::BlockFiles;
 use blk_io::{Failed, FileId, Folder};
 
 // The last of the first four block files, which are always linked.
 const LAST_FIRST_FILE: u8 = 3;
-
-// The number behind the last one that the addresses of external files have.
-const NUMBERS: u32 = 0x1000_0000;
 
 /// Deletes each block file that is there and isn't linked.
 ///
@@ -144,5 +141,5 @@ fn delete_external<F: Folder>(f: &mut F, claims: &Claims, number: u32) -> Result
 fn is_claimed(claims: &Claims, number: u32) -> bool
     ensures { result ≡ is_number_claimed claims.now number }
 {
-    0 < number && number < NUMBERS && claims.has(Addr::of_external(number))
+    0 < number && number <= LAST_EXTERNAL && claims.has(Addr::of_external(number))
 }

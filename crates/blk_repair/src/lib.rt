@@ -18,7 +18,7 @@ mod seals;
 mod tables;
 
 pub use chains::mend_chain;
-pub use counters::{CRASH, THIS_ID, mend_index};
+pub use counters::mend_index;
 pub use deletions::{delete_unclaimed, delete_unlinked};
 pub use list::mend_list;
 pub use maps::mend_files;

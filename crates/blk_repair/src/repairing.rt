@@ -20,7 +20,7 @@ ghost use Rattle.blk_repair.specs.Damages.{IsChainsRepairDamage};
 ghost use Rattle.blk_repair.specs.Maps.{IsNextRebuilt};
 ghost use Rattle.blk_repair.specs.Repair.{AreBucketsScanned, AreLinksMended, AreOnlyKeptLeft, AreOthersDeleted, EndsWithCrashWord, IsBehindRepairDamage, IsLinksRepairDamage, IsNextFinished, IsRepairDamage, IsRepairable, IsRepaired, IsRepairedFor, IsRestRepairDamage, NeedsOnlyWords, counting_steps, next_id as id_after};
 
-use crate::counters::{THIS_ID, mend_index};
+use crate::counters::mend_index;
 use crate::deletions::{delete_unclaimed, delete_unlinked};
 use crate::list::mend_list;
 use crate::maps::mend_files;
@@ -30,10 +30,8 @@ use blk_addr::Claims;
 use blk_disk::BlockFiles;
 use blk_index::word;
 use blk_io::{Failed, Fault, Folder};
+use blk_record::{IndexHead, WORD_VALUES};
 use blk_scan::Scan;
-
-// The number of the words that there are.
-const WORDS: u64 = 0x1_0000_0000;
 
 /// Repairs a folder by what its audit told: the use list, the chains, the block files, the files that nothing names,
 /// the seals, and the words of the index. The last step makes the crash word 1, in a session with the next number.
@@ -66,7 +64,7 @@ pub fn repair<F: Folder>(f: &mut F, files: &mut BlockFiles, scan: &Scan) -> Resu
     ensures later { F.faults f.old ≤ F.faults f.new }
     ensures device { IfDevice result (Rises (F.faults f.old) (F.faults f.new)) }
 {
-    let this_id = word(f, THIS_ID)?;
+    let this_id = word(f, IndexHead::THIS_ID)?;
     mend_all(f, files, scan, next_id(this_id))
 }
 
@@ -235,5 +233,5 @@ fn mend_rest<F: Folder>(
 fn low_word(value: u64) -> u32
     ensures { result ≡ value % 2 ^ 32 }
 {
-    (value % WORDS) as u32
+    (value % WORD_VALUES) as u32
 }

@@ -66,9 +66,9 @@ fn first_in_head<F: Folder>(f: &mut F) -> Result<Option<Used>, Fault>
         (8, head.num_entries()),
         (12, head.num_bytes()),
         (268, head.sizes(0)),
-        (288, head.heads(0)),
-        (308, head.tails(0)),
-        (328, head.transaction()),
+        (IndexHead::HEADS as u32, head.heads(0)),
+        (IndexHead::TAILS as u32, head.tails(0)),
+        (IndexHead::TRANSACTION as u32, head.transaction()),
     ]))
 }
 

@@ -3,7 +3,7 @@ use crate::calls::{ENTRIES, Sort, many};
 use blk_cache::Cache;
 use blk_io::{FileId, Folder, MemFolder, SilentFolder, read_word};
 use blk_model::{Limits, MOST_BYTES, MOST_ITEMS};
-use blk_repair::{CRASH, THIS_ID};
+use blk_record::IndexHead;
 use std::alloc::Global;
 use std::test::Fail;
 
@@ -24,12 +24,12 @@ fn session<F: Folder>(alloc: Global, f: &mut SilentFolder<F>) -> Result<(Shown, 
     let cache = Cache::start(alloc, f, LIMITS, MOMENT)?;
     let opening = f.calls().wrapping_sub(start);
     let totals = cache.totals();
-    let number = read_word(f, FileId::Index, THIS_ID)?;
-    let opened = read_word(f, FileId::Index, CRASH)?;
+    let number = read_word(f, FileId::Index, IndexHead::THIS_ID)?;
+    let opened = read_word(f, FileId::Index, IndexHead::CRASH)?;
     let start = f.calls();
     cache.finish(f)?;
     let ending = f.calls().wrapping_sub(start);
-    let ended = read_word(f, FileId::Index, CRASH)?;
+    let ended = read_word(f, FileId::Index, IndexHead::CRASH)?;
     Ok(((totals, number, [opened, ended]), opening, ending))
 }
 

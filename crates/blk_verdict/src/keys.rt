@@ -12,15 +12,12 @@ ghost use Rattle.blk_verdict.specs.Reads.{IsCutRead};
 ghost use Rattle.blk_audit.specs.Records.{fields_said};
 
 use crate::storage::is_stored;
-use blk_addr::Addr;
+use blk_addr::{Addr, LONGEST_SHORT_KEY};
 use blk_audit::RecordWords;
 use blk_disk::BlockFiles;
 use blk_entry::read_data;
 use blk_io::{Failed, Fault, Folder};
 use blk_record::{EntryView, Record};
-
-// The longest key that lies in its record.
-const MOST_IN_RECORD: u32 = 927;
 
 // Whether the key of a record is stored as its length asks for; one folder call where it is an external file.
 pub(crate) fn has_key<F: Folder>(
@@ -35,7 +32,7 @@ pub(crate) fn has_key<F: Folder>(
     ensures later { F.faults f.old ≤ F.faults f.new }
     ensures failed { OnErr result (Rises (F.faults f.old) (F.faults f.new)) }
 {
-    if words.key_len <= MOST_IN_RECORD {
+    if words.key_len <= LONGEST_SHORT_KEY {
         return Ok(words.long_key == 0);
     }
     is_stored(f, files, words.key_len + 1, words.long_key)
@@ -60,7 +57,7 @@ pub(crate) fn read_key<F: Folder>(
     ensures later { F.faults f.old ≤ F.faults f.new }
     ensures device { IfDevice result (Rises (F.faults f.old) (F.faults f.new)) }
 {
-    if words.key_len <= MOST_IN_RECORD {
+    if words.key_len <= LONGEST_SHORT_KEY {
         return read_data(f, files, entry, EntryView::SIZE as u32, out);
     }
     let Some(addr) = Addr::from_word(words.long_key) else {

@@ -4,6 +4,7 @@ ghost use Rattle.std.specs.Fd.{file_raw_fd};
 
 use crate::again::again;
 use crate::spelling::name_of;
+use blk_addr::BLOCK_FILES;
 use blk_io::FileId;
 use std::alloc::{AllocError, Global};
 use std::fs::{File, OpenOptions};
@@ -11,9 +12,6 @@ use std::io::ErrorKind;
 use std::os::fd::AsRawFd;
 use std::rt::Files;
 use std::{array, fs, io};
-
-// How many block files a folder can have: their numbers are 0 to 255.
-const BLOCK_FILES: usize = 256;
 
 // The descriptors of the standard streams are 0 to this one.
 const LAST_STREAM: i32 = 2;

@@ -5,11 +5,9 @@ ghost use Rattle.blk_io.specs.declared.folder.FileId.{FileId};
 ghost use Rattle.blk_io.specs.Texts.{hex_text};
 ghost use Rattle.blkcache.specs.Spelling.{IsCacheFile, name_text};
 
+use blk_addr::LAST_EXTERNAL;
 use blk_io::FileId;
 use std::alloc::{AllocError, Global};
-
-// External files have the numbers from 1 to this one.
-const LAST_EXTERNAL: u32 = 0x0fff_ffff;
 
 /// The name of a cache file.
 pub fn name_of(alloc: Global, file: FileId) -> Result<String, AllocError>
