@@ -24,6 +24,9 @@ use blk_record::{BlockHead, EntryView, Record};
 /// The longest key of all, in bytes: the name of a part.
 pub const LONGEST_NAME: u32 = 32796;
 
+// The bytes of a block of a record.
+const BLOCK: u64 = RECORD_BLOCK as u64;
+
 /// The words of a record that say what it is, and where its chain goes on.
 #[derive(Clone, Copy, Debug)]
 pub struct Head {
@@ -153,7 +156,7 @@ pub fn record_damage(entry: Addr, at: u32, found: u32) -> Fault
     requires small { at < entry_size }
     ensures { keys.IsDamageAt entry at found result }
 {
-    let front = BlockHead::HEADER_LEN + u64::from(entry.start()) * u64::from(RECORD_BLOCK);
+    let front = BlockHead::HEADER_LEN + u64::from(entry.start()) * BLOCK;
     Fault::Damaged(Damage {
         file: file_of(entry),
         at: front + u64::from(at),
