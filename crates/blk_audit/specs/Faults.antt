@@ -13,6 +13,7 @@ use Rattle.blk_io.specs.Faults.{IsShort}
 use Rattle.blk_disk.specs.declared.tables.BlockFiles.{BlockFiles}
 use Rattle.blk_disk.specs.Tables.{stands_among}
 use Rattle.blk_lru.specs.Damages.{IsPendingDamage}
+use Rattle.blk_audit.specs.Pieces.{piece_length, record_block_size}
 use Rattle.blk_audit.specs.declared.fault.ScanFault.{ScanFault}
 use Rattle.blk_audit.specs.declared.fault.ScanFault.TheVariants.{Device, Damaged, Memory}
 
@@ -61,7 +62,7 @@ pub record IsRecordDamage (files : BlockFiles) (told : Told) (damage : Damage) :
 pub record IsRecordsDamage (told : Told) (damage : Damage) : Type 0 where
   pub file : ℕ
   pub first : ℕ
-  pub short : IsShort told (names.Block file) (header_size + first * 256) 32768 damage
+  pub short : IsShort told (names.Block file) (header_size + first * record_block_size) piece_length damage
 
 -- the words of neighbouring buckets were read, from one on, and their bytes are too few
 pub record IsTableDamage (told : Told) (damage : Damage) : Type 0 where

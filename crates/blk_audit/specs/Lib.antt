@@ -6,6 +6,7 @@ pub mod Faults
 pub mod Filled
 pub mod Filling
 pub mod Nodes
+pub mod Pieces
 pub mod ReadLists
 pub mod Records
 pub mod SealLaws

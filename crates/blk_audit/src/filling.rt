@@ -3,8 +3,11 @@ ghost use Rattle.std.specs.Prelude.{◌≡◌, ◌+◌, ◌*◌, ◌≤◌, ◌<
 ghost use Rattle.std.specs.Option.{ForSome};
 ghost use Rattle.blk_image.specs.Image.{Block as block, HasRange, byte};
 ghost use Rattle.blk_image.specs.Told.{Rises, Stays};
+ghost use Rattle.blk_format.specs.Address.{header_size};
+ghost use Rattle.blk_format.specs.Records.{node_size};
 ghost use Rattle.blk_audit.specs.Faults.{IfScanDamaged, IfScanDevice, IsShortOfNodes};
 ghost use Rattle.blk_audit.specs.Filling.{node_said, nodes_in, nodes_from};
+ghost use Rattle.blk_audit.specs.Pieces.{nodes_of_piece};
 
 use crate::fault::ScanFault;
 use crate::nodes::Node;
@@ -17,7 +20,7 @@ const NODES_OF_PIECE: usize = 1024;
 
 // What a node with these bytes says.
 fn said(window: &[u8]) -> Node
-    requires { length window.now ≡ 36 }
+    requires { length window.now ≡ node_size }
     ensures { result ≡ node_said window.now }
 {
     let Some(view) = NodeView::over(window) else {
@@ -35,7 +38,7 @@ fn said(window: &[u8]) -> Node
 
 // Adds so many nodes with these bytes.
 fn add_nodes(nodes: &mut Vec<Node>, bytes: &[u8], count: usize) -> Result<(), NoMemory>
-    requires { length bytes.now ≡ 36 * count }
+    requires { length bytes.now ≡ node_size * count }
     ensures { OnOk result (nodes.new.items ≡ nodes.old.items ++ nodes_in bytes.now count) }
 {
     for i in 0..count {
@@ -54,13 +57,13 @@ fn read_piece<F: Folder>(
     bytes: &mut [u8],
     nodes: &mut Vec<Node>,
 ) -> Result<(), ScanFault>
-    requires few { count ≤ 1024 }
-    requires size { length bytes.old ≡ 36 * count }
-    ensures nodes { OnOk result (ForSome (F.told f.old).files (λ image. nodes.new.items ≡ nodes.old.items ++ nodes_from (byte image (block file)) (8192 + first * 36) count)) }
-    ensures checked { OnOk result (ForSome (F.told f.old).files (λ image. 0 < count → HasRange image (block file) (8192 + first * 36) (36 * count))) }
+    requires few { count ≤ nodes_of_piece }
+    requires size { length bytes.old ≡ node_size * count }
+    ensures nodes { OnOk result (ForSome (F.told f.old).files (λ image. nodes.new.items ≡ nodes.old.items ++ nodes_from (byte image (block file)) (header_size + first * node_size) count)) }
+    ensures checked { OnOk result (ForSome (F.told f.old).files (λ image. 0 < count → HasRange image (block file) (header_size + first * node_size) (node_size * count))) }
     ensures stays { Stays (F.told f.old) (F.told f.new) }
     ensures damaged { IfScanDamaged result (IsShortOfNodes (F.told f.new) file) }
-    ensures untold { ForSome (F.told f.new).files (λ image. HasRange image (block file) (8192 + first * 36) (36 * count)) → IfScanDamaged result (λ _. (F.told f.new).files ≡ None) }
+    ensures untold { ForSome (F.told f.new).files (λ image. HasRange image (block file) (header_size + first * node_size) (node_size * count)) → IfScanDamaged result (λ _. (F.told f.new).files ≡ None) }
     ensures later { F.faults f.old ≤ F.faults f.new }
     ensures device { IfScanDevice result (Rises (F.faults f.old) (F.faults f.new)) }
 {
@@ -78,11 +81,11 @@ pub(crate) fn read_file<F: Folder>(
     nodes: &mut Vec<Node>,
 ) -> Result<(), ScanFault>
     requires few { count ≤ 65536 }
-    ensures nodes { OnOk result (ForSome (F.told f.old).files (λ image. nodes.new.items ≡ nodes.old.items ++ nodes_from (byte image (block file)) 8192 count)) }
-    ensures checked { OnOk result (ForSome (F.told f.old).files (λ image. 0 < count → HasRange image (block file) 8192 (36 * count))) }
+    ensures nodes { OnOk result (ForSome (F.told f.old).files (λ image. nodes.new.items ≡ nodes.old.items ++ nodes_from (byte image (block file)) header_size count)) }
+    ensures checked { OnOk result (ForSome (F.told f.old).files (λ image. 0 < count → HasRange image (block file) header_size (node_size * count))) }
     ensures stays { Stays (F.told f.old) (F.told f.new) }
     ensures damaged { IfScanDamaged result (IsShortOfNodes (F.told f.new) file) }
-    ensures untold { ForSome (F.told f.new).files (λ image. 0 < count → HasRange image (block file) 8192 (36 * count)) → IfScanDamaged result (λ _. (F.told f.new).files ≡ None) }
+    ensures untold { ForSome (F.told f.new).files (λ image. 0 < count → HasRange image (block file) header_size (node_size * count)) → IfScanDamaged result (λ _. (F.told f.new).files ≡ None) }
     ensures later { F.faults f.old ≤ F.faults f.new }
     ensures device { IfScanDevice result (Rises (F.faults f.old) (F.faults f.new)) }
 {
@@ -101,7 +104,7 @@ pub(crate) fn read_file<F: Folder>(
 fn piece_from(first: u32, count: u32) -> u32
     requires { first < count }
     ensures some { 0 < result }
-    ensures most { result ≤ 1024 }
+    ensures most { result ≤ nodes_of_piece }
     ensures within { first + result ≤ count }
 {
     (count - first).min(NODES_OF_PIECE as u32)

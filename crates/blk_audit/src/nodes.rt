@@ -4,6 +4,7 @@ ghost use Rattle.std.specs.Option.{ForSome};
 ghost use Rattle.blk_image.specs.Told.{Rises, Stays};
 ghost use Rattle.blk_disk.specs.Tables.{Agrees};
 ghost use Rattle.blk_audit.specs.Faults.{IfScanDamaged, IfScanDevice, IsNodesDamage};
+ghost use Rattle.blk_audit.specs.Pieces.{file_numbers};
 ghost use Rattle.blk_format.specs.Address.{file_selector, kind_of, rankings};
 
 use crate::counting::count_there;
@@ -31,8 +32,8 @@ pub(crate) struct Nodes {
     begins: [u32; BLOCK_FILES],
     counts: [u32; BLOCK_FILES],
     nodes: Vec<Node>,
-    ghost all_begins: { length begins ≡ 256 },
-    ghost all_counts: { length counts ≡ 256 },
+    ghost all_begins: { length begins ≡ file_numbers },
+    ghost all_counts: { length counts ≡ file_numbers },
 }
 
 impl Nodes {
@@ -96,7 +97,7 @@ impl Nodes {
 #[tactic(auto, using(std::proofs::lemmas::Bool::Decides::nat_tests), unfolding(blk_addr::specs::FileId::file_of_word))]
 fn file_of_node(addr: Addr) -> Option<usize>
     ensures file { result ≡ (if kind_of addr == rankings then Some (file_selector addr) else None) }
-    ensures small { IfSome result (λ file. file < 256) }
+    ensures small { IfSome result (λ file. file < file_numbers) }
 {
     if addr.kind() != Kind::Rankings {
         return None;

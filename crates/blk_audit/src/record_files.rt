@@ -5,18 +5,20 @@ ghost use Rattle.std.specs.Option.{ForSome};
 ghost use Rattle.blk_image.specs.Bytes.{range_at};
 ghost use Rattle.blk_image.specs.Image.{AreBytes, Block as block, HasRange, Image, byte};
 ghost use Rattle.blk_image.specs.Told.{Rises, Stays};
-ghost use Rattle.blk_format.specs.Address.{blocks_256, kind_of};
+ghost use Rattle.blk_format.specs.Address.{blocks_256, header_size, kind_of};
 ghost use Rattle.blk_format.specs.Claims.{BlockOf};
+ghost use Rattle.blk_format.specs.Records.{entry_size};
 ghost use Rattle.blk_addr.specs.Claims.{contains_claim};
 ghost use Rattle.blk_io.specs.Faults.{IfDamaged, IfDevice};
 ghost use Rattle.blk_disk.specs.Tables.{Agrees, stands_among};
 ghost use Rattle.blk_audit.specs.Faults.{IfScanDamaged, IfScanDevice, IsRecordDamage, IsRecordsDamage};
+ghost use Rattle.blk_audit.specs.Pieces.{blocks_of_piece, piece_length, record_block_size};
 ghost use Rattle.blk_audit.specs.Records.{AreRecordsOf, IsSaidBy};
 
 use crate::fault::ScanFault;
 use crate::record_words::read_words;
 use crate::records::{ReadRecord, first_of_record, record_of_bytes};
-use blk_addr::{Addr, Claims, Kind, NoMemory, RECORD_BLOCK};
+use blk_addr::{Addr, BLOCK_FILES, Claims, Kind, NoMemory, RECORD_BLOCK};
 use blk_disk::BlockFiles;
 use blk_io::{Fault, FileId, Folder, read_exact};
 use blk_record::BlockHead;
@@ -92,9 +94,9 @@ impl Records {
         first: u32,
         bytes: &[u8],
     ) -> Result<(), NoMemory>
-        requires inside { first + 128 ≤ 65536 }
-        requires size { length bytes.now ≡ 32768 }
-        ensures { OnOk result ((image : Image) → AreBytes image → HasRange image (block file) (8192 + first * 256) 32768 → bytes.now ≡ range_at (byte image (block file)) (8192 + first * 256) 32768 → AreRecordsOf image self.old → AreRecordsOf image self.new) }
+        requires inside { first + blocks_of_piece ≤ 65536 }
+        requires size { length bytes.now ≡ piece_length }
+        ensures { OnOk result ((image : Image) → AreBytes image → HasRange image (block file) (header_size + first * record_block_size) piece_length → bytes.now ≡ range_at (byte image (block file)) (header_size + first * record_block_size) piece_length → AreRecordsOf image self.old → AreRecordsOf image self.new) }
     {
         for i in 0..BLOCKS_OF_PIECE {
             let at = BLOCK * i as usize;
@@ -106,8 +108,8 @@ impl Records {
     // Adds the record that begins with a block of a file, where the block has a claim; these are the bytes from it on.
     fn add(&mut self, named: &Claims, file: u8, start: u32, bytes: &[u8]) -> Result<(), NoMemory>
         requires small { start < 65536 }
-        requires size { 96 ≤ length bytes.now }
-        ensures { OnOk result ((image : Image) → AreBytes image → HasRange image (block file) (8192 + start * 256) (length bytes.now) → bytes.now ≡ range_at (byte image (block file)) (8192 + start * 256) (length bytes.now) → AreRecordsOf image self.old → AreRecordsOf image self.new) }
+        requires size { entry_size ≤ length bytes.now }
+        ensures { OnOk result ((image : Image) → AreBytes image → HasRange image (block file) (header_size + start * record_block_size) (length bytes.now) → bytes.now ≡ range_at (byte image (block file)) (header_size + start * record_block_size) (length bytes.now) → AreRecordsOf image self.old → AreRecordsOf image self.new) }
     {
         if !named.has_block(file, start) {
             return Ok(());
@@ -126,11 +128,11 @@ impl Records {
         file: u8,
         first: u32,
     ) -> Result<(), ScanFault>
-        requires inside { first + 128 ≤ 65536 }
+        requires inside { first + blocks_of_piece ≤ 65536 }
         ensures records { OnOk result (ForSome (F.told f.old).files (λ image. AreRecordsOf image self.old → AreRecordsOf image self.new)) }
         ensures stays { Stays (F.told f.old) (F.told f.new) }
         ensures damaged { IfScanDamaged result (IsRecordsDamage (F.told f.new)) }
-        ensures untold { ForSome (F.told f.new).files (λ image. HasRange image (block file) (8192 + first * 256) 32768) → IfScanDamaged result (λ _. (F.told f.new).files ≡ None) }
+        ensures untold { ForSome (F.told f.new).files (λ image. HasRange image (block file) (header_size + first * record_block_size) piece_length) → IfScanDamaged result (λ _. (F.told f.new).files ≡ None) }
         ensures later { F.faults f.old ≤ F.faults f.new }
         ensures device { IfScanDevice result (Rises (F.faults f.old) (F.faults f.new)) }
     {
@@ -173,8 +175,8 @@ impl Records {
 
 // Whether one of the blocks of a piece has a claim.
 fn has_named(named: &Claims, file: u8, first: u32) -> bool
-    requires inside { first + 128 ≤ 65536 }
-    ensures { result ≡ list_any (λ b. contains_claim named.now (BlockOf file b)) (range_with_len first 128) }
+    requires inside { first + blocks_of_piece ≤ 65536 }
+    ensures { result ≡ list_any (λ b. contains_claim named.now (BlockOf file b)) (range_with_len first blocks_of_piece) }
 {
     (first..first + BLOCKS_OF_PIECE).any(|block| named.has_block(file, block))
 }
@@ -196,7 +198,7 @@ pub(crate) fn read_records<F: Folder>(
     let mut records = Records {
         placed: Vec::new(alloc),
     };
-    for n in 0..256u32 {
+    for n in 0..BLOCK_FILES as u32 {
         records.read_file(f, files, named, n as u8)?;
     }
     Ok(records)

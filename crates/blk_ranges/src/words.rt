@@ -8,9 +8,6 @@ pub(crate) const WORDS: usize = 32;
 /// The bits of a word.
 pub(crate) const BITS: u32 = 32;
 
-/// The blocks of a part.
-pub(crate) const BLOCKS: u32 = 1024;
-
 /// The bits of word i that stand for the blocks from one on and below another.
 pub(crate) fn bits_between(i: usize, first: u32, last: u32) -> u32
     requires { i < 32 }

@@ -14,8 +14,8 @@ use blk_entry::record_damage;
 use blk_io::Fault;
 use blk_record::{EntryView, Record};
 
-// The most bytes of a stream.
-const MOST_BYTES: u32 = 2_147_483_647;
+// The most bytes of a stream: as many as a cache may keep.
+const MOST_BYTES: u32 = blk_model::MOST_BYTES as u32;
 
 // The bytes of a stream: how many there are, and where they lie, if there are any.
 #[derive(Clone, Copy, Debug)]

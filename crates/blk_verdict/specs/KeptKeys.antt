@@ -3,7 +3,7 @@ use Rattle.std.specs.Prelude.{ℕ, ◌≡◌, slice_index}
 use Rattle.std.specs.declared.option.Option.TheVariants.{Some}
 use Rattle.std.specs.declared.result.Result.TheVariants.{Ok}
 use Rattle.blk_image.specs.Image.{Image}
-use Rattle.blk_format.specs.SparseIndex.{ParentIndex, read_parent_index}
+use Rattle.blk_format.specs.SparseIndex.{ParentIndex, parent_index_length, read_parent_index}
 use Rattle.blk_volume.specs.Entries.{IsParent, stream}
 use Rattle.blk_volume.specs.Loads as shown
 use Rattle.blk_volume.specs.Loads.{held_rule}
@@ -19,4 +19,4 @@ LoadedKeysAreFound = (image : Image) (node : ℕ) (loaded : shown.Loaded) (said 
 -- and where it is a parent, to its index
 abbrev pub LoadedIndexesAreFound : Type 0
 LoadedIndexesAreFound = (image : Image) (node : ℕ) (loaded : shown.Loaded) (said : Loaded) (index : ParentIndex) → shown.load (store_of image) held_rule node ≡ Ok loaded → IsLoaded loaded said → loaded.role ≡ IsParent index
-    → (stored_at image 8256 (slice_index said.addrs 2) ≡ Some (stream 2 loaded.streams)) × (read_parent_index (stream 2 loaded.streams) ≡ Some index)
+    → (stored_at image parent_index_length (slice_index said.addrs 2) ≡ Some (stream 2 loaded.streams)) × (read_parent_index (stream 2 loaded.streams) ≡ Some index)

@@ -3,6 +3,7 @@ use Rattle.std.specs.Prelude.{ℕ, ◌≡◌, List, true, slice_index}
 use Rattle.std.specs.declared.option.Option.{Option}
 use Rattle.std.specs.declared.option.Option.TheVariants.{None, Some}
 use Rattle.blk_format.specs.Address.{blocks_256, kind_of}
+use Rattle.blk_format.specs.SparseIndex.{parent_index_length}
 use Rattle.blk_disk.specs.declared.tables.BlockFiles.{BlockFiles}
 use Rattle.blk_disk.specs.Tables.{stands_among}
 use Rattle.blk_entry.specs.Keys.{IsPlaced, stores}
@@ -15,7 +16,7 @@ use Rattle.blk_verdict.specs.declared.roles.Role.TheVariants.{Plain, Parent, Par
 -- the index of a parent is stored, with the length of one, where the sizes and the address words of its streams say
 abbrev pub HasIndex : BlockFiles → List ℕ → List ℕ → Role → Type 0
 HasIndex files sizes addrs Plain = Unit {0}
-HasIndex files sizes addrs (Parent head) = (slice_index sizes 2 ≡ 8256) × (stores files 8256 (slice_index addrs 2) ≡ true)
+HasIndex files sizes addrs (Parent head) = (slice_index sizes 2 ≡ parent_index_length) × (stores files parent_index_length (slice_index addrs 2) ≡ true)
 HasIndex files sizes addrs (Part said) = Unit {0}
 
 -- so it is where there is a role

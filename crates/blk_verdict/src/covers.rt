@@ -3,15 +3,11 @@ ghost use Rattle.std.specs.Prelude.{◌≡◌, ◌+◌, ◌*◌, ◌==◌, ◌&&
 ghost use Rattle.std.specs.Int.{cast_unsigned, w64};
 ghost use Rattle.std.specs.List.{list_all, range_with_len};
 ghost use Rattle.std.specs.Option.{option_map_or};
+ghost use Rattle.blk_model.specs.Sizes.{part_block_size, part_blocks};
 ghost use Rattle.blk_volume.specs.Entries as entries;
 ghost use Rattle.blk_ranges.specs.PartMaps.{index_of, map_signature, partial_of};
 
 use blk_ranges::{ChildName, PartMap};
-
-// The blocks of a part, and the bytes of one.
-const BLOCKS: u32 = 1024;
-
-const BLOCK_SIZE: u32 = 1024;
 
 // Whether a map has the signature and the length of the key that a name says.
 pub(crate) fn is_named(map: &PartMap, name: &ChildName) -> bool
@@ -30,17 +26,17 @@ pub(crate) fn is_covered(map: &PartMap, size: u32) -> bool
 
 // Whether the blocks that are present lie inside so many bytes.
 fn has_blocks(map: &PartMap, size: u32) -> bool
-    ensures { result ≡ list_all (λ b. not ((index_of map.now).present b) || nat_le (1024 * (b + 1)) size) (range_with_len 0 1024) }
+    ensures { result ≡ list_all (λ b. not ((index_of map.now).present b) || nat_le (part_block_size * (b + 1)) size) (range_with_len 0 part_blocks) }
 {
-    (0..BLOCKS).all(|block| has_block(map, block, size))
+    (0..PartMap::BLOCKS).all(|block| has_block(map, block, size))
 }
 
 // Whether a block lies inside so many bytes, or is not present.
 #[tactic(auto, using(std::proofs::lemmas::Bool::Decides::nat_tests), unfolding(blk_ranges::specs::PartMaps::index_of))]
 fn has_block(map: &PartMap, block: u32, size: u32) -> bool
-    ensures { result ≡ (not ((index_of map.now).present block) || nat_le (1024 * (block + 1)) size) }
+    ensures { result ≡ (not ((index_of map.now).present block) || nat_le (part_block_size * (block + 1)) size) }
 {
-    !is_present(map, block) || block < size / BLOCK_SIZE
+    !is_present(map, block) || block < size / PartMap::BLOCK_SIZE
 }
 
 // Whether a block is present.
@@ -48,16 +44,16 @@ fn has_block(map: &PartMap, block: u32, size: u32) -> bool
 fn is_present(map: &PartMap, block: u32) -> bool
     ensures { result ≡ (index_of map.now).present block }
 {
-    block < BLOCKS && map.has(block)
+    block < PartMap::BLOCKS && map.has(block)
 }
 
 // Whether the piece of the partial block lies inside so many bytes.
 fn has_piece(map: &PartMap, size: u32) -> bool
-    ensures { result ≡ option_map_or (λ piece. nat_le (1024 * piece.0 + piece.1) size) (partial_of map.now) true }
+    ensures { result ≡ option_map_or (λ piece. nat_le (part_block_size * piece.0 + piece.1) size) (partial_of map.now) true }
 {
     match map.partial() {
         Some((block, len)) => {
-            u64::from(BLOCK_SIZE) * u64::from(block) + u64::from(len) <= u64::from(size)
+            u64::from(PartMap::BLOCK_SIZE) * u64::from(block) + u64::from(len) <= u64::from(size)
         }
         None => true,
     }

@@ -11,6 +11,7 @@ ghost use Rattle.blk_volume.specs.Loads as shown;
 ghost use Rattle.blk_volume.specs.View.{store_of};
 ghost use Rattle.blk_io.specs.Faults.{IfDamaged, IfDevice};
 ghost use Rattle.blk_disk.specs.Tables.{Agrees};
+ghost use Rattle.blk_entry.specs.Keys.{most_key};
 ghost use Rattle.blk_audit.specs.Faults.{IfScanDamaged, IfScanDevice};
 ghost use Rattle.blk_verdict.specs.Kept.{AreShown, HasPartNumber, HaveKeys, IsAlwaysInOrder, IsSameAnswer, IsKeptInOrder, IsIndexed, IsLoadedFrom, NoneMayBe, addresses_of, addresses_of_all, claims_kept, is_sought, kept_with, records_kept};
 ghost use Rattle.blk_verdict.specs.Keyed.{HasItsKey};
@@ -27,13 +28,11 @@ use crate::same_keys::read_key_of;
 use blk_addr::{Claims, NoMemory};
 use blk_audit::ScanFault;
 use blk_disk::BlockFiles;
+use blk_entry::LONGEST_NAME;
 use blk_io::{Fault, Folder};
 use blk_ranges::read_child_name;
 use blk_record::super_fast_hash;
 use std::alloc::Global;
-
-// The longest key: the name of a part.
-const MOST_NAME: usize = 32_796;
 
 // Where in a name the key begins.
 const KEY_OF_NAME: usize = 6;
@@ -188,7 +187,7 @@ impl KeptSoFar {
     ) -> Result<bool, Fault>
         requires order { IsKeptInOrder files.now self.now }
         requires readable { IsReadable files.now loaded.now }
-        requires short { loaded.now.key_len ≤ 32796 }
+        requires short { loaded.now.key_len ≤ most_key }
         requires part { HasPartNumber sought }
         ensures has { IfOk result (λ has. ForSome (F.told f.old).files (λ image. Agrees files.now image → (kept : List shown.Loaded) (given : shown.Loaded) → AreShown image kept self.now.kept.items → IsLoadedFrom image given loaded.now → has ≡ list_any (is_sought sought given.key) kept)) }
         ensures stays { Stays (F.told f.old) (F.told f.new) }
@@ -197,7 +196,7 @@ impl KeptSoFar {
         ensures later { F.faults f.old ≤ F.faults f.new }
         ensures device { IfDevice result (Rises (F.faults f.old) (F.faults f.new)) }
     {
-        let mut buffer = [0u8; MOST_NAME];
+        let mut buffer = [0u8; LONGEST_NAME as usize];
         let key = &mut buffer[..loaded.key_len as usize];
         read_key_of(f, files, loaded, key)?;
         self.has(f, files, loaded.hash, sought, key)
@@ -235,7 +234,7 @@ impl KeptSoFar {
     ) -> Result<bool, Fault>
         requires order { IsKeptInOrder files.now self.now }
         requires readable { IsReadable files.now loaded.now }
-        requires short { loaded.now.key_len ≤ 32796 }
+        requires short { loaded.now.key_len ≤ most_key }
         ensures orphan { IfOk result (λ orphan. ForSome (F.told f.old).files (λ image. Agrees files.now image → (kept : List shown.Loaded) (given : shown.Loaded) → AreShown image kept self.now.kept.items → IsLoadedFrom image given loaded.now → shown.is_part given ≡ true → orphan ≡ audit.is_orphan kept given)) }
         ensures stays { Stays (F.told f.old) (F.told f.new) }
         ensures short { IfDamaged result (IsCutRead files.now (F.told f.old)) }
@@ -243,7 +242,7 @@ impl KeptSoFar {
         ensures later { F.faults f.old ≤ F.faults f.new }
         ensures device { IfDevice result (Rises (F.faults f.old) (F.faults f.new)) }
     {
-        let mut buffer = [0u8; MOST_NAME];
+        let mut buffer = [0u8; LONGEST_NAME as usize];
         let key = &mut buffer[..loaded.key_len as usize];
         read_key_of(f, files, loaded, key)?;
         self.lacks_parent_of(f, files, key)

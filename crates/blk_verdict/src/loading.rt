@@ -9,7 +9,7 @@ ghost use Rattle.blk_format.specs.Headers.{table_length};
 ghost use Rattle.blk_format.specs.Records.{child};
 ghost use Rattle.blk_volume.specs.Chains.{bucket_of_hash, chain};
 ghost use Rattle.blk_volume.specs.Entries.{stored_key};
-ghost use Rattle.blk_entry.specs.Keys.{IsPlaced, may_have};
+ghost use Rattle.blk_entry.specs.Keys.{IsPlaced, may_have, most_key};
 ghost use Rattle.blk_volume.specs.Loads as shown;
 ghost use Rattle.blk_volume.specs.Loads.{held_rule};
 ghost use Rattle.blk_volume.specs.View.{store_of};
@@ -24,20 +24,15 @@ ghost use Rattle.blk_verdict.specs.Verdicts.{IsVerdict, loaded_with};
 
 use crate::keys::{has_key, read_key};
 use crate::reason::Reason;
-use crate::roles::{Role, read_role};
+use crate::roles::{CHILD, Role, read_role};
 use crate::streams::has_streams;
 use crate::words::reason_by_words;
 use blk_addr::Addr;
 use blk_audit::{ReadRecord, RecordWords, read_words};
 use blk_disk::BlockFiles;
+use blk_entry::LONGEST_NAME;
 use blk_io::{Fault, Folder};
 use blk_record::super_fast_hash;
-
-// The flags of a part.
-const CHILD: u32 = 2;
-
-// The longest key: the name of a part.
-const MOST_NAME: usize = 32_796;
 
 /// What is known of a node for which none of the reasons up to `Sparse` holds, and of the record that it names.
 #[derive(Clone, Copy, Debug)]
@@ -170,7 +165,7 @@ fn load_key<F: Folder>(
     requires kind { kind_of entry ≡ blocks_256 }
     requires stands { IsTrue (stands_among files.now entry) }
     requires placed { IsPlaced files.now entry said.now.words.key_len said.now.words.long_key }
-    requires short { said.now.words.key_len ≤ 32796 }
+    requires short { said.now.words.key_len ≤ most_key }
     ensures verdict { IfOk result (λ verdict. ForSome (F.told f.old).files (λ image. (dirty : ℕ) → Agrees files.now image → is_some (stored_key (store_of image) entry (fields_said said.now.words)) ≡ true → IfSome said.now.key_hash (IsHashOfKey image entry said.now.words) → reached ≡ is_among (chain (store_of image) (bucket_of_hash said.now.words.hash)).reached entry → IsVerdict (loading.load_data (store_of image) node entry dirty (fields_said said.now.words)) verdict)) }
     ensures readable { IfOk result (IsReadableIf files.now) }
     ensures stays { Stays (F.told f.old) (F.told f.new) }
@@ -239,7 +234,7 @@ fn load_unhashed<F: Folder>(
     requires kind { kind_of entry ≡ blocks_256 }
     requires stands { IsTrue (stands_among files.now entry) }
     requires placed { IsPlaced files.now entry words.now.key_len words.now.long_key }
-    requires short { words.now.key_len ≤ 32796 }
+    requires short { words.now.key_len ≤ most_key }
     ensures verdict { IfOk result (λ verdict. ForSome (F.told f.old).files (λ image. (dirty : ℕ) → Agrees files.now image → is_some (stored_key (store_of image) entry (fields_said words.now)) ≡ true → reached ≡ is_among (chain (store_of image) (bucket_of_hash words.now.hash)).reached entry → IsVerdict (loading.load_data (store_of image) node entry dirty (fields_said words.now)) verdict)) }
     ensures readable { IfOk result (IsReadableIf files.now) }
     ensures stays { Stays (F.told f.old) (F.told f.new) }
@@ -248,7 +243,7 @@ fn load_unhashed<F: Folder>(
     ensures later { F.faults f.old ≤ F.faults f.new }
     ensures device { IfDevice result (Rises (F.faults f.old) (F.faults f.new)) }
 {
-    let mut buffer = [0u8; MOST_NAME];
+    let mut buffer = [0u8; LONGEST_NAME as usize];
     let key = &mut buffer[..words.key_len as usize];
     read_key(f, files, entry, words, key)?;
     if words.hash != super_fast_hash(key) {

@@ -3,7 +3,7 @@ ghost use Rattle.std.specs.Prelude.{◌≡◌, ◌≤◌, ◌<◌, List, ℕ, If
 ghost use Rattle.std.specs.Option.{ForSome};
 ghost use Rattle.blk_image.specs.Told.{Rises, Stays};
 ghost use Rattle.blk_model.specs.Sizes.{part_count};
-ghost use Rattle.blk_format.specs.SparseIndex.{ParentIndex, read_parent_index};
+ghost use Rattle.blk_format.specs.SparseIndex.{ParentIndex, parent_index_length, read_parent_index};
 ghost use Rattle.blk_volume.specs.View.{stored_at};
 ghost use Rattle.blk_io.specs.Faults.{IfDamaged, IfDevice};
 ghost use Rattle.blk_disk.specs.Tables.{Agrees};
@@ -26,9 +26,9 @@ pub fn has_part<F: Folder>(
     word: u32,
     part: u32,
 ) -> Result<bool, Fault>
-    requires stored { stores files.now 8256 word ≡ true }
+    requires stored { stores files.now parent_index_length word ≡ true }
     requires part { part < part_count }
-    ensures bit { IfOk result (λ has. ForSome (F.told f.old).files (λ image. (bytes : List ℕ) (index : ParentIndex) → stored_at image 8256 word ≡ Some bytes → read_parent_index bytes ≡ Some index → has ≡ index.has_part part)) }
+    ensures bit { IfOk result (λ has. ForSome (F.told f.old).files (λ image. (bytes : List ℕ) (index : ParentIndex) → stored_at image parent_index_length word ≡ Some bytes → read_parent_index bytes ≡ Some index → has ≡ index.has_part part)) }
     ensures stays { Stays (F.told f.old) (F.told f.new) }
     ensures short { IfDamaged result (IsCutRead files.now (F.told f.old)) }
     ensures untold { ForSome (F.told f.old).files (Agrees files.now) → IfDamaged result (λ _. (F.told f.old).files ≡ None) }

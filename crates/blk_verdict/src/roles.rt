@@ -3,6 +3,7 @@ ghost use Rattle.std.specs.Prelude.{◌≡◌, ◌≤◌, ◌<◌, ◌==◌, ◌
 ghost use Rattle.std.specs.Option.{ForSome};
 ghost use Rattle.blk_image.specs.Told.{Rises, Stays};
 ghost use Rattle.blk_format.specs.Records.{child};
+ghost use Rattle.blk_format.specs.Storage.{largest_in_4k};
 ghost use Rattle.blk_volume.specs.Entries as entries;
 ghost use Rattle.blk_volume.specs.Entries.{stored_streams};
 ghost use Rattle.blk_volume.specs.View.{store_of, stored_at};
@@ -23,22 +24,18 @@ use blk_audit::RecordWords;
 use blk_disk::BlockFiles;
 use blk_entry::read_data;
 use blk_io::{Fault, Folder};
-use blk_ranges::{ChildName, ParentHead, PartMap, read_child_name};
+use blk_ranges::{ChildName, PART_SIZE, ParentHead, ParentMap, PartMap, read_child_name};
+use blk_record::SparseHead;
 
 // The flags of a parent and of a part.
 const PARENT: u32 = 1;
 
-const CHILD: u32 = 2;
+pub(crate) const CHILD: u32 = 2;
 
-// The bytes of a parent's index, of its head, and of a part's index.
-const PARENT_INDEX: u32 = 8256;
+// The bytes of the indexes of a parent and of a part.
+const PARENT_INDEX: u32 = ParentMap::LEN as u32;
 
-const HEAD: usize = 64;
-
-const PART_INDEX: u32 = 192;
-
-// The most bytes of a part's data.
-const PART_SIZE: u32 = 1_048_576;
+const PART_INDEX: u32 = PartMap::LEN as u32;
 
 /// What a record is.
 #[derive(Clone, Copy, Debug, PartialEq, Eq)]
@@ -95,7 +92,7 @@ fn parent_role<F: Folder>(
     if words.sizes[1] != 0 || words.sizes[2] != PARENT_INDEX {
         return Ok(None);
     }
-    let mut bytes = [0u8; HEAD];
+    let mut bytes = [0u8; SparseHead::LEN];
     read_front(f, files, words.sizes[2], words.addrs[2], &mut bytes)?;
     match ParentHead::read(&bytes) {
         Some(head) => Ok(parent_with(head, words.key_len)),
@@ -136,7 +133,7 @@ fn part_role<F: Folder>(
     let Some(name) = read_child_name(key) else {
         return Ok(None);
     };
-    let mut bytes = [0u8; PART_INDEX as usize];
+    let mut bytes = [0u8; PartMap::LEN];
     read_front(f, files, words.sizes[2], words.addrs[2], &mut bytes)?;
     match PartMap::read(&bytes) {
         Some(map) => Ok(part_with(&map, name, words.sizes[1])),
@@ -164,7 +161,7 @@ fn read_front<F: Folder>(
     out: &mut [u8],
 ) -> Result<(), Fault>
     requires some { 0 < size }
-    requires blocks { size ≤ 16384 }
+    requires blocks { size ≤ largest_in_4k }
     requires stored { stores files.now size word ≡ true }
     requires inside { length out.old ≤ size }
     ensures front { OnOk result (ForSome (F.told f.old).files (λ image. (bytes : List ℕ) → stored_at image size word ≡ Some bytes → out.new ≡ take (length out.old) bytes)) }

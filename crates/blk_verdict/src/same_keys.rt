@@ -5,6 +5,7 @@ ghost use Rattle.std.specs.Str.{bytes_eq};
 ghost use Rattle.blk_image.specs.Told.{Rises, Stays};
 ghost use Rattle.blk_io.specs.Faults.{IfDamaged, IfDevice};
 ghost use Rattle.blk_disk.specs.Tables.{Agrees};
+ghost use Rattle.blk_entry.specs.Keys.{most_key};
 ghost use Rattle.blk_verdict.specs.Keyed.{HasItsKey, IsKeyOf, words_kept};
 ghost use Rattle.blk_verdict.specs.Readable.{IsReadable};
 ghost use Rattle.blk_verdict.specs.Reads.{IsCutRead};
@@ -13,10 +14,8 @@ use crate::keys::read_key;
 use crate::loading::Loaded;
 use blk_audit::RecordWords;
 use blk_disk::BlockFiles;
+use blk_entry::LONGEST_NAME;
 use blk_io::{Fault, Folder};
-
-// The longest key: the name of a part.
-const MOST_NAME: usize = 32_796;
 
 /// Whether a record that is loaded has this key.
 ///
@@ -39,7 +38,7 @@ pub fn has_this_key<F: Folder>(
     if loaded.key_len as usize != key.len() {
         return Ok(false);
     }
-    if key.len() > MOST_NAME {
+    if key.len() > LONGEST_NAME as usize {
         return Ok(false);
     }
     is_stored_key(f, files, loaded, key)
@@ -54,7 +53,7 @@ fn is_stored_key<F: Folder>(
 ) -> Result<bool, Fault>
     requires readable { IsReadable files.now loaded.now }
     requires len { loaded.now.key_len ≡ length key.now }
-    requires short { length key.now ≤ 32796 }
+    requires short { length key.now ≤ most_key }
     ensures same { IfOk result (λ same. ForSome (F.told f.old).files (λ image. (stored : List ℕ) → IsKeyOf image loaded.now stored → same ≡ bytes_eq stored key.now)) }
     ensures stays { Stays (F.told f.old) (F.told f.new) }
     ensures short { IfDamaged result (IsCutRead files.now (F.told f.old)) }
@@ -62,7 +61,7 @@ fn is_stored_key<F: Folder>(
     ensures later { F.faults f.old ≤ F.faults f.new }
     ensures device { IfDevice result (Rises (F.faults f.old) (F.faults f.new)) }
 {
-    let mut buffer = [0u8; MOST_NAME];
+    let mut buffer = [0u8; LONGEST_NAME as usize];
     let stored = &mut buffer[..key.len()];
     read_key_of(f, files, loaded, stored)?;
     Ok(*stored == *key)

@@ -14,8 +14,8 @@ use blk_audit::RecordWords;
 use blk_disk::BlockFiles;
 use blk_io::{Failed, Folder};
 
-// The most bytes of a stream.
-const MOST_BYTES: u32 = 2_147_483_647;
+// The most bytes of a stream: as many as a cache may keep.
+const MOST_BYTES: u32 = blk_model::MOST_BYTES as u32;
 
 // Whether the three streams of a record are stored as their sizes ask for, and it has no fourth; one folder call for
 // each that is an external file.

@@ -17,12 +17,10 @@ ghost use Rattle.blk_verdict.specs.Verdicts.{IsVerdict};
 
 use crate::loading::{Verdict, load_words};
 use crate::reason::Reason;
+use crate::roles::CHILD;
 use blk_audit::{Lists, RecordWords, WalkedNode};
 use blk_disk::BlockFiles;
 use blk_io::{Fault, Folder};
-
-// The flags of a part.
-const CHILD: u32 = 2;
 
 /// The verdict on a walked node by itself.
 ///

@@ -10,19 +10,14 @@ ghost use Rattle.blk_audit.specs.Records.{fields_said};
 ghost use Rattle.blk_verdict.specs.Loading as loading;
 
 use crate::reason::Reason;
+use crate::roles::CHILD;
 use blk_addr::{Addr, entry_blocks};
 use blk_audit::RecordWords;
+use blk_entry::LONGEST_NAME;
+use blk_ranges::LONGEST_KEY;
 
 // The state of a live entry.
 const LIVE: u32 = 0;
-
-// The flags of a part, which are the largest that a record has.
-const CHILD: u32 = 2;
-
-// The longest key, and the longest name of a part.
-const MOST_KEY: u32 = 32768;
-
-const MOST_NAME: u32 = 32796;
 
 // The first of the reasons from the seal to the length of the key that holds.
 #[tactic(auto, using(std::proofs::lemmas::Bool::Decides::nat_tests), unfolding(crate::specs::Loading::reason_by_words))]
@@ -44,6 +39,7 @@ pub(crate) fn reason_by_words(
     if words.node != node.word() {
         return Some(Reason::Back);
     }
+    // The flags of a part are the largest.
     if words.flags > CHILD {
         return Some(Reason::Flags);
     }
@@ -66,9 +62,13 @@ fn is_key_length(entry: Addr, words: &RecordWords) -> bool
     1 <= words.key_len && words.key_len <= longest && entry.blocks() == entry_blocks(words.key_len)
 }
 
-// The longest key of a record with these flags.
+// The longest key of a record with these flags: a part's is its name.
 fn longest_with(flags: u32) -> u32
     ensures { result ≡ (if flags == child then longest_name else longest_key) }
 {
-    if flags == CHILD { MOST_NAME } else { MOST_KEY }
+    if flags == CHILD {
+        LONGEST_NAME
+    } else {
+        LONGEST_KEY
+    }
 }

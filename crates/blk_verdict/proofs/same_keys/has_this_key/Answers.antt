@@ -13,11 +13,11 @@ returns-then-loaded-key-clause-same g c image there stored agrees is =
     let known = is_key image c.args.loaded.now.entry (words_kept c.args.loaded.now) c.args.files.now stored agrees c.requires.readable.kind c.requires.readable.placed.has (stored_same image c.args.loaded.now stored is) in
     sym (bytes_differ stored c.args.key.now (λ same. c.if-loaded-key.true (sym known.len ∙ same)))
 
-pub returns-then-key-gt-MOST_NAME-clause-same : goal.returns-then-key-gt-MOST_NAME-clause-same
-returns-then-key-gt-MOST_NAME-clause-same g c image there stored agrees is =
+pub returns-then-key-clause-same : goal.returns-then-key-clause-same
+returns-then-key-clause-same g c image there stored agrees is =
     let parts = may_have_parts c.args.loaded.now.entry c.args.loaded.now.key_len c.requires.readable.placed.has in
     let most = parts.1 in
-    absurd (omega (arith, most, c.if-key-gt-MOST_NAME.true, c.if-loaded-key.false))
+    absurd (omega (arith, most, c.if-key.true, c.if-loaded-key.false))
 
 pub returns-clause-same : goal.returns-clause-same
 returns-clause-same g c =
