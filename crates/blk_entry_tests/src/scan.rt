@@ -3,8 +3,9 @@ ghost use Rattle.std.specs.Prelude.{◌<◌, ◌≤◌, length};
 
 use crate::folders::{INDEX_LEN, put_files};
 use blk_addr::{Addr, Kind};
-use blk_audit::{Lists, ScanFault, read_lists};
+use blk_audit::{Lists, ScanFault, WalkedNode, read_lists};
 use blk_disk::BlockFiles;
+use blk_entry::LONGEST_NAME;
 use blk_io::{Failed, Fault, FileId, Folder, MemFolder, SilentFolder, StopFolder, write_word};
 use blk_verdict::{Role, Verdict, has_part, is_child, load, load_walked, unlisted};
 use std::alloc::Global;
@@ -39,11 +40,20 @@ fn put_record(f: &mut Mem, block: u32, key: &[u8], hash: u32) -> Result<(), Fail
     f.write_at(RECORDS, place + 96, key)
 }
 
+// Node 0, as it is read.
+fn node_0(contents: u32, dirty: u32) -> WalkedNode {
+    WalkedNode {
+        addr: Addr::of_blocks(Kind::Rankings, 0, 0, 1),
+        contents,
+        dirty,
+        seal: 0,
+    }
+}
+
 // The verdict on node 0.
 fn verdict(f: &mut Mem, contents: u32, dirty: u32, reached: bool) -> Result<Verdict, Fault> {
     let files = BlockFiles::load(f)?;
-    let node = Addr::of_blocks(Kind::Rankings, 0, 0, 1);
-    load(f, &files, node, contents, dirty, reached)
+    load(f, &files, &node_0(contents, dirty), reached)
 }
 
 // The number of the reason, or 0.
@@ -59,8 +69,7 @@ fn has(f: &mut Mem, part: u32) -> Result<bool, Fault>
     requires { part < 65536 }
 {
     let files = BlockFiles::load(f)?;
-    let node = Addr::of_blocks(Kind::Rankings, 0, 0, 1);
-    match load(f, &files, node, ENTRY, 0, true)? {
+    match load(f, &files, &node_0(ENTRY, 0), true)? {
         Verdict::Loaded(loaded) => match loaded.role {
             Role::Parent(_) => has_part(f, &files, loaded.addrs[2], part),
             _ => Ok(false),
@@ -255,7 +264,8 @@ fn is_loaded(f: &mut Counted, files: &BlockFiles, lists: &Lists, i: usize) -> Re
     if is_child(f, files, lists, &node)? {
         return Ok(false);
     }
-    match load_walked(f, files, lists, &node)? {
+    let mut name = [0u8; LONGEST_NAME as usize];
+    match load_walked(f, files, lists, &node, &mut name)? {
         Verdict::Loaded(_) => Ok(true),
         Verdict::Dropped(_) => Ok(false),
     }

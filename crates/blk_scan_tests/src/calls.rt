@@ -119,12 +119,12 @@ fn counts(alloc: Global, sort: Sort) -> Result<(u64, u64), Fail> {
 
 #[test]
 fn an_audit_of_4000_entries_takes_few_calls(rt: HostRuntime) -> Result<(), Fail> {
-    // A parent and its part have an index each; the part's name is read, and for its parent both keys and the bit.
+    // A parent and its part have an index each; for the part's parent both keys are read, and the bit.
     for (sort, each) in [
         (Sort::Plain, 0),
         (Sort::External, 1),
         (Sort::Long, 1),
-        (Sort::Parents, 1 + 1 + 1 + 3),
+        (Sort::Parents, 1 + 1 + 3),
     ] {
         let (items, calls) = counts(rt.alloc(), sort)?;
         assert_eq!(rt; items, 4000);

@@ -9,6 +9,7 @@ use Rattle.blk_volume.specs.Entries.{stored_key}
 use Rattle.blk_volume.specs.View.{StoreView, store_of}
 use Rattle.blk_verdict.specs.Keyed.{IsKeyOf, words_kept}
 use Rattle.blk_audit.specs.Records.{fields_said}
+use Rattle.blk_audit.specs.declared.record_words.RecordWords.{RecordWords}
 use Rattle.blk_verdict.specs.declared.loading.Loaded.{Loaded}
 
 -- a key by its length and by the word of a long key
@@ -18,6 +19,11 @@ by_place store entry k l = if nat_le k 927 then (if l == 0 then Some (store.key_
 pub stored_same : (image : Image) (loaded : Loaded) (key : List ℕ) → IsKeyOf image loaded key → stored_key (store_of image) loaded.entry (fields_said (words_kept loaded)) ≡ Some key
 unfolding stored_key
 stored_same image loaded key is = ap₂ (by_place (store_of image) loaded.entry) (sym is.key_len) (sym is.long_key) ∙ is.stored
+
+-- so it is by other words that say the same of the key
+pub stored_by_words : (image : Image) (loaded : Loaded) (words : RecordWords) (key : List ℕ) → words.key_len ≡ loaded.key_len → words.long_key ≡ loaded.long_key → IsKeyOf image loaded key → stored_key (store_of image) loaded.entry (fields_said words) ≡ Some key
+unfolding stored_key
+stored_by_words image loaded words key len long is = ap₂ (by_place (store_of image) loaded.entry) (len ∙ sym is.key_len) (long ∙ sym is.long_key) ∙ is.stored
 
 -- bytes of other lengths are others
 pub bytes_differ : (a b : List ℕ) → (length a ≡ length b → ⊥) → bytes_eq a b ≡ false

@@ -20,6 +20,8 @@ use Rattle.blk_ranges.specs.declared.parent_map.ParentHead.{ParentHead}
 use Rattle.blk_ranges.specs.declared.part_map.PartMap.{PartMap}
 use Rattle.blk_ranges.proofs.ParentIndexes.{index-read, no-index, with_bits}
 use Rattle.blk_ranges.proofs.Spelling.{joined}
+use Rattle.blk_verdict.specs.Kept.{is_part_said}
+use Rattle.blk_verdict.specs.declared.roles.Role.{Role}
 use Rattle.blk_verdict.specs.declared.roles.Role.TheVariants as role
 use Rattle.blk_verdict.specs.Roles.{IsRoleIf}
 
@@ -339,3 +341,34 @@ index_length bytes index e = by_test (length bytes == 8256) refl
       where
         clash : None ≡ Some index → ⊥
         clash h = cc
+
+-- a part has the flags of one
+flags_of_part : (fields : RecordFields) (key : List ℕ) (streams : List (List ℕ)) (name : Name) (index : PartIndex) → role_of fields key streams ≡ Some (entries.IsPart name index) → fields.flags ≡ 2
+flags_of_part fields key streams name index e = by_flags (fields.flags == 1) (fields.flags == 2) refl refl
+  where
+    plain_some : Some entries.IsPlain ≡ Some (entries.IsPart name index) → ⊥
+    plain_some h = cc
+
+    clash : false ≡ true → ⊥
+    clash h = cc
+
+    by_flags : (t u : Bool) → (fields.flags == 1) ≡ t → (fields.flags == 2) ≡ u → fields.flags ≡ 2
+    by_flags true u et eu = absurd (no_part fields streams name index (sym (role_parent fields key streams (eqb-true _ _ et)) ∙ e))
+    by_flags false true et eu = eqb-true _ _ eu
+    by_flags false false et eu = absurd (plain_some (sym (role_plain fields key streams (λ h. clash (sym et ∙ eq-eqb _ _ h)) (λ h. clash (sym eu ∙ eq-eqb _ _ h))) ∙ e))
+
+pub part_flags : (fields : RecordFields) (key : List ℕ) (streams : List (List ℕ)) (said : Role) → IsRoleIf key (role_of fields key streams) (Some said) → is_part_said said ≡ true → fields.flags ≡ 2
+part_flags fields key streams said is part = by_role (role_of fields key streams) said refl is part
+  where
+    clash : false ≡ true → ⊥
+    clash h = cc
+
+    by_role : (o : Option entries.Role) (said : Role) → role_of fields key streams ≡ o → IsRoleIf key o (Some said) → is_part_said said ≡ true → fields.flags ≡ 2
+    by_role None said e is part = absurd is
+    by_role (Some (entries.IsPart name index)) said e is part = flags_of_part fields key streams name index e
+    by_role (Some entries.IsPlain) role.Plain e is part = absurd (clash part)
+    by_role (Some entries.IsPlain) (role.Parent head) e is part = absurd is
+    by_role (Some entries.IsPlain) (role.Part name) e is part = absurd is
+    by_role (Some (entries.IsParent index)) role.Plain e is part = absurd is
+    by_role (Some (entries.IsParent index)) (role.Parent head) e is part = absurd (clash part)
+    by_role (Some (entries.IsParent index)) (role.Part name) e is part = absurd is

@@ -10,8 +10,6 @@ use Rattle.std.specs.declared.result.Result.TheVariants.{Ok, Err}
 use Rattle.blk_image.specs.Image.{Image}
 use Rattle.blk_model.specs.Sizes.{part_count}
 use Rattle.blk_format.specs.Address.{is_address}
-use Rattle.blk_format.specs.BlockFiles.{is_among}
-use Rattle.blk_format.specs.Headers.{table_length}
 use Rattle.blk_addr.specs.Claims.{IsClaimsOf}
 use Rattle.blk_addr.specs.declared.claim_set.Claims.{Claims}
 use Rattle.blk_volume.specs.Audit.{is_parent_role}
@@ -20,7 +18,6 @@ use Rattle.blk_volume.specs.Loads.{held_rule, is_part}
 use Rattle.blk_volume.specs.Reasons as reasons
 use Rattle.blk_volume.specs.View.{store_of}
 use Rattle.blk_disk.specs.declared.tables.BlockFiles.{BlockFiles}
-use Rattle.blk_audit.specs.Chaining.{reached_by}
 use Rattle.blk_ranges.specs.ParentMaps.{head_signature}
 use Rattle.blk_verdict.specs.ByHash.{IsByHash}
 use Rattle.blk_verdict.specs.Keyed.{HasItsKey}
@@ -130,11 +127,6 @@ is_sought sought.Whole key loaded = not (is_part loaded) && bytes_eq loaded.key 
 is_sought (sought.ParentOf name) key loaded = is_parent_role (record { key = key; signature = cast_unsigned w64 name.signature; part = name.part }) loaded.key loaded.role
 
 -- The answer.
-
--- a node of an image has these contents and this dirty word, and a chain reaches the contents or none does
-pub record IsWalked (image : Image) (node contents dirty : ℕ) (reached : Bool) : Type 0 where
-  pub fields : (store_of image).node_fields node ≡ Some (record { contents = contents; dirty = dirty })
-  pub chained : reached ≡ is_among (reached_by (store_of image) table_length) contents
 
 -- it is the one of a folder: no reason, or the same
 abbrev pub IsSameAnswer : Result shown.Loaded reasons.Reason → Option Reason → Type 0

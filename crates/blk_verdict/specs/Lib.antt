@@ -5,6 +5,7 @@ pub mod KeptKeys
 pub mod Keyed
 pub mod Loading
 pub mod Owning
+pub mod PartNames
 pub mod Passes
 pub mod Readable
 pub mod Reads

@@ -8,50 +8,20 @@ ghost use Rattle.blk_volume.specs.View.{store_of};
 ghost use Rattle.blk_disk.specs.Tables.{Agrees};
 ghost use Rattle.blk_audit.specs.Faults.{IfScanDamaged, IfScanDevice};
 ghost use Rattle.blk_audit.specs.ReadLists.{AreListsOf, IsSaidAt};
-ghost use Rattle.blk_verdict.specs.Kept.{AreShown, HaveKeys, IsSameAnswer, IsKeptInOrder, IsWalked, KeepsAtMostOne};
+ghost use Rattle.blk_verdict.specs.Kept.{AreShown, HaveKeys, IsSameAnswer, IsKeptInOrder, KeepsAtMostOne};
 ghost use Rattle.blk_verdict.specs.Reads.{IsCutRead};
 
 use crate::kept::KeptSoFar;
-use crate::loading::{Verdict, load};
+use crate::loading::Verdict;
 use crate::reason::Reason;
 use crate::walked_nodes::load_walked;
-use blk_addr::Addr;
 use blk_audit::{Lists, ScanFault, WalkedNode};
 use blk_disk::BlockFiles;
+use blk_entry::LONGEST_NAME;
 use blk_io::Folder;
 
-// Judges a node with these contents and this dirty word by the reasons from `Contents` to `Parent` in their order, and
-// keeps its record at the end of those that are kept where none of them holds.
-//
-// The folder calls are those of `load` and, where it finds no reason, those of `KeptSoFar::admit`.
-pub(crate) fn judge<F: Folder>(
-    f: &mut F,
-    files: &BlockFiles,
-    kept: &mut KeptSoFar,
-    node: Addr,
-    contents: u32,
-    dirty: u32,
-    reached: bool,
-) -> Result<Option<Reason>, ScanFault>
-    requires order { IsKeptInOrder files.now kept.old }
-    ensures answer { IfOk result (λ reason. ForSome (F.told f.old).files (λ image. Agrees files.now image → IsWalked image node contents dirty reached → (so_far : List shown.Loaded) → AreShown image so_far kept.old.kept.items → IsSameAnswer (audit.verdict (store_of image) shown.held_rule so_far node) reason)) }
-    ensures shown { OnOk result (ForSome (F.told f.old).files (λ image. Agrees files.now image → IsWalked image node contents dirty reached → (so_far : List shown.Loaded) → AreShown image so_far kept.old.kept.items → AreShown image (audit.with_verdict so_far (audit.verdict (store_of image) shown.held_rule so_far node)) kept.new.kept.items)) }
-    ensures keys { OnOk result (ForSome (F.told f.old).files (λ image. Agrees files.now image → IsWalked image node contents dirty reached → HaveKeys image kept.old.kept.items → HaveKeys image kept.new.kept.items)) }
-    ensures kept { IfOk result (KeepsAtMostOne kept.old.kept.items kept.new.kept.items) }
-    ensures order { OnOk result (IsKeptInOrder files.now kept.new) }
-    ensures stays { Stays (F.told f.old) (F.told f.new) }
-    ensures short { IfScanDamaged result (IsCutRead files.now (F.told f.old)) }
-    ensures untold { ForSome (F.told f.old).files (λ image. Agrees files.now image) → ForSome (F.told f.old).files (λ image. IsWalked image node contents dirty reached) → ForSome (F.told f.old).files (λ image. HaveKeys image kept.old.kept.items) → IfScanDamaged result (λ _. (F.told f.old).files ≡ None) }
-    ensures later { F.faults f.old ≤ F.faults f.new }
-    ensures device { IfScanDevice result (Rises (F.faults f.old) (F.faults f.new)) }
-{
-    match load(f, files, node, contents, dirty, reached)? {
-        Verdict::Loaded(loaded) => kept.admit(f, files, loaded),
-        Verdict::Dropped(reason) => Ok(Some(reason)),
-    }
-}
-
-// Judges a walked node as `judge` does, by what was read with the lists.
+// Judges a walked node by the reasons from `Contents` to `Parent` in their order, and keeps its record at the end of those
+// that are kept where none of them holds.
 //
 // The folder calls are those of `load_walked` and, where it finds no reason, those of `KeptSoFar::admit`.
 pub(crate) fn judge_walked<F: Folder>(
@@ -73,8 +43,12 @@ pub(crate) fn judge_walked<F: Folder>(
     ensures later { F.faults f.old ≤ F.faults f.new }
     ensures device { IfScanDevice result (Rises (F.faults f.old) (F.faults f.new)) }
 {
-    match load_walked(f, files, lists, node)? {
-        Verdict::Loaded(loaded) => kept.admit(f, files, loaded),
+    let mut name = [0u8; LONGEST_NAME as usize];
+    match load_walked(f, files, lists, node, &mut name)? {
+        Verdict::Loaded(loaded) => {
+            let key = &name[..loaded.key_len as usize];
+            kept.admit(f, files, loaded, key)
+        }
         Verdict::Dropped(reason) => Ok(Some(reason)),
     }
 }

@@ -15,6 +15,7 @@ ghost use Rattle.blk_entry.specs.Keys.{most_key};
 ghost use Rattle.blk_audit.specs.Faults.{IfScanDamaged, IfScanDevice};
 ghost use Rattle.blk_verdict.specs.Kept.{AreShown, HasPartNumber, HaveKeys, IsAlwaysInOrder, IsSameAnswer, IsKeptInOrder, IsIndexed, IsLoadedFrom, NoneMayBe, addresses_of, addresses_of_all, claims_kept, is_sought, kept_with, records_kept};
 ghost use Rattle.blk_verdict.specs.Keyed.{HasItsKey};
+ghost use Rattle.blk_verdict.specs.PartNames.{IsNameOf};
 ghost use Rattle.blk_verdict.specs.Readable.{IsReadable};
 ghost use Rattle.blk_verdict.specs.Reads.{IsCutRead};
 
@@ -88,20 +89,22 @@ impl KeptSoFar {
 
     // Judges a loaded record by the reasons `Claimed`, `Name` and `Parent`, and keeps it where none of them holds.
     //
-    // No folder call is made for `Claimed`. For `Name` one call reads the record's key, and one more that of each kept
-    // record with the same child flag, hash and length of the key, where there are any. A part takes one call for its
-    // own key, and two for each kept parent that may be its: one for the key, and one for the bit. A damage is a read
-    // that gave too few bytes. Where memory was wanting, the kept records are of no more use.
+    // Of a part `key` is the key; no other key is looked at. No folder call is made for `Claimed`. For `Name` one call
+    // reads the key of each kept record with the same child flag, hash and length of the key, where there are any, and
+    // then one more that of the record, where it is no part. A part takes two calls for each kept parent that may be
+    // its: one for the parent's key, and one for the bit. A damage is a read that gave too few bytes. Where memory was
+    // wanting, the kept records are of no more use.
     pub(crate) fn admit<F: Folder>(
         &mut self,
         f: &mut F,
         files: &BlockFiles,
         loaded: Loaded,
+        key: &[u8],
     ) -> Result<Option<Reason>, ScanFault>
         requires order { IsKeptInOrder files.now self.old }
         requires readable { IsReadable files.now loaded }
-        ensures answer { IfOk result (λ reason. ForSome (F.told f.old).files (λ image. Agrees files.now image → (kept : List shown.Loaded) (given : shown.Loaded) → AreShown image kept self.old.kept.items → IsLoadedFrom image given loaded → IsSameAnswer (audit.admit kept given) reason)) }
-        ensures shown { IfOk result (λ reason. ForSome (F.told f.old).files (λ image. Agrees files.now image → (kept : List shown.Loaded) (given : shown.Loaded) → AreShown image kept self.old.kept.items → IsLoadedFrom image given loaded → AreShown image (audit.with_verdict kept (audit.admit kept given)) self.new.kept.items)) }
+        ensures answer { IfOk result (λ reason. ForSome (F.told f.old).files (λ image. Agrees files.now image → (kept : List shown.Loaded) (given : shown.Loaded) → AreShown image kept self.old.kept.items → IsLoadedFrom image given loaded → IsNameOf image loaded key.now → IsSameAnswer (audit.admit kept given) reason)) }
+        ensures shown { IfOk result (λ reason. ForSome (F.told f.old).files (λ image. Agrees files.now image → (kept : List shown.Loaded) (given : shown.Loaded) → AreShown image kept self.old.kept.items → IsLoadedFrom image given loaded → IsNameOf image loaded key.now → AreShown image (audit.with_verdict kept (audit.admit kept given)) self.new.kept.items)) }
         ensures kept { IfOk result (λ reason. self.new.kept.items ≡ kept_with self.old.kept.items loaded reason) }
         ensures order { OnOk result (IsKeptInOrder files.now self.new) }
         ensures stays { Stays (F.told f.old) (F.told f.new) }
@@ -110,7 +113,7 @@ impl KeptSoFar {
         ensures later { F.faults f.old ≤ F.faults f.new }
         ensures device { IfScanDevice result (Rises (F.faults f.old) (F.faults f.new)) }
     {
-        let reason = self.reason_for(f, files, &loaded)?;
+        let reason = self.reason_for(f, files, &loaded, key)?;
         if reason.is_none() {
             self.keep(loaded)?;
         }
@@ -123,10 +126,11 @@ impl KeptSoFar {
         f: &mut F,
         files: &BlockFiles,
         loaded: &Loaded,
+        key: &[u8],
     ) -> Result<Option<Reason>, Fault>
         requires order { IsKeptInOrder files.now self.now }
         requires readable { IsReadable files.now loaded.now }
-        ensures answer { IfOk result (λ reason. ForSome (F.told f.old).files (λ image. Agrees files.now image → (kept : List shown.Loaded) (given : shown.Loaded) → AreShown image kept self.now.kept.items → IsLoadedFrom image given loaded.now → IsSameAnswer (audit.admit kept given) reason)) }
+        ensures answer { IfOk result (λ reason. ForSome (F.told f.old).files (λ image. Agrees files.now image → (kept : List shown.Loaded) (given : shown.Loaded) → AreShown image kept self.now.kept.items → IsLoadedFrom image given loaded.now → IsNameOf image loaded.now key.now → IsSameAnswer (audit.admit kept given) reason)) }
         ensures apart { result ≡ Ok None → repeats (claims_of_all (addresses_of_all self.now.kept.items ++ addresses_of loaded.now)) ≡ false }
         ensures stays { Stays (F.told f.old) (F.told f.new) }
         ensures short { IfDamaged result (IsCutRead files.now (F.told f.old)) }
@@ -137,10 +141,10 @@ impl KeptSoFar {
         if self.collides(loaded) {
             return Ok(Some(Reason::Claimed));
         }
-        if self.shares_key(f, files, loaded)? {
+        if self.shares_key(f, files, loaded, key)? {
             return Ok(Some(Reason::Name));
         }
-        if self.is_orphan(f, files, loaded)? {
+        if self.is_orphan(f, files, loaded, key)? {
             return Ok(Some(Reason::Parent));
         }
         Ok(None)
@@ -154,16 +158,18 @@ impl KeptSoFar {
         share_any(&words) || is_claimed(&self.claims, &words)
     }
 
-    // Whether a kept record with the same child flag has the key of a record, which is read only where one may have it.
+    // Whether a kept record with the same child flag has the key of a record, which is looked at only where one may have
+    // it.
     fn shares_key<F: Folder>(
         &self,
         f: &mut F,
         files: &BlockFiles,
         loaded: &Loaded,
+        key: &[u8],
     ) -> Result<bool, Fault>
         requires order { IsKeptInOrder files.now self.now }
         requires readable { IsReadable files.now loaded.now }
-        ensures shares { IfOk result (λ shares. ForSome (F.told f.old).files (λ image. Agrees files.now image → (kept : List shown.Loaded) (given : shown.Loaded) → AreShown image kept self.now.kept.items → IsLoadedFrom image given loaded.now → shares ≡ audit.shares_key kept given)) }
+        ensures shares { IfOk result (λ shares. ForSome (F.told f.old).files (λ image. Agrees files.now image → (kept : List shown.Loaded) (given : shown.Loaded) → AreShown image kept self.now.kept.items → IsLoadedFrom image given loaded.now → IsNameOf image loaded.now key.now → shares ≡ audit.shares_key kept given)) }
         ensures stays { Stays (F.told f.old) (F.told f.new) }
         ensures short { IfDamaged result (IsCutRead files.now (F.told f.old)) }
         ensures untold { ForSome (F.told f.old).files (Agrees files.now) → ForSome (F.told f.old).files (λ image. HaveKeys image (loaded.now ∷ self.now.kept.items)) → IfDamaged result (λ _. (F.told f.old).files ≡ None) }
@@ -174,11 +180,38 @@ impl KeptSoFar {
         if !self.may_have(loaded.hash, loaded.key_len, sought) {
             return Ok(false);
         }
-        self.has_key_of(f, files, loaded, sought)
+        self.has_key_of(f, files, loaded, sought, key)
     }
 
-    // Whether one of the kept records is what is sought, with the key of a record.
+    // Whether one of the kept records is what is sought, with the key of a record. Of a part this is the key.
     fn has_key_of<F: Folder>(
+        &self,
+        f: &mut F,
+        files: &BlockFiles,
+        loaded: &Loaded,
+        sought: Sought,
+        key: &[u8],
+    ) -> Result<bool, Fault>
+        requires order { IsKeptInOrder files.now self.now }
+        requires readable { IsReadable files.now loaded.now }
+        requires short { loaded.now.key_len ≤ most_key }
+        requires part { HasPartNumber sought }
+        ensures has { IfOk result (λ has. ForSome (F.told f.old).files (λ image. Agrees files.now image → (kept : List shown.Loaded) (given : shown.Loaded) → AreShown image kept self.now.kept.items → IsLoadedFrom image given loaded.now → IsNameOf image loaded.now key.now → has ≡ list_any (is_sought sought given.key) kept)) }
+        ensures stays { Stays (F.told f.old) (F.told f.new) }
+        ensures short { IfDamaged result (IsCutRead files.now (F.told f.old)) }
+        ensures untold { ForSome (F.told f.old).files (Agrees files.now) → ForSome (F.told f.old).files (λ image. HaveKeys image (loaded.now ∷ self.now.kept.items)) → IfDamaged result (λ _. (F.told f.old).files ≡ None) }
+        ensures later { F.faults f.old ≤ F.faults f.new }
+        ensures device { IfDevice result (Rises (F.faults f.old) (F.faults f.new)) }
+    {
+        match loaded.role {
+            Role::Plain => self.has_stored_key(f, files, loaded, sought),
+            Role::Parent(_) => self.has_stored_key(f, files, loaded, sought),
+            Role::Part(_) => self.has(f, files, loaded.hash, sought, key),
+        }
+    }
+
+    // The same, where the key of the record is read.
+    fn has_stored_key<F: Folder>(
         &self,
         f: &mut F,
         files: &BlockFiles,
@@ -202,54 +235,31 @@ impl KeptSoFar {
         self.has(f, files, loaded.hash, sought, key)
     }
 
-    // Whether a record is a part, and no kept record is its parent with its bit.
+    // Whether a record is a part, whose key this is, and no kept record is its parent with its bit.
     fn is_orphan<F: Folder>(
         &self,
         f: &mut F,
         files: &BlockFiles,
         loaded: &Loaded,
+        key: &[u8],
     ) -> Result<bool, Fault>
         requires order { IsKeptInOrder files.now self.now }
-        requires readable { IsReadable files.now loaded.now }
-        ensures orphan { IfOk result (λ orphan. ForSome (F.told f.old).files (λ image. Agrees files.now image → (kept : List shown.Loaded) (given : shown.Loaded) → AreShown image kept self.now.kept.items → IsLoadedFrom image given loaded.now → orphan ≡ audit.is_orphan kept given)) }
+        ensures orphan { IfOk result (λ orphan. ForSome (F.told f.old).files (λ image. Agrees files.now image → (kept : List shown.Loaded) (given : shown.Loaded) → AreShown image kept self.now.kept.items → IsLoadedFrom image given loaded.now → IsNameOf image loaded.now key.now → orphan ≡ audit.is_orphan kept given)) }
         ensures stays { Stays (F.told f.old) (F.told f.new) }
         ensures short { IfDamaged result (IsCutRead files.now (F.told f.old)) }
-        ensures untold { ForSome (F.told f.old).files (Agrees files.now) → ForSome (F.told f.old).files (λ image. HaveKeys image (loaded.now ∷ self.now.kept.items)) → IfDamaged result (λ _. (F.told f.old).files ≡ None) }
+        ensures untold { ForSome (F.told f.old).files (Agrees files.now) → ForSome (F.told f.old).files (λ image. HaveKeys image self.now.kept.items) → IfDamaged result (λ _. (F.told f.old).files ≡ None) }
         ensures later { F.faults f.old ≤ F.faults f.new }
         ensures device { IfDevice result (Rises (F.faults f.old) (F.faults f.new)) }
     {
         match loaded.role {
             Role::Plain => Ok(false),
             Role::Parent(_) => Ok(false),
-            Role::Part(_) => self.lacks_parent(f, files, loaded),
+            Role::Part(_) => self.lacks_parent(f, files, key),
         }
     }
 
-    // Whether no kept record is the parent of a part, with its bit.
-    fn lacks_parent<F: Folder>(
-        &self,
-        f: &mut F,
-        files: &BlockFiles,
-        loaded: &Loaded,
-    ) -> Result<bool, Fault>
-        requires order { IsKeptInOrder files.now self.now }
-        requires readable { IsReadable files.now loaded.now }
-        requires short { loaded.now.key_len ≤ most_key }
-        ensures orphan { IfOk result (λ orphan. ForSome (F.told f.old).files (λ image. Agrees files.now image → (kept : List shown.Loaded) (given : shown.Loaded) → AreShown image kept self.now.kept.items → IsLoadedFrom image given loaded.now → shown.is_part given ≡ true → orphan ≡ audit.is_orphan kept given)) }
-        ensures stays { Stays (F.told f.old) (F.told f.new) }
-        ensures short { IfDamaged result (IsCutRead files.now (F.told f.old)) }
-        ensures untold { ForSome (F.told f.old).files (Agrees files.now) → ForSome (F.told f.old).files (λ image. HaveKeys image (loaded.now ∷ self.now.kept.items)) → IfDamaged result (λ _. (F.told f.old).files ≡ None) }
-        ensures later { F.faults f.old ≤ F.faults f.new }
-        ensures device { IfDevice result (Rises (F.faults f.old) (F.faults f.new)) }
-    {
-        let mut buffer = [0u8; LONGEST_NAME as usize];
-        let key = &mut buffer[..loaded.key_len as usize];
-        read_key_of(f, files, loaded, key)?;
-        self.lacks_parent_of(f, files, key)
-    }
-
     // Whether no kept record is the parent of a part with this key, with its bit.
-    fn lacks_parent_of<F: Folder>(
+    fn lacks_parent<F: Folder>(
         &self,
         f: &mut F,
         files: &BlockFiles,

@@ -26,7 +26,7 @@ pub use charges::charge_of_all;
 pub use kept::KeptSoFar;
 pub use laws::loaded_keys_are_found;
 pub use listing::unlisted;
-pub use loading::{Loaded, Verdict, load, load_words};
+pub use loading::{Loaded, Verdict, load};
 pub use parts::has_part;
 pub use passes::{Judged, Tried, judge_nodes};
 pub use reason::Reason;

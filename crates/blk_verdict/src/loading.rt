@@ -1,5 +1,5 @@
 // The verdict on a node by itself.
-ghost use Rattle.std.specs.Prelude.{◌≡◌, ◌≢◌, ◌≤◌, ℕ, List, IfOk, IfSome, IsTrue, None, Some, is_some, length, true};
+ghost use Rattle.std.specs.Prelude.{◌≡◌, ◌≢◌, ◌≤◌, ℕ, List, IfOk, IfSome, IsTrue, None, OnOk, Some, is_some, length, take, true};
 ghost use Rattle.std.specs.Option.{ForSome};
 ghost use Rattle.blk_image.specs.Told.{Rises, Stays};
 ghost use Rattle.blk_format.specs.Address.{blocks_256, kind_of};
@@ -17,6 +17,8 @@ ghost use Rattle.blk_io.specs.Faults.{IfDamaged, IfDevice};
 ghost use Rattle.blk_disk.specs.Tables.{Agrees, stands_among};
 ghost use Rattle.blk_audit.specs.Chaining.{reached_by};
 ghost use Rattle.blk_verdict.specs.Loading as loading;
+ghost use Rattle.blk_audit.specs.ReadLists.{IsSaidAt};
+ghost use Rattle.blk_verdict.specs.PartNames.{IsKeyInFront, IsNameInFront};
 ghost use Rattle.blk_verdict.specs.Readable.{IsReadableIf};
 ghost use Rattle.blk_verdict.specs.Reads.{IsCutRead};
 ghost use Rattle.blk_audit.specs.Records.{AreWordsOf, IsHashOfKey, fields_said};
@@ -28,7 +30,7 @@ use crate::roles::{CHILD, Role, read_role};
 use crate::streams::has_streams;
 use crate::words::reason_by_words;
 use blk_addr::Addr;
-use blk_audit::{ReadRecord, RecordWords, read_words};
+use blk_audit::{ReadRecord, RecordWords, WalkedNode, read_words};
 use blk_disk::BlockFiles;
 use blk_entry::LONGEST_NAME;
 use blk_io::{Fault, Folder};
@@ -64,19 +66,17 @@ pub enum Verdict {
     Dropped(Reason),
 }
 
-/// The verdict on a node with these contents and this dirty word.
+/// The verdict on a node, as it says what it names and whether it is dirty.
 ///
-/// One folder call reads the record, and then come those of `load_words`. `reached` says whether a chain reaches the
-/// contents. A damage is a read that gave too few bytes; a folder whose files are those of `files` gives none.
+/// One folder call reads the record, and one its key; the others are those of `load_walked`. `reached` says whether a
+/// chain reaches the contents. A damage is a read that gave too few bytes; a folder whose files are those of `files` gives none.
 pub fn load<F: Folder>(
     f: &mut F,
     files: &BlockFiles,
-    node: Addr,
-    contents: u32,
-    dirty: u32,
+    node: &WalkedNode,
     reached: bool,
 ) -> Result<Verdict, Fault>
-    ensures verdict { IfOk result (λ verdict. ForSome (F.told f.old).files (λ image. Agrees files.now image → (store_of image).node_fields node ≡ Some (record { contents = contents; dirty = dirty }) → reached ≡ is_among (reached_by (store_of image) table_length) contents → IsVerdict (shown.load (store_of image) held_rule node) verdict)) }
+    ensures verdict { IfOk result (λ verdict. ForSome (F.told f.old).files (λ image. Agrees files.now image → IsSaidAt image node.now → reached ≡ is_among (reached_by (store_of image) table_length) node.now.contents → IsVerdict (shown.load (store_of image) held_rule node.now.addr) verdict)) }
     ensures readable { IfOk result (IsReadableIf files.now) }
     ensures stays { Stays (F.told f.old) (F.told f.new) }
     ensures short { IfDamaged result (IsCutRead files.now (F.told f.old)) }
@@ -84,7 +84,7 @@ pub fn load<F: Folder>(
     ensures later { F.faults f.old ≤ F.faults f.new }
     ensures device { IfDevice result (Rises (F.faults f.old) (F.faults f.new)) }
 {
-    let Some(entry) = files.entry(contents) else {
+    let Some(entry) = files.entry(node.contents) else {
         return Ok(Verdict::Dropped(Reason::Contents));
     };
     let words = read_words(f, files, entry)?;
@@ -92,26 +92,26 @@ pub fn load<F: Folder>(
         words,
         key_hash: None,
     };
-    load_words(f, files, node, entry, dirty, &said, reached)
+    let mut name = [0u8; LONGEST_NAME as usize];
+    load_words(f, files, node, entry, &said, reached, &mut name)
 }
 
-/// The verdict on a node that names a record that stands and was read before.
-///
-/// Only where the hash of the key is not known, or the record is that of a part, does one folder call read the key.
-/// One more each asks for the length of a long key or a stream that is an external file, and one reads the index of a
-/// parent or a part. No other byte of the streams is read.
-pub fn load_words<F: Folder>(
+// The verdict on a node that names a record that stands and was read before. Of a part the key is read into the front
+// of `name`.
+pub(crate) fn load_words<F: Folder>(
     f: &mut F,
     files: &BlockFiles,
-    node: Addr,
+    node: &WalkedNode,
     entry: Addr,
-    dirty: u32,
     said: &ReadRecord,
     reached: bool,
+    name: &mut [u8],
 ) -> Result<Verdict, Fault>
     requires kind { kind_of entry ≡ blocks_256 }
     requires stands { IsTrue (stands_among files.now entry) }
-    ensures verdict { IfOk result (λ verdict. ForSome (F.told f.old).files (λ image. Agrees files.now image → AreWordsOf image entry said.now.words → IfSome said.now.key_hash (IsHashOfKey image entry said.now.words) → (store_of image).node_fields node ≡ Some (record { contents = entry; dirty = dirty }) → reached ≡ is_among (reached_by (store_of image) table_length) entry → IsVerdict (shown.load (store_of image) held_rule node) verdict)) }
+    requires room { length name.old ≡ most_key }
+    ensures verdict { IfOk result (λ verdict. ForSome (F.told f.old).files (λ image. Agrees files.now image → AreWordsOf image entry said.now.words → IfSome said.now.key_hash (IsHashOfKey image entry said.now.words) → (store_of image).node_fields node.now.addr ≡ Some (record { contents = entry; dirty = node.now.dirty }) → reached ≡ is_among (reached_by (store_of image) table_length) entry → IsVerdict (shown.load (store_of image) held_rule node.now.addr) verdict)) }
+    ensures named { IfOk result (λ verdict. ForSome (F.told f.old).files (λ image. Agrees files.now image → IsNameInFront image verdict name.new)) }
     ensures readable { IfOk result (IsReadableIf files.now) }
     ensures stays { Stays (F.told f.old) (F.told f.new) }
     ensures short { IfDamaged result (IsCutRead files.now (F.told f.old)) }
@@ -120,9 +120,9 @@ pub fn load_words<F: Folder>(
     ensures device { IfDevice result (Rises (F.faults f.old) (F.faults f.new)) }
 {
     let _word = entry.word();
-    match reason_by_words(node, entry, dirty, &said.words) {
+    match reason_by_words(node.addr, entry, node.dirty, &said.words) {
         Some(reason) => Ok(Verdict::Dropped(reason)),
-        None => load_data(f, files, node, entry, said, reached),
+        None => load_data(f, files, node.addr, entry, said, reached, name),
     }
 }
 
@@ -134,11 +134,14 @@ fn load_data<F: Folder>(
     entry: Addr,
     said: &ReadRecord,
     reached: bool,
+    name: &mut [u8],
 ) -> Result<Verdict, Fault>
     requires kind { kind_of entry ≡ blocks_256 }
     requires stands { IsTrue (stands_among files.now entry) }
     requires has { may_have entry said.now.words.key_len ≡ true }
+    requires room { length name.old ≡ most_key }
     ensures verdict { IfOk result (λ verdict. ForSome (F.told f.old).files (λ image. (dirty : ℕ) → Agrees files.now image → IfSome said.now.key_hash (IsHashOfKey image entry said.now.words) → reached ≡ is_among (chain (store_of image) (bucket_of_hash said.now.words.hash)).reached entry → IsVerdict (loading.load_data (store_of image) node entry dirty (fields_said said.now.words)) verdict)) }
+    ensures named { IfOk result (λ verdict. ForSome (F.told f.old).files (λ image. Agrees files.now image → IsNameInFront image verdict name.new)) }
     ensures readable { IfOk result (IsReadableIf files.now) }
     ensures stays { Stays (F.told f.old) (F.told f.new) }
     ensures short { IfDamaged result (IsCutRead files.now (F.told f.old)) }
@@ -147,7 +150,7 @@ fn load_data<F: Folder>(
     ensures device { IfDevice result (Rises (F.faults f.old) (F.faults f.new)) }
 {
     if has_key(f, files, &said.words)? {
-        load_key(f, files, node, entry, said, reached)
+        load_key(f, files, node, entry, said, reached, name)
     } else {
         Ok(Verdict::Dropped(Reason::KeyPlace))
     }
@@ -161,12 +164,15 @@ fn load_key<F: Folder>(
     entry: Addr,
     said: &ReadRecord,
     reached: bool,
+    name: &mut [u8],
 ) -> Result<Verdict, Fault>
     requires kind { kind_of entry ≡ blocks_256 }
     requires stands { IsTrue (stands_among files.now entry) }
     requires placed { IsPlaced files.now entry said.now.words.key_len said.now.words.long_key }
     requires short { said.now.words.key_len ≤ most_key }
+    requires room { length name.old ≡ most_key }
     ensures verdict { IfOk result (λ verdict. ForSome (F.told f.old).files (λ image. (dirty : ℕ) → Agrees files.now image → is_some (stored_key (store_of image) entry (fields_said said.now.words)) ≡ true → IfSome said.now.key_hash (IsHashOfKey image entry said.now.words) → reached ≡ is_among (chain (store_of image) (bucket_of_hash said.now.words.hash)).reached entry → IsVerdict (loading.load_data (store_of image) node entry dirty (fields_said said.now.words)) verdict)) }
+    ensures named { IfOk result (λ verdict. ForSome (F.told f.old).files (λ image. Agrees files.now image → IsNameInFront image verdict name.new)) }
     ensures readable { IfOk result (IsReadableIf files.now) }
     ensures stays { Stays (F.told f.old) (F.told f.new) }
     ensures short { IfDamaged result (IsCutRead files.now (F.told f.old)) }
@@ -174,9 +180,41 @@ fn load_key<F: Folder>(
     ensures later { F.faults f.old ≤ F.faults f.new }
     ensures device { IfDevice result (Rises (F.faults f.old) (F.faults f.new)) }
 {
+    let sum = key_sum(f, files, entry, said, name)?;
+    if said.words.hash != sum {
+        return Ok(Verdict::Dropped(Reason::Hash));
+    }
+    if !reached {
+        return Ok(Verdict::Dropped(Reason::Chain));
+    }
+    load_streams(f, files, node, entry, &said.words, name)
+}
+
+// The hash of the key of a record. Where it is not known, or the key is the name of a part, one folder call reads the
+// key into the front of `name`.
+fn key_sum<F: Folder>(
+    f: &mut F,
+    files: &BlockFiles,
+    entry: Addr,
+    said: &ReadRecord,
+    name: &mut [u8],
+) -> Result<u32, Fault>
+    requires kind { kind_of entry ≡ blocks_256 }
+    requires stands { IsTrue (stands_among files.now entry) }
+    requires placed { IsPlaced files.now entry said.now.words.key_len said.now.words.long_key }
+    requires short { said.now.words.key_len ≤ most_key }
+    requires room { length name.old ≡ most_key }
+    ensures sum { IfOk result (λ sum. ForSome (F.told f.old).files (λ image. IfSome said.now.key_hash (IsHashOfKey image entry said.now.words) → IsHashOfKey image entry said.now.words sum)) }
+    ensures key { OnOk result (ForSome (F.told f.old).files (λ image. said.now.words.flags ≡ child → IsKeyInFront image entry said.now.words name.new)) }
+    ensures stays { Stays (F.told f.old) (F.told f.new) }
+    ensures short { IfDamaged result (IsCutRead files.now (F.told f.old)) }
+    ensures untold { ForSome (F.told f.old).files (Agrees files.now) → ForSome (F.told f.old).files (λ image. is_some (stored_key (store_of image) entry (fields_said said.now.words)) ≡ true) → IfDamaged result (λ _. (F.told f.old).files ≡ None) }
+    ensures later { F.faults f.old ≤ F.faults f.new }
+    ensures device { IfDevice result (Rises (F.faults f.old) (F.faults f.new)) }
+{
     match known_hash(said) {
-        Some(sum) => load_hashed(f, files, node, entry, &said.words, sum, reached),
-        None => load_unhashed(f, files, node, entry, &said.words, reached),
+        Some(sum) => Ok(sum),
+        None => read_sum(f, files, entry, &said.words, name),
     }
 }
 
@@ -191,83 +229,49 @@ fn known_hash(said: &ReadRecord) -> Option<u32>
     }
 }
 
-// The same for a record that is no part's, where this is the hash of the key.
-fn load_hashed<F: Folder>(
+// Reads the key of a record into the front of `name`, by one folder call, for its hash.
+fn read_sum<F: Folder>(
     f: &mut F,
     files: &BlockFiles,
-    node: Addr,
     entry: Addr,
     words: &RecordWords,
-    sum: u32,
-    reached: bool,
-) -> Result<Verdict, Fault>
-    requires kind { kind_of entry ≡ blocks_256 }
-    requires stands { IsTrue (stands_among files.now entry) }
-    requires placed { IsPlaced files.now entry words.now.key_len words.now.long_key }
-    requires whole { words.now.flags ≢ child }
-    ensures verdict { IfOk result (λ verdict. ForSome (F.told f.old).files (λ image. (dirty : ℕ) → Agrees files.now image → is_some (stored_key (store_of image) entry (fields_said words.now)) ≡ true → IsHashOfKey image entry words.now sum → reached ≡ is_among (chain (store_of image) (bucket_of_hash words.now.hash)).reached entry → IsVerdict (loading.load_data (store_of image) node entry dirty (fields_said words.now)) verdict)) }
-    ensures readable { IfOk result (IsReadableIf files.now) }
-    ensures stays { Stays (F.told f.old) (F.told f.new) }
-    ensures short { IfDamaged result (IsCutRead files.now (F.told f.old)) }
-    ensures untold { ForSome (F.told f.old).files (Agrees files.now) → IfDamaged result (λ _. (F.told f.old).files ≡ None) }
-    ensures later { F.faults f.old ≤ F.faults f.new }
-    ensures device { IfDevice result (Rises (F.faults f.old) (F.faults f.new)) }
-{
-    if words.hash != sum {
-        return Ok(Verdict::Dropped(Reason::Hash));
-    }
-    if !reached {
-        return Ok(Verdict::Dropped(Reason::Chain));
-    }
-    load_streams(f, files, node, entry, words, &[])
-}
-
-// The same where the key has to be read, by one folder call.
-fn load_unhashed<F: Folder>(
-    f: &mut F,
-    files: &BlockFiles,
-    node: Addr,
-    entry: Addr,
-    words: &RecordWords,
-    reached: bool,
-) -> Result<Verdict, Fault>
+    name: &mut [u8],
+) -> Result<u32, Fault>
     requires kind { kind_of entry ≡ blocks_256 }
     requires stands { IsTrue (stands_among files.now entry) }
     requires placed { IsPlaced files.now entry words.now.key_len words.now.long_key }
     requires short { words.now.key_len ≤ most_key }
-    ensures verdict { IfOk result (λ verdict. ForSome (F.told f.old).files (λ image. (dirty : ℕ) → Agrees files.now image → is_some (stored_key (store_of image) entry (fields_said words.now)) ≡ true → reached ≡ is_among (chain (store_of image) (bucket_of_hash words.now.hash)).reached entry → IsVerdict (loading.load_data (store_of image) node entry dirty (fields_said words.now)) verdict)) }
-    ensures readable { IfOk result (IsReadableIf files.now) }
+    requires room { length name.old ≡ most_key }
+    ensures sum { IfOk result (λ sum. ForSome (F.told f.old).files (λ image. IsHashOfKey image entry words.now sum)) }
+    ensures key { OnOk result (ForSome (F.told f.old).files (λ image. IsKeyInFront image entry words.now name.new)) }
     ensures stays { Stays (F.told f.old) (F.told f.new) }
     ensures short { IfDamaged result (IsCutRead files.now (F.told f.old)) }
     ensures untold { ForSome (F.told f.old).files (Agrees files.now) → ForSome (F.told f.old).files (λ image. is_some (stored_key (store_of image) entry (fields_said words.now)) ≡ true) → IfDamaged result (λ _. (F.told f.old).files ≡ None) }
     ensures later { F.faults f.old ≤ F.faults f.new }
     ensures device { IfDevice result (Rises (F.faults f.old) (F.faults f.new)) }
 {
-    let mut buffer = [0u8; LONGEST_NAME as usize];
-    let key = &mut buffer[..words.key_len as usize];
+    let key = &mut name[..words.key_len as usize];
     read_key(f, files, entry, words, key)?;
-    if words.hash != super_fast_hash(key) {
-        return Ok(Verdict::Dropped(Reason::Hash));
-    }
-    if !reached {
-        return Ok(Verdict::Dropped(Reason::Chain));
-    }
-    load_streams(f, files, node, entry, words, key)
+    Ok(super_fast_hash(key))
 }
 
-// The verdict on a node by the streams of its record. Of a part this is the key; no other key is looked at.
+// The verdict on a node by the streams of its record. Of a part the key stands in front of `name`; no other key is
+// looked at.
 fn load_streams<F: Folder>(
     f: &mut F,
     files: &BlockFiles,
     node: Addr,
     entry: Addr,
     words: &RecordWords,
-    key: &[u8],
+    name: &[u8],
 ) -> Result<Verdict, Fault>
     requires kind { kind_of entry ≡ blocks_256 }
     requires stands { IsTrue (stands_among files.now entry) }
     requires placed { IsPlaced files.now entry words.now.key_len words.now.long_key }
-    ensures verdict { IfOk result (λ verdict. ForSome (F.told f.old).files (λ image. (dirty : ℕ) (stored : List ℕ) → Agrees files.now image → words.now.key_len ≡ length stored → words.now.hash ≡ hash_of stored → (words.now.flags ≡ child → stored ≡ key.now) → IsVerdict (loading.load_streams (store_of image) node entry dirty (fields_said words.now) stored) verdict)) }
+    requires short { words.now.key_len ≤ most_key }
+    requires room { length name.now ≡ most_key }
+    ensures verdict { IfOk result (λ verdict. ForSome (F.told f.old).files (λ image. (dirty : ℕ) (stored : List ℕ) → Agrees files.now image → words.now.key_len ≡ length stored → words.now.hash ≡ hash_of stored → (words.now.flags ≡ child → stored ≡ take words.now.key_len name.now) → IsVerdict (loading.load_streams (store_of image) node entry dirty (fields_said words.now) stored) verdict)) }
+    ensures named { IfOk result (λ verdict. ForSome (F.told f.old).files (λ image. Agrees files.now image → (words.now.flags ≡ child → IsKeyInFront image entry words.now name.now) → IsNameInFront image verdict name.now)) }
     ensures readable { IfOk result (IsReadableIf files.now) }
     ensures stays { Stays (F.told f.old) (F.told f.new) }
     ensures short { IfDamaged result (IsCutRead files.now (F.told f.old)) }
@@ -278,7 +282,7 @@ fn load_streams<F: Folder>(
     if !has_streams(f, files, words)? {
         return Ok(Verdict::Dropped(Reason::Streams));
     }
-    match read_role(f, files, words, key)? {
+    match read_role(f, files, words, &name[..words.key_len as usize])? {
         Some(role) => Ok(Verdict::Loaded(loaded_as(node, entry, role, words))),
         None => Ok(Verdict::Dropped(Reason::Sparse)),
     }

@@ -1,5 +1,5 @@
 // The verdict on walked nodes, by what was read with the lists.
-ghost use Rattle.std.specs.Prelude.{◌≡◌, ◌≤◌, ◌&&◌, ◌==◌, IfOk, None, Some};
+ghost use Rattle.std.specs.Prelude.{◌≡◌, ◌≤◌, ◌&&◌, ◌==◌, IfOk, None, Some, length};
 ghost use Rattle.std.specs.Option.{ForSome};
 ghost use Rattle.blk_image.specs.Told.{Rises, Stays};
 ghost use Rattle.blk_format.specs.Records.{child};
@@ -11,6 +11,8 @@ ghost use Rattle.blk_volume.specs.View.{store_of};
 ghost use Rattle.blk_disk.specs.Tables.{Agrees};
 ghost use Rattle.blk_audit.specs.Faults.{IsRecordDamage};
 ghost use Rattle.blk_audit.specs.ReadLists.{AreListsOf, IsSaidAt};
+ghost use Rattle.blk_entry.specs.Keys.{most_key};
+ghost use Rattle.blk_verdict.specs.PartNames.{IsNameInFront};
 ghost use Rattle.blk_verdict.specs.Readable.{IsReadableIf};
 ghost use Rattle.blk_verdict.specs.Reads.{IsCutRead};
 ghost use Rattle.blk_verdict.specs.Verdicts.{IsVerdict};
@@ -24,15 +26,21 @@ use blk_io::{Fault, Folder};
 
 /// The verdict on a walked node by itself.
 ///
-/// The calls are those of `load_words`, and one more where the record was not read with the lists. A damage is a read
-/// that gave too few bytes; a folder whose files are those of `files` gives none.
+/// One folder call reads the record, where it was not read with the lists. Only where the hash of the key is not known,
+/// or the record is that of a part, does one read the key, into the front of `name`: of a part it stands there then.
+/// One more each asks for the length of a long key or a stream that is an external file, and one reads the index of a
+/// parent or a part. No other byte of the streams is read. A damage is a read that gave too few bytes; a folder whose
+/// files are those of `files` gives none.
 pub fn load_walked<F: Folder>(
     f: &mut F,
     files: &BlockFiles,
     lists: &Lists,
     node: &WalkedNode,
+    name: &mut [u8],
 ) -> Result<Verdict, Fault>
+    requires room { length name.old ≡ most_key }
     ensures verdict { IfOk result (λ verdict. ForSome (F.told f.old).files (λ image. Agrees files.now image → AreListsOf image lists.now → IsSaidAt image node.now → IsVerdict (shown.load (store_of image) held_rule node.now.addr) verdict)) }
+    ensures named { IfOk result (λ verdict. ForSome (F.told f.old).files (λ image. Agrees files.now image → IsNameInFront image verdict name.new)) }
     ensures readable { IfOk result (IsReadableIf files.now) }
     ensures stays { Stays (F.told f.old) (F.told f.new) }
     ensures short { IfDamaged result (IsCutRead files.now (F.told f.old)) }
@@ -45,7 +53,7 @@ pub fn load_walked<F: Folder>(
     };
     let said = lists.record_at(f, files, entry)?;
     let reached = lists.reached.contains(entry.word());
-    load_words(f, files, node.addr, entry, node.dirty, &said, reached)
+    load_words(f, files, node, entry, &said, reached, name)
 }
 
 /// Whether a walked node names a record that checks and is a part's; such nodes are judged behind the others.

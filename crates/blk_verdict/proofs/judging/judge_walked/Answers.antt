@@ -1,18 +1,25 @@
-use Rattle.std.proofs.Common.{◌∙◌, ◌∷◌, [], sym, ap, subst}
+use Rattle.std.proofs.Common.{◌∙◌, ◌∷◌, [], List, Result, sym, ap, subst, arith}
 use Rattle.std.specs.Option.{ForSome}
+use Rattle.std.proofs.lemmas.List.{length-take-le}
 use Rattle.std.proofs.lemmas.Result.{IfOk-weaker}
 use Rattle.blk_image.specs.Image.{Image}
 use Rattle.blk_image.specs.Told.{Told}
 use Rattle.blk_audit.specs.ReadLists.{AreListsOf, IsSaidAt}
 use Rattle.blk_audit.proofs.Carrying.{weaker}
+use Rattle.blk_volume.specs.Audit as audit
+use Rattle.blk_volume.specs.Reasons as reasons
 use Rattle.blk_volume.specs.Loads as shown
 use Rattle.blk_volume.specs.Loads.{held_rule}
 use Rattle.blk_volume.specs.View.{store_of}
 use Rattle.blk_disk.specs.Tables.{Agrees}
-use Rattle.blk_lru.proofs.Conditions.{told_stays}
+use Rattle.blk_entry.proofs.KeyPlaces.{may_have_parts}
+use Rattle.blk_lru.proofs.Conditions.{told_now, told_stays}
 use Rattle.blk_verdict.specs.Keyed.{HasItsKey}
-use Rattle.blk_verdict.specs.Kept.{HaveKeys}
+use Rattle.blk_verdict.specs.Kept.{AreShown, HaveKeys, IsSameAnswer}
+use Rattle.blk_verdict.specs.PartNames.{IsNameInFront}
+use Rattle.blk_verdict.specs.Readable.{IsReadableIf}
 use Rattle.blk_verdict.specs.Verdicts.{IsVerdict}
+use Rattle.blk_verdict.specs.declared.loading.Verdict.{Verdict}
 use Rattle.blk_verdict.proofs.JudgedFacts.{all_of, has_key, judged, keys_with}
 use Rattle.blk_verdict.proofs.judging.judge_walked.Goals as goal
 
@@ -36,3 +43,38 @@ returns-in-Loaded-clause-untold g c agrees walked keys =
     let loaded = subst (IsVerdict (shown.load (store_of image) held_rule c.args.node.now.addr)) c.in-Loaded.is (c.in_ok-loaded.ensures.verdict image there (agrees image there) at.0 at.1) in
     let one = judged image [] c.args.node.now.addr c.in-Loaded.loaded loaded in
     all_of (HasItsKey image) c.in-Loaded.loaded c.args.kept.now.kept.items (has_key image one.loaded c.in-Loaded.loaded one.known) (keys image there))))
+
+pub slice_bounds-name-end : goal.slice_bounds-name-end
+slice_bounds-name-end g c =
+    let readable = subst (IsReadableIf c.args.files.now) c.in-Loaded.is c.in_ok-loaded.ensures.readable in
+    let few = (may_have_parts c.in-Loaded.loaded.entry c.in-Loaded.loaded.key_len readable.placed.has).1 in
+    omega (arith, few, c.load_walked.auto.name)
+
+pub slice_bounds-key-end : goal.slice_bounds-key-end
+slice_bounds-key-end g c =
+    let readable = subst (IsReadableIf c.args.files.now) c.in-Loaded.is c.in_ok-loaded.ensures.readable in
+    let few = (may_have_parts c.in-Loaded.loaded.entry c.in-Loaded.loaded.key_len readable.placed.has).1 in
+    sym (length-take-le c.in-Loaded.loaded.key_len c.load_walked.new.name (omega (arith, few, c.load_walked.auto.name)))
+
+pub returns-in-Loaded-clause-answer : goal.returns-in-Loaded-clause-answer
+returns-in-Loaded-clause-answer g c =
+    IfOk-weaker c.admit.result _
+    (λ reason. ForSome (g.F.Folder.told c.args.f.now).files (λ image. Agrees c.args.files.now image → AreListsOf image c.args.lists.now → IsSaidAt image c.args.node.now → (so_far : List shown.Loaded) → AreShown image so_far c.args.kept.now.kept.items → IsSameAnswer (audit.verdict (store_of image) held_rule so_far c.args.node.now.addr) reason))
+    (λ reason is image there agrees are fields so_far shows.
+    let loaded = subst (IsVerdict (shown.load (store_of image) held_rule c.args.node.now.addr)) c.in-Loaded.is (c.in_ok-loaded.ensures.verdict image there agrees are fields) in
+    let named = subst (λ (v : Verdict). IsNameInFront image v c.load_walked.new.name) c.in-Loaded.is (c.in_ok-loaded.ensures.named image there agrees) in
+    let one = judged image so_far c.args.node.now.addr c.in-Loaded.loaded loaded in
+    subst (λ (r : Result shown.Loaded reasons.Reason). IsSameAnswer r reason) (sym one.is) (is image (told_now image c.in_ok-loaded.ensures.stays there) agrees so_far one.loaded shows one.known named))
+    c.admit.ensures.answer
+
+pub returns-in-Loaded-clause-shown : goal.returns-in-Loaded-clause-shown
+returns-in-Loaded-clause-shown g c =
+    IfOk-weaker c.admit.result _
+    (λ reason. ForSome (g.F.Folder.told c.args.f.now).files (λ image. Agrees c.args.files.now image → AreListsOf image c.args.lists.now → IsSaidAt image c.args.node.now → (so_far : List shown.Loaded) → AreShown image so_far c.args.kept.now.kept.items
+    → AreShown image (audit.with_verdict so_far (audit.verdict (store_of image) held_rule so_far c.args.node.now.addr)) c.admit.new.self.kept.items))
+    (λ reason is image there agrees are fields so_far shows.
+    let loaded = subst (IsVerdict (shown.load (store_of image) held_rule c.args.node.now.addr)) c.in-Loaded.is (c.in_ok-loaded.ensures.verdict image there agrees are fields) in
+    let named = subst (λ (v : Verdict). IsNameInFront image v c.load_walked.new.name) c.in-Loaded.is (c.in_ok-loaded.ensures.named image there agrees) in
+    let one = judged image so_far c.args.node.now.addr c.in-Loaded.loaded loaded in
+    subst (λ (r : Result shown.Loaded reasons.Reason). AreShown image (audit.with_verdict so_far r) c.admit.new.self.kept.items) (sym one.is) (is image (told_now image c.in_ok-loaded.ensures.stays there) agrees so_far one.loaded shows one.known named))
+    c.admit.ensures.shown

@@ -18,8 +18,8 @@ use Rattle.blk_verdict.proofs.loading.load.Goals as goal
 
 pub returns-in_default-clause-verdict : goal.returns-in_default-clause-verdict
 returns-in_default-clause-verdict g c image there agrees named reached =
-    dropped _ reason.Contents (load_none (store_of image) c.args.node c.args.contents c.args.dirty named
-    (entry_none c.args.files.now image c.args.contents agrees (not_chosen (is_record_among c.args.files.now c.args.contents) c.args.contents (sym c.in_default.is ∙ c.entry.ensures.entry))))
+    dropped _ reason.Contents (load_none (store_of image) c.args.node.now.addr c.args.node.now.contents c.args.node.now.dirty named
+    (entry_none c.args.files.now image c.args.node.now.contents agrees (not_chosen (is_record_among c.args.files.now c.args.node.now.contents) c.args.node.now.contents (sym c.in_default.is ∙ c.entry.ensures.entry))))
 
 pub returns-in_err-words-clause-short : goal.returns-in_err-words-clause-short
 returns-in_err-words-clause-short g c =

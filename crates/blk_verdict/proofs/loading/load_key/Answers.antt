@@ -1,30 +1,61 @@
-use Rattle.std.proofs.Common.{◌≡◌, ℕ, Option, true, subst}
-use Rattle.std.specs.Prelude.{IfSome, is_some}
+use Rattle.std.proofs.Common.{◌≡◌, ℕ, true, false, List, Result, refl, sym, ◌∙◌, ap, subst}
+use Rattle.std.specs.Prelude.{◌==◌, IfSome, is_some}
 use Rattle.std.specs.Option.{ForSome}
+use Rattle.std.proofs.lemmas.Bool.{eq-eqb}
 use Rattle.blk_format.specs.BlockFiles.{is_among}
+use Rattle.blk_format.specs.Hash.{hash}
 use Rattle.blk_volume.specs.Chains.{bucket_of_hash, chain}
 use Rattle.blk_volume.specs.Entries.{stored_key}
+use Rattle.blk_volume.specs.Loads as shown
+use Rattle.blk_volume.specs.Reasons as reasons
 use Rattle.blk_volume.specs.View.{store_of}
 use Rattle.blk_disk.specs.Tables.{Agrees}
 use Rattle.blk_entry.proofs.KeyPlaces.{ok_weaker}
+use Rattle.blk_image.specs.Told.{Told}
+use Rattle.blk_io.proofs.Carried.{if_damaged_weaker}
+use Rattle.blk_lru.proofs.Conditions.{told_now, told_stays}
 use Rattle.blk_audit.specs.Records.{IsHashOfKey, fields_said}
 use Rattle.blk_verdict.specs.Loading as loading
+use Rattle.blk_verdict.specs.PartNames.{IsNameInFront}
 use Rattle.blk_verdict.specs.Verdicts.{IsVerdict}
+use Rattle.blk_verdict.specs.declared.reason.Reason.TheVariants as reason
+use Rattle.blk_verdict.proofs.Joined.{data_with_key, has_value}
+use Rattle.blk_verdict.proofs.KeyFacts.{key_length}
+use Rattle.blk_verdict.proofs.VerdictFacts.{differs, dropped}
 use Rattle.blk_verdict.proofs.loading.load_key.Goals as goal
 
-pub returns-in-Some-clause-verdict : goal.returns-in-Some-clause-verdict
-returns-in-Some-clause-verdict g c =
-    ok_weaker c.load_hashed.result _
-    (λ verdict. ForSome (g.F.Folder.told c.args.f.now).files (λ image. (dirty : ℕ) → Agrees c.args.files.now image → is_some (stored_key (store_of image) c.args.entry (fields_said c.args.said.now.words)) ≡ true → IfSome c.args.said.now.key_hash (IsHashOfKey image c.args.entry c.args.said.now.words)
-    → c.args.reached ≡ is_among (chain (store_of image) (bucket_of_hash c.args.said.now.words.hash)).reached c.args.entry → IsVerdict (loading.load_data (store_of image) c.args.node c.args.entry dirty (fields_said c.args.said.now.words)) verdict))
-    (λ verdict is image there dirty agrees stored sums.
-    is image there dirty agrees stored (subst (λ (o : Option ℕ). IfSome o (IsHashOfKey image c.args.entry c.args.said.now.words)) c.in-Some.ensures.0 sums))
-    c.load_hashed.ensures.verdict
+pub returns-then-said-sum-clause-verdict : goal.returns-then-said-sum-clause-verdict
+returns-then-said-sum-clause-verdict g c image there dirty agrees stored sums reached =
+    let key = has_value (List ℕ) (stored_key (store_of image) c.args.entry (fields_said c.args.said.now.words)) stored in
+    let other : (c.args.said.now.words.hash == hash key.value) ≡ false = differs c.args.said.now.words.hash (hash key.value) (λ e. c.if-said-sum.true (e ∙ sym (c.in_ok-sum.ensures.sum image there sums key.value key.is))) in
+    dropped _ reason.Hash (data_with_key (store_of image) c.args.node c.args.entry dirty (fields_said c.args.said.now.words) key.value false _ key.is other refl)
 
-pub returns-in-None-clause-verdict : goal.returns-in-None-clause-verdict
-returns-in-None-clause-verdict g c =
-    ok_weaker c.load_unhashed.result _
+pub returns-then-not-reached-clause-verdict : goal.returns-then-not-reached-clause-verdict
+returns-then-not-reached-clause-verdict g c image there dirty agrees stored sums reached =
+    let key = has_value (List ℕ) (stored_key (store_of image) c.args.entry (fields_said c.args.said.now.words)) stored in
+    let same : (c.args.said.now.words.hash == hash key.value) ≡ true = eq-eqb _ _ (c.if-said-sum.false ∙ c.in_ok-sum.ensures.sum image there sums key.value key.is) in
+    dropped _ reason.Chain (data_with_key (store_of image) c.args.node c.args.entry dirty (fields_said c.args.said.now.words) key.value true false key.is same (sym reached ∙ c.if-not-reached.true))
+
+pub returns-clause-verdict : goal.returns-clause-verdict
+returns-clause-verdict g c =
+    ok_weaker c.load_streams.result _
     (λ verdict. ForSome (g.F.Folder.told c.args.f.now).files (λ image. (dirty : ℕ) → Agrees c.args.files.now image → is_some (stored_key (store_of image) c.args.entry (fields_said c.args.said.now.words)) ≡ true → IfSome c.args.said.now.key_hash (IsHashOfKey image c.args.entry c.args.said.now.words)
     → c.args.reached ≡ is_among (chain (store_of image) (bucket_of_hash c.args.said.now.words.hash)).reached c.args.entry → IsVerdict (loading.load_data (store_of image) c.args.node c.args.entry dirty (fields_said c.args.said.now.words)) verdict))
-    (λ verdict is image there dirty agrees stored sums. is image there dirty agrees stored)
-    c.load_unhashed.ensures.verdict
+    (λ verdict is image there dirty agrees stored sums reached.
+    let key = has_value (List ℕ) (stored_key (store_of image) c.args.entry (fields_said c.args.said.now.words)) stored in
+    let right : c.args.said.now.words.hash ≡ hash key.value = c.if-said-sum.false ∙ c.in_ok-sum.ensures.sum image there sums key.value key.is in
+    subst (λ (r : Result shown.Loaded reasons.Reason). IsVerdict r verdict) (sym (data_with_key (store_of image) c.args.node c.args.entry dirty (fields_said c.args.said.now.words) key.value true true key.is (eq-eqb _ _ right) (sym reached ∙ c.if-not-reached.false)))
+    (is image (told_now image c.in_ok-sum.ensures.stays there) dirty key.value agrees (sym (key_length image c.args.entry (fields_said c.args.said.now.words) key.value key.is)) right (λ part. sym (c.in_ok-sum.ensures.key image there part key.value key.is))))
+    c.load_streams.ensures.verdict
+
+pub returns-clause-named : goal.returns-clause-named
+returns-clause-named g c =
+    ok_weaker c.load_streams.result _
+    (λ verdict. ForSome (g.F.Folder.told c.args.f.now).files (λ image. Agrees c.args.files.now image → IsNameInFront image verdict c.key_sum.new.name))
+    (λ verdict is image there agrees. is image (told_now image c.in_ok-sum.ensures.stays there) agrees (c.in_ok-sum.ensures.key image there))
+    c.load_streams.ensures.named
+
+pub returns-clause-untold : goal.returns-clause-untold
+returns-clause-untold g c agrees stored =
+    if_damaged_weaker c.load_streams.result _ _ (λ damage none. ap (λ (t : Told). t.files) (sym c.in_ok-sum.ensures.stays) ∙ none)
+    (c.load_streams.ensures.untold (told_stays (Agrees c.args.files.now) c.in_ok-sum.ensures.stays agrees))

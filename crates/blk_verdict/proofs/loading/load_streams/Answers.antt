@@ -1,4 +1,4 @@
-use Rattle.std.proofs.Common.{◌≡◌, ℕ, List, Option, Some, sym, ◌∙◌, ap, subst}
+use Rattle.std.proofs.Common.{◌≡◌, ℕ, List, Option, Some, refl, sym, ◌∙◌, ap, subst}
 use Rattle.blk_image.specs.Told.{Told}
 use Rattle.blk_io.proofs.Carried.{carried, if_damaged_weaker}
 use Rattle.blk_volume.specs.Entries.{role_of, stored_streams}
@@ -7,13 +7,16 @@ use Rattle.blk_disk.specs.Tables.{Agrees}
 use Rattle.blk_lru.proofs.Conditions.{told_stays}
 use Rattle.blk_verdict.specs.Loading as loading
 use Rattle.blk_audit.specs.Records.{fields_said}
+use Rattle.blk_verdict.specs.PartNames.{IsNameInFront}
 use Rattle.blk_verdict.specs.Roles.{IsRoleIf}
-use Rattle.blk_verdict.specs.Verdicts.{IsVerdict}
+use Rattle.blk_verdict.specs.Verdicts.{IsVerdict, loaded_with}
 use Rattle.blk_verdict.specs.declared.loading.Loaded.{Loaded}
 use Rattle.blk_verdict.specs.declared.loading.Verdict.TheVariants as verdict
 use Rattle.blk_verdict.specs.declared.reason.Reason.TheVariants as reason
 use Rattle.blk_verdict.specs.declared.roles.Role.{Role}
 use Rattle.blk_verdict.proofs.Joined.{has_value, streams_none}
+use Rattle.blk_verdict.proofs.KeyOf.{stored_by_words}
+use Rattle.blk_verdict.proofs.RoleFacts.{part_flags}
 use Rattle.blk_verdict.proofs.VerdictFacts.{dropped, lengths, no_role, with_a_role}
 use Rattle.blk_verdict.proofs.loading.load_streams.Goals as goal
 
@@ -41,3 +44,14 @@ returns-in-None-clause-verdict g c image there dirty stored agrees len sum same 
     let streams = has_value (List (List ℕ)) (stored_streams (store_of image) (fields_said c.args.words.now)) (sym (c.in_ok-has_streams.ensures.streams image there agrees) ∙ c.if-not-branch.false) in
     no_role (store_of image) c.args.node c.args.entry dirty c.args.words.now stored streams.value streams.is
     (subst (λ (o : Option Role). IsRoleIf stored (role_of (fields_said c.args.words.now) stored streams.value) o) c.in-None.is (c.in_ok-role.ensures.role image now stored streams.value same streams.is))
+
+pub returns-in-Some-clause-named : goal.returns-in-Some-clause-named
+returns-in-Some-clause-named g c image there agrees front =
+    let now : (g.F.Folder.told c.has_streams.new.f).files ≡ Some image = ap (λ (t : Told). t.files) c.in_ok-has_streams.ensures.stays ∙ there in
+    let streams = has_value (List (List ℕ)) (stored_streams (store_of image) (fields_said c.args.words.now)) (sym (c.in_ok-has_streams.ensures.streams image there agrees) ∙ c.if-not-branch.false) in
+    subst (λ (l : Loaded). IsNameInFront image (verdict.Loaded l) c.args.name.now) (sym c.loaded_as.ensures)
+    (λ part key of.
+    let stored = stored_by_words image (loaded_with c.args.node c.args.entry c.in-Some.role c.args.words.now) c.args.words.now key refl refl of in
+    let is : IsRoleIf key (role_of (fields_said c.args.words.now) key streams.value) (Some c.in-Some.role) =
+    subst (λ (o : Option Role). IsRoleIf key (role_of (fields_said c.args.words.now) key streams.value) o) c.in-Some.is (c.in_ok-role.ensures.role image now key streams.value (λ flags. sym (front flags key stored)) streams.is) in
+    front (part_flags (fields_said c.args.words.now) key streams.value c.in-Some.role is part) key stored)

@@ -13,6 +13,7 @@ use Rattle.blk_lru.proofs.Conditions.{told_now, told_stays}
 use Rattle.blk_audit.specs.Chaining.{reached_by}
 use Rattle.blk_audit.specs.ReadLists.{AreListsOf, IsSaidAt}
 use Rattle.blk_audit.proofs.Truths.{none_by, value_by}
+use Rattle.blk_verdict.specs.PartNames.{IsNameInFront}
 use Rattle.blk_verdict.specs.Verdicts.{IsVerdict}
 use Rattle.blk_verdict.specs.declared.reason.Reason.TheVariants as reason
 use Rattle.blk_verdict.proofs.Joined.{entry_none, load_none}
@@ -52,3 +53,10 @@ pub returns-clause-untold : goal.returns-clause-untold
 returns-clause-untold g c agrees =
     if_damaged_weaker c.load_words.result _ _ (λ damage none. ap (λ (t : Told). t.files) (sym c.in_ok-said.ensures.stays) ∙ none)
     (c.load_words.ensures.untold (told_stays (Agrees c.args.files.now) c.in_ok-said.ensures.stays agrees))
+
+pub returns-clause-named : goal.returns-clause-named
+returns-clause-named g c =
+    ok_weaker c.load_words.result _
+    (λ verdict. ForSome (g.F.Folder.told c.args.f.now).files (λ image. Agrees c.args.files.now image → IsNameInFront image verdict c.load_words.new.name))
+    (λ verdict is image there agrees. is image (told_now image c.in_ok-said.ensures.stays there) agrees)
+    c.load_words.ensures.named

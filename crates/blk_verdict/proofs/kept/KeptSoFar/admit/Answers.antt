@@ -24,10 +24,10 @@ some_reason kept one None e = absurd (clash e)
 some_reason kept one (Some reason) e = refl
 
 pub returns-in_ok-keep-clause-shown : goal.returns-in_ok-keep-clause-shown
-returns-in_ok-keep-clause-shown g c image there agrees kept given are known =
+returns-in_ok-keep-clause-shown g c image there agrees kept given are known named =
     let none = no_reason c.in_ok-reason.reason (c.is_none.ensures ∙ ap not c.if-is_none.true) in
     subst (AreShown image (audit.with_verdict kept (audit.admit kept given))) (sym c.in_ok-keep.ensures.kept)
-    (shown_with image kept c.args.self.now.kept.items given c.args.loaded None are known (subst (IsSameAnswer (audit.admit kept given)) none (c.in_ok-reason.ensures.answer image there agrees kept given are known)))
+    (shown_with image kept c.args.self.now.kept.items given c.args.loaded None are known (subst (IsSameAnswer (audit.admit kept given)) none (c.in_ok-reason.ensures.answer image there agrees kept given are known named)))
 
 pub returns-in_ok-keep-clause-order : goal.returns-in_ok-keep-clause-order
 returns-in_ok-keep-clause-order g c =
@@ -38,7 +38,7 @@ returns-in_ok-keep-clause-order g c =
     }
 
 pub returns-else-is_none-clause-shown : goal.returns-else-is_none-clause-shown
-returns-else-is_none-clause-shown g c image there agrees kept given are known =
+returns-else-is_none-clause-shown g c image there agrees kept given are known named =
     let some = c.is_none.ensures ∙ ap not c.if-is_none.false in
     subst (AreShown image (audit.with_verdict kept (audit.admit kept given))) (some_reason c.args.self.now.kept.items c.args.loaded c.in_ok-reason.reason some)
-    (shown_with image kept c.args.self.now.kept.items given c.args.loaded c.in_ok-reason.reason are known (c.in_ok-reason.ensures.answer image there agrees kept given are known))
+    (shown_with image kept c.args.self.now.kept.items given c.args.loaded c.in_ok-reason.reason are known (c.in_ok-reason.ensures.answer image there agrees kept given are known named))

@@ -1,36 +1,23 @@
-use Rattle.std.proofs.Common.{◌≡◌, ◌∙◌, List, true, sym, ap}
-use Rattle.std.specs.Option.{ForSome}
-use Rattle.std.proofs.lemmas.Result.{IfOk-weaker}
-use Rattle.blk_image.specs.Image.{Image}
-use Rattle.blk_image.specs.Told.{Told}
-use Rattle.blk_io.proofs.Carried.{carried, if_damaged_weaker}
-use Rattle.blk_volume.specs.Audit as audit
-use Rattle.blk_volume.specs.Loads as shown
-use Rattle.blk_disk.specs.Tables.{Agrees}
-use Rattle.blk_lru.proofs.Conditions.{told_now, told_stays}
-use Rattle.blk_verdict.specs.Keyed.{HasItsKey}
-use Rattle.blk_verdict.specs.Kept.{AreShown, HaveKeys, IsLoadedFrom}
-use Rattle.blk_verdict.proofs.KeptKeysFound.{keys-found}
-use Rattle.blk_verdict.proofs.Searched.{all_first, all_others}
+use Rattle.std.proofs.Common.{◌≡◌, ◌∙◌, ◌-◌, ℕ, List, drop, length, length-drop, sym, take, ap, arith}
+use Rattle.std.proofs.lemmas.List.{take_all}
+use Rattle.std.specs.Prelude.{not}
+use Rattle.blk_verdict.proofs.AdmitFacts.{no_name, orphan_is, part_number}
+use Rattle.blk_verdict.proofs.RoleFacts.{name_length}
 use Rattle.blk_verdict.proofs.kept.KeptSoFar.lacks_parent.Goals as goal
 
-pub returns-in_err-read_key_of-clause-untold : goal.returns-in_err-read_key_of-clause-untold
-returns-in_err-read_key_of-clause-untold g c agrees keys =
-    carried c.read_key_of.result c.from_residual.result c.in_err-read_key_of.field-0.0 _ c.in_err-read_key_of.was c.from_residual.ensures.1
-    (c.read_key_of.ensures.untold agrees (λ image there. all_first (HasItsKey image) c.args.loaded.now c.args.self.now.kept.items (keys image there)))
+pub returns-in_default-clause-orphan : goal.returns-in_default-clause-orphan
+returns-in_default-clause-orphan g c image there agrees kept given node are ok same some = absurd (no_name image given node c.args.key.now ok some same c.in_default.ensures.name)
+
+pub has-requires-clause-part : goal.has-requires-clause-part
+has-requires-clause-part g c = part_number c.args.key.now c.in-Some.name c.in-Some.ensures.printed
+
+cut : (key : List ℕ) (n : ℕ) → take n (take (length key - 6) (drop 6 key)) ≡ take n (drop 6 key)
+cut key n = let dropped = length-drop 6 key in ap (take n) (take_all (length key - 6) (drop 6 key) (omega (arith, dropped)))
 
 pub returns-clause-orphan : goal.returns-clause-orphan
-returns-clause-orphan g c =
-    IfOk-weaker c.lacks_parent_of.result _
-    (λ orphan. ForSome (g.F.Folder.told c.args.f.now).files (λ image. Agrees c.args.files.now image → (kept : List shown.Loaded) (given : shown.Loaded) → AreShown image kept c.args.self.now.kept.items → IsLoadedFrom image given c.args.loaded.now → shown.is_part given ≡ true
-    → orphan ≡ audit.is_orphan kept given))
-    (λ orphan is image there agrees kept given are known some.
-    let key = keys-found image known.node given c.args.loaded.now known.loads known.is in
-    is image (told_now image c.in_ok-read_key_of.ensures.stays there) agrees kept given known.node are known.loads (c.in_ok-read_key_of.ensures.key image there given.key key) some)
-    c.lacks_parent_of.ensures.orphan
+returns-clause-orphan g c image there agrees kept given node are ok same some =
+    ap not (c.in_ok-found.ensures.has image there agrees c.super_fast_hash-hash.ensures kept are)
+    ∙ sym (orphan_is image kept given node c.args.key.now (take c.in-Some.name.key_len (take (length c.args.key.now - 6) (drop 6 c.args.key.now))) c.in-Some.name ok some same c.in-Some.ensures.name (cut c.args.key.now c.in-Some.name.key_len))
 
-pub returns-clause-untold : goal.returns-clause-untold
-returns-clause-untold g c agrees keys =
-    if_damaged_weaker c.lacks_parent_of.result _ _ (λ damage none. ap (λ (t : Told). t.files) (sym c.in_ok-read_key_of.ensures.stays) ∙ none)
-    (c.lacks_parent_of.ensures.untold (told_stays (Agrees c.args.files.now) c.in_ok-read_key_of.ensures.stays agrees)
-    (told_stays (λ (image : Image). HaveKeys image c.args.self.now.kept.items) c.in_ok-read_key_of.ensures.stays (λ image there. all_others (HasItsKey image) c.args.loaded.now c.args.self.now.kept.items (keys image there))))
+pub slice_bounds-parent-end : goal.slice_bounds-parent-end
+slice_bounds-parent-end g c = sym (ap (λ (l : List ℕ). length l) (cut c.args.key.now c.in-Some.name.key_len) ∙ name_length c.args.key.now c.in-Some.name c.in-Some.ensures.printed)
