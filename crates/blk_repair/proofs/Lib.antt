@@ -7,6 +7,7 @@ pub mod SealRuns
 pub mod CounterRuns
 pub mod MapRuns
 pub mod WholeChains
+pub mod FrontRuns
 pub mod TableRuns
 pub mod DeletionRuns
 pub mod RepairRuns
