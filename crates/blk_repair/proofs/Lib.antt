@@ -11,3 +11,5 @@ pub mod FrontRuns
 pub mod TableRuns
 pub mod DeletionRuns
 pub mod RepairRuns
+pub mod CrashWord
+pub mod PartRuns
