@@ -4,3 +4,4 @@ pub mod Ends
 pub mod OpenRuns
 pub mod CarriedFaults
 pub mod Starts
+pub mod MakingSteps

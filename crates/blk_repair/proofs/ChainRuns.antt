@@ -1,13 +1,12 @@
 -- How a chain is linked record by record, and what is held on the way.
 use Rattle.std.proofs.Common.{◌≡◌, ℕ, ◌+◌, ◌-◌, ◌<◌, ◌≤◌, Bool, true, false, List, [], ◌∷◌, ◌++◌, length, take, drop, get_or, refl, sym, ◌∙◌, ap, subst, arith}
 use Rattle.std.specs.Prelude.{All, ◌==◌, if◌then◌else◌}
-use Rattle.std.specs.Option.{ForSome}
 use Rattle.std.proofs.lemmas.List.{append-nil, drop_more, drop_all, length-drop, take_all}
 use Rattle.std.proofs.lemmas.List.Elements.{All-weaker, filter_passes}
 use Rattle.blk_image.specs.Image.{Image, Index}
 use Rattle.blk_image.specs.Steps.{TrailStep, after, applied, word_step}
-use Rattle.blk_image.specs.Told.{Told, Along, Applies, AppliesPrefix, IsQuiet, Passes}
-use Rattle.blk_image.proofs.Runs.{passes_part, quiet-append, some_inj, told_whole, until_weaker2}
+use Rattle.blk_image.specs.Told.{Along, IsQuiet}
+use Rattle.blk_image.proofs.Runs.{quiet-append, until_weaker2}
 use Rattle.blk_image.proofs.WordSteps.{quiet-word_step}
 use Rattle.blk_format.specs.Headers.{place_of_bucket}
 use Rattle.blk_format.specs.Records.{entry_next_place}
@@ -95,14 +94,3 @@ chain-leads bucket words image = refl
 
 pub links-lead : (words : List ℕ) → Leads (next_words_steps words) (next_words_steps words) (λ _. [])
 links-lead words image = sym (append-nil (next_words_steps words image))
-
--- what a front of the steps passes, and where all of them lead
-pub chain-passes : (a b : Told) (bucket : ℕ) (words : List ℕ) → bucket < 65536 → ForSome a.files (λ image. AppliesPrefix a b (chain_steps bucket words image)) → ForSome a.files (λ image. (from : Image) → IsNextChain from bucket words image → Passes a b (HoldsTheSame from))
-chain-passes a b bucket words inside part image there from next =
-    passes_part (HoldsTheSame from) (HoldsTheSame from) (part image there) (quiet-chain bucket words image) (λ i h. h)
-    (λ i is_there. subst (λ (x : Image). Along (HoldsTheSame from) x (chain_steps bucket words image)) (some_inj (sym there ∙ is_there)) (mends-next from bucket words image inside next).0)
-
-pub chain-mended : (a b : Told) (bucket : ℕ) (words : List ℕ) → bucket < 65536 → ForSome a.files (λ image. Applies a b (chain_steps bucket words image)) → ForSome a.files (λ image. (from : Image) → IsNextChain from bucket words image → ForSome b.files (HasChainsUpTo from (bucket + 1)))
-chain-mended a b bucket words inside all image there from next =
-    told_whole (HasChainsUpTo from (bucket + 1)) (all image there)
-    (λ i is_there. subst (λ (x : Image). HasChainsUpTo from (bucket + 1) (after (chain_steps bucket words image) x)) (some_inj (sym there ∙ is_there)) (mends-next from bucket words image inside next).1)

@@ -7,6 +7,9 @@ pub mod SealRuns
 pub mod CounterRuns
 pub mod MapRuns
 pub mod WholeChains
+pub mod FrontRuns
 pub mod TableRuns
 pub mod DeletionRuns
 pub mod RepairRuns
+pub mod CrashWord
+pub mod PartRuns

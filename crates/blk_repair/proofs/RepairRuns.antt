@@ -1,14 +1,14 @@
 -- How the parts of repair go one after the other, and what each hands on.
-use Rattle.std.proofs.Common.{◌≡◌, inl, inr, ⊎_elim, ℕ, ◌≤◌, ◌%◌, ◌^◌, Bool, List, Option, None, Some, Result, Ok, Err, OnOk, refl, sym, ◌∙◌, ap, subst, arith, append_assoc, [], ◌∷◌, ◌++◌}
+use Rattle.std.proofs.Common.{◌≡◌, inl, inr, ⊎_elim, ℕ, ◌≤◌, ◌%◌, ◌^◌, Bool, List, Option, None, Some, Result, Ok, Err, OnOk, refl, sym, ◌∙◌, ap, subst, arith, [], ◌∷◌, ◌++◌}
 use Rattle.std.specs.Prelude.{All, map, length, Contains}
 use Rattle.std.specs.List.{filter, flat_map}
 use Rattle.std.specs.Option.{ForSome, option_map}
 use Rattle.std.proofs.lemmas.List.{length-map}
 use Rattle.std.proofs.lemmas.List.Elements.{All-weaker}
-use Rattle.blk_image.specs.Image.{File, Image, Index, AreBytes}
-use Rattle.blk_image.specs.Steps.{TrailStep, after, word_step}
+use Rattle.blk_image.specs.Image.{File, Image, AreBytes}
+use Rattle.blk_image.specs.Steps.{TrailStep, after}
 use Rattle.blk_image.specs.Told.{Told, Applies, Passes}
-use Rattle.blk_image.proofs.Runs.{grows_then, passes_end, passes_then, passes_weaker}
+use Rattle.blk_image.proofs.Runs.{passes_end, passes_then, passes_weaker}
 use Rattle.blk_model.specs.Holding.{open_state}
 use Rattle.blk_model.specs.Items.{Row}
 use Rattle.blk_format.specs.Headers.{HasWholeIndex}
@@ -48,11 +48,11 @@ use Rattle.blk_scan.specs.declared.chains.KeptChains.{KeptChains}
 use Rattle.blk_scan.specs.declared.scan.Scan.{Scan}
 use Rattle.blk_scan.specs.Scans.{AreChainsTold, IsScanOf, kept_as_told}
 use Rattle.blk_repair.specs.Chains.{AreChainsScanned}
-use Rattle.blk_repair.specs.Counters.{HasIndexWords, IsIndexMended, IsNextCounted, counted_words, crash_place, index_steps, index_words_steps}
+use Rattle.blk_repair.specs.Counters.{HasIndexWords, IsIndexMended, IsNextCounted, index_steps}
 use Rattle.blk_repair.specs.Deletions.{DeletesSome, IsMidDeletion}
 use Rattle.blk_repair.specs.Maps.{AreFilesMended, IsNextRebuilt}
 use Rattle.blk_repair.specs.Removals.{IsListScanned, mending_steps}
-use Rattle.blk_repair.specs.Repair.{AreBucketsScanned, AreLinksMended, AreOnlyKeptLeft, AreOthersDeleted, EndsWithCrashWord, IsNextFinished, IsRepairable, IsRepairedFor, counting_steps}
+use Rattle.blk_repair.specs.Repair.{AreBucketsScanned, AreLinksMended, AreOnlyKeptLeft, AreOthersDeleted, IsNextFinished, IsRepairable, IsRepairedFor, counting_steps}
 use Rattle.blk_repair.specs.Seals.{AreSealedNow, HasMendedLinksOf, IsNextSealed, seals_steps}
 use Rattle.blk_repair.proofs.DeletionRuns.{linked-among}
 use Rattle.blk_repair.proofs.ListRuns.{steps-are}
@@ -269,7 +269,7 @@ small-rest : (n : ℕ) → n ≤ 131072 → n % 2 ^ 32 ≡ n
 small-rest n few = omega (arith, few)
 
 -- so many items with so many bytes were told
-counted-told : (scan : Scan) (entry image : Image) (items bytes : ℕ) → items ≡ length scan.kept.items % 2 ^ 32 → bytes ≡ scan.bytes % 2 ^ 32 → IsScanOf entry scan → HasMendedLinksOf entry image → IsNextCounted entry items bytes image
+pub counted-told : (scan : Scan) (entry image : Image) (items bytes : ℕ) → items ≡ length scan.kept.items % 2 ^ 32 → bytes ≡ scan.bytes % 2 ^ 32 → IsScanOf entry scan → HasMendedLinksOf entry image → IsNextCounted entry items bytes image
 counted-told scan entry image items bytes i b told holds =
     let long : length scan.kept.items ≡ length (kept entry) = ap length told.kept_told ∙ length-map (kept entry) kept_as_told in
     record {
@@ -337,30 +337,6 @@ module _ (scan : Scan) (claims : Claims) (c : claims ≡ scan.claims) where
     files = left.files;
     only = left.only;
   }
-
--- ---- the last step
-
--- seals and words of the index end with the crash word
-pub rest-ends : (a b c : Told) (words : List ℕ) (items bytes id : ℕ) (from : Image) → a.files ≡ Some from → Applies a b (seals_steps words from) → ForSome b.files (λ mid. Applies b c (index_steps items bytes id mid)) → EndsWithCrashWord a c
-rest-ends a b c words items bytes id from there first second =
-    let seals : List TrailStep = seals_steps words from in
-    let mid : Image = after seals from in
-    let front : List TrailStep = index_words_steps (counted_words items bytes id) mid in
-    let last : List TrailStep = word_step Index crash_place 1 in
-    record {
-      before = seals ++ front;
-      applies = subst (Applies a c) (sym (append_assoc seals front last)) (grows_then first (second mid (first.files ∙ ap (option_map (after seals)) there)));
-    }
-
--- so does what ends with them
-pub then-ends : {a b c : Told} {P : Image → Type 0} (from : Image) → a.files ≡ Some from → Passes a b P → ForSome b.files (λ _. EndsWithCrashWord b c) → EndsWithCrashWord a c
-then-ends {a} {b} {c} {P} from there first second =
-    let now = still-told from there first in
-    let rest : EndsWithCrashWord b c = second now.0 now.1 in
-    record {
-      before = first.steps ++ rest.before;
-      applies = subst (Applies a c) (sym (append_assoc first.steps rest.before (word_step Index crash_place 1))) (grows_then first.applies rest.applies);
-    }
 
 -- ---- where nothing is to be mended
 

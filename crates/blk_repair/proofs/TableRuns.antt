@@ -7,7 +7,7 @@ use Rattle.blk_image.specs.Image.{Image}
 use Rattle.blk_image.specs.Steps.{TrailStep, after}
 use Rattle.blk_image.specs.Told.{Told, Along, Applies, AppliesPrefix, IsQuiet, Passes}
 use Rattle.blk_image.proofs.Cuts.{after-append}
-use Rattle.blk_image.proofs.Runs.{grows_none, grows_then, part_only, part_then, passes_part, quiet-append, some_inj, told_whole}
+use Rattle.blk_image.proofs.Runs.{grows_none, grows_then, part_only, part_then, part_whole, passes_part, quiet-append, some_inj, told_whole}
 use Rattle.blk_volume.specs.Chains.{IsChain}
 use Rattle.blk_volume.specs.View.{store_of}
 use Rattle.blk_repair_laws.specs.ChainRepair.{AreChainsMended, HasChainsUpTo, chain_repair_steps, chain_steps, chains_steps, kept_records}
@@ -66,6 +66,29 @@ next-is old now records ends whole bucket own told from inside own-is told-is sc
 now-there : (old now : Told) (from : Image) (bucket : ℕ) (to : IsMendedTo old now from bucket) → old.files ≡ Some from → now.files ≡ Some (after to.done from)
 now-there old now from bucket to there = to.applies.files ∙ ap (option_map (after to.done)) there
 
+-- a call that stayed leaves it so
+pub stays-mended : {old now next : Told} {records ends : List ℕ} {whole : List Bool} {bucket : ℕ} → next ≡ now → AreMendedTo old now records ends whole bucket → AreMendedTo old next records ends whole bucket
+stays-mended {old} {now} {next} {records} {ends} {whole} {bucket} same are = subst (λ (t : Told). AreMendedTo old t records ends whole bucket) (sym same) are
+
+-- nothing is told now only where nothing was
+pub were-untold : (old now : Told) (records ends : List ℕ) (whole : List Bool) (bucket : ℕ) → AreMendedTo old now records ends whole bucket → ForSome old.files (AreChainsScanned records ends whole) → now.files ≡ None → old.files ≡ None
+were-untold old now records ends whole bucket are scanned none = by_files old.files refl
+  where
+    no_some : (image : Image) → None ≡ Some image → ⊥
+    no_some image e = cc
+
+    by_files : (o : Option Image) → old.files ≡ o → old.files ≡ None
+    by_files None there = there
+    by_files (Some from) there =
+        let to : IsMendedTo old now from bucket = are.mended from there (scanned from there) in
+        absurd (no_some (after to.done from) (sym none ∙ now-there old now from bucket to there))
+
+-- what was done so far is a front of the steps
+pub part-so-far : (old now : Told) (records ends : List ℕ) (whole : List Bool) (bucket : ℕ) → AreMendedTo old now records ends whole bucket → ForSome old.files (λ from. AreChainsScanned records ends whole from → AppliesPrefix old now (chain_repair_steps from))
+part-so-far old now records ends whole bucket are from there scanned =
+    let to : IsMendedTo old now from bucket = are.mended from there scanned in
+    subst (AppliesPrefix old now) (sym to.split) (part_only (chains_steps (kept_records from) bucket to.left (after to.done from)) (part_whole to.applies))
+
 -- one call more
 module _ (old now : Told) (records ends : List ℕ) (whole : List Bool) (bucket : ℕ) (own : List ℕ) (told : Bool) (inside : bucket < 65536) (own-is : own ≡ records_of records ends bucket) (told-is : told ≡ slice_index_or whole bucket false)
     (are : AreMendedTo old now records ends whole bucket) where
@@ -79,19 +102,6 @@ module _ (old now : Told) (records ends : List ℕ) (whole : List Bool) (bucket 
       by_files : (o : Option Image) → old.files ≡ o → (from : Image) × IsNextBucket from bucket own told image
       by_files None none = absurd (no_some (sym (are.silent none) ∙ here))
       by_files (Some from) there = (from, next-is old now records ends whole bucket own told from inside own-is told-is (scanned from there) (are.mended from there (scanned from there)) image here)
-
-  -- nothing is told now only where nothing was
-  pub were-untold : ForSome old.files (AreChainsScanned records ends whole) → now.files ≡ None → old.files ≡ None
-  were-untold scanned none = by_files old.files refl
-    where
-      no_some : (image : Image) → None ≡ Some image → ⊥
-      no_some image e = cc
-
-      by_files : (o : Option Image) → old.files ≡ o → old.files ≡ None
-      by_files None there = there
-      by_files (Some from) there =
-          let to : IsMendedTo old now from bucket = are.mended from there (scanned from there) in
-          absurd (no_some (after to.done from) (sym none ∙ now-there old now from bucket to there))
 
   module _ (next : Told) where
     pub part-on : ForSome now.files (λ mid. (from : Image) → IsNextBucket from bucket own told mid → AppliesPrefix now next (chain_steps bucket own mid)) → ForSome old.files (λ from. AreChainsScanned records ends whole from → AppliesPrefix old next (chain_repair_steps from))

@@ -1,8 +1,8 @@
 -- The chain that is mended next, and the kept records of all chains.
-use Rattle.std.specs.Prelude.{ℕ, ◌<◌, ◌≡◌, Bool, true, false, List, slice_index_or}
-use Rattle.blk_image.specs.Image.{Image}
+use Rattle.std.specs.Prelude.{ℕ, ◌<◌, ◌≤◌, ◌≡◌, ◌≢◌, ◌%◌, Bool, true, false, List, slice_index, slice_index_or}
+use Rattle.blk_image.specs.Image.{Image, Index, byte}
 use Rattle.blk_format.specs.BlockFiles.{IsWellFormed}
-use Rattle.blk_format.specs.Headers.{table_length}
+use Rattle.blk_format.specs.Headers.{bucket_of, table_length}
 use Rattle.blk_volume.specs.Chains.{IsChain}
 use Rattle.blk_volume.specs.ListImages.{IsWritable}
 use Rattle.blk_volume.specs.View.{store_of}
@@ -20,6 +20,14 @@ pub record IsNextChain (from : Image) (bucket : ℕ) (records : List ℕ) (image
 pub record IsNextBucket (from : Image) (bucket : ℕ) (records : List ℕ) (whole : Bool) (image : Image) : Type 0 where
   pub next : IsNextChain from bucket records image
   pub is_whole : whole ≡ true → IsChain (store_of from) bucket records
+
+-- the words of all other buckets are as before
+abbrev pub KeepsOtherBuckets : ℕ → Image → Image → Type 0
+KeepsOtherBuckets bucket from image = (other : ℕ) → other ≢ bucket → bucket_of (byte image Index) other ≡ bucket_of (byte from Index) other
+
+-- the words of the buckets from one on, up to another, were read: each stands at the place that its bucket has in its piece of the table
+abbrev pub AreFronts : (words : List ℕ) (bucket last : ℕ) → Image → Type 0
+AreFronts words bucket last image = (other : ℕ) → bucket ≤ other → other < last → slice_index words (other % 1024) ≡ bucket_of (byte image Index) other
 
 -- the list was mended, and these are the kept records of all buckets; each bucket that is told whole is the chain of its records
 pub record AreChainsScanned (records ends : List ℕ) (whole : List Bool) (image : Image) : Type 0 where

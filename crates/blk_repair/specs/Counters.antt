@@ -1,8 +1,8 @@
 -- The words of the index that are mended last: the counters, the number of the session, and the crash word.
-use Rattle.std.specs.Prelude.{ℕ, ◌≡◌, ◌<◌, ◌%◌, ◌^◌, ◌==◌, if◌then◌else◌, List, [], ◌∷◌, ◌++◌, length, false}
+use Rattle.std.specs.Prelude.{ℕ, ◌≡◌, ◌<◌, ◌%◌, ◌^◌, ◌==◌, ◌&&◌, if◌then◌else◌, Bool, List, [], ◌∷◌, ◌++◌, length, false}
 use Rattle.std.specs.List.{sum_by}
-use Rattle.blk_image.specs.Image.{Image, Index, byte, word}
-use Rattle.blk_image.specs.Steps.{TrailStep, after, word_step}
+use Rattle.blk_image.specs.Image.{Image, Index, byte, same_file, word}
+use Rattle.blk_image.specs.Steps.{TrailStep, Word, SetLength, Delete, Note, after, word_step}
 use Rattle.blk_image.specs.Told.{Told}
 use Rattle.blk_format.specs.BlockFiles.{is_among}
 use Rattle.blk_format.specs.Headers.{crash_of, header_length, num_bytes_of, num_bytes_place, num_entries_of, num_entries_place, sizes_of, sizes_place, this_id_of}
@@ -20,6 +20,13 @@ this_id_place = 20
 
 abbrev pub crash_place : ℕ
 crash_place = 32
+
+-- whether a step writes a word at the place of the crash word
+abbrev pub writes_crash_word : TrailStep → Bool
+writes_crash_word (Word file place bytes) = same_file file Index && (place == crash_place && (length bytes == 4))
+writes_crash_word (SetLength file n) = false
+writes_crash_word (Delete file) = false
+writes_crash_word (Note number) = false
 
 -- a word of the index's header is neither shown nor checked
 pub record IsHiddenWord (at : ℕ) : Type 0 where

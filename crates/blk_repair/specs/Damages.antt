@@ -3,7 +3,6 @@ use Rattle.std.specs.Prelude.{ℕ, ◌≡◌, ◌⊎◌, ◌+◌, List, All, tru
 use Rattle.blk_image.specs.Image.{Image}
 use Rattle.blk_image.specs.Told.{Told}
 use Rattle.blk_format.specs.Address.{file_selector, place}
-use Rattle.blk_format.specs.Headers.{place_of_bucket}
 use Rattle.blk_format.specs.Records.{entry_next_place}
 use Rattle.blk_format.specs.Sealed.{RecordChecks, record_size}
 use Rattle.blk_io.specs.declared.folder.FileId.TheVariants as names
@@ -12,6 +11,7 @@ use Rattle.blk_io.specs.Faults.{IsShort}
 use Rattle.blk_disk.specs.declared.tables.BlockFiles.{BlockFiles}
 use Rattle.blk_disk.specs.Tables.{is_node_among, is_record_among}
 use Rattle.blk_disk.specs.Unsealed.{IsUnsealed}
+use Rattle.blk_audit.specs.Faults.{IsTableDamage}
 use Rattle.blk_lru.specs.Damages.{IsCompletingDamage, IsEndDamage, IsRemovalDamage}
 
 -- the records of some addresses check
@@ -24,14 +24,9 @@ pub record IsFailedLink (files : BlockFiles) (told : Told) (damage : Damage) : T
   pub stands : is_record_among files entry ≡ true
   pub failed : IsShort told (names.Block (file_selector entry)) (place entry + entry_next_place) 4 damage ⊎ (IsShort told (names.Block (file_selector entry)) (place entry) (record_size entry) damage ⊎ IsUnsealed told entry damage)
 
--- a chain was damaged at the word of its bucket, or at a record
-abbrev pub IsChainRepairDamage : ℕ → BlockFiles → Told → Damage → Type 0
-IsChainRepairDamage bucket files told damage = IsShort told names.Index (place_of_bucket bucket) 4 damage ⊎ IsFailedLink files told damage
-
--- the chain of some bucket was damaged
-pub record IsChainsRepairDamage (files : BlockFiles) (told : Told) (damage : Damage) : Type 0 where
-  pub bucket : ℕ
-  pub met : IsChainRepairDamage bucket files told damage
+-- the chains were damaged at words of the table, or at a record
+abbrev pub IsChainsRepairDamage : BlockFiles → Told → Damage → Type 0
+IsChainsRepairDamage files told damage = IsTableDamage told damage ⊎ IsFailedLink files told damage
 
 -- some node that stands was taken out of the list, from some files on, and that met a damage
 pub record IsRemovalsDamage (files : BlockFiles) (told : Told) (damage : Damage) : Type 0 where

@@ -18,6 +18,7 @@ use Rattle.blk_disk.specs.Tables.{all_files}
 use Rattle.blk_index.specs.Making.{Lists, deletions}
 use Rattle.blk_repair_laws.specs.Mended.{HasMendedFiles}
 use Rattle.blk_repair_laws.specs.RecordSeals.{StaysSealed}
+use Rattle.blk_repair.specs.Parts.{InTurn}
 use Rattle.blk_repair.specs.Seals.{HasMendedLinksOf}
 
 -- the last of the first four block files, which are always linked
@@ -63,6 +64,18 @@ pub record DeletesAll (goes : File → Bool) (first : File) (old new : Told) : T
   pub last : File
   pub up_to : DeletesUpTo goes first last old new
   pub rest : ForSome old.files (λ from. (file : File) → IsBefore last file → has_file from file ≡ true → goes file ≡ false)
+
+-- on an image exactly those files behind one are deleted that go, in the order in which the folder lists them
+pub record Deletes (goes : File → Bool) (first : File) (image : Image) (steps : List TrailStep) : Type 0 where
+  pub files : List File
+  pub last : File
+  pub listed : Lists image first files last
+  pub rest : (file : File) → IsBefore last file → has_file image file ≡ true → goes file ≡ false
+  pub are : steps ≡ deletions (filter goes files)
+
+-- the block files go that aren't linked, and then the external files that aren't claimed
+abbrev pub DeletesOthers : BlockFiles → Claims → Image → List TrailStep → Type 0
+DeletesOthers files claims = InTurn (Deletes (is_unlinked files) last_first_file) (Deletes (is_unclaimed claims) last_block_file)
 
 -- the links are mended; and what was mended of the files is so still, what was sealed, and where only linked block files or only claimed external files were there
 pub record IsMidDeletion (entry from image : Image) : Type 0 where

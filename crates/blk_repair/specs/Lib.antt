@@ -1,4 +1,5 @@
 pub mod Damages
+pub mod Parts
 pub mod Chains
 pub mod Removals
 pub mod Seals

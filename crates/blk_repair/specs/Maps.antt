@@ -1,10 +1,17 @@
 -- The block files that are mended behind the links.
+use Rattle.std.specs.Prelude.{List}
 use Rattle.std.specs.List.{flat_map}
 use Rattle.blk_image.specs.Image.{Image}
+use Rattle.blk_image.specs.Steps.{TrailStep}
+use Rattle.blk_image.specs.Told.{Along, IsQuiet}
 use Rattle.blk_volume.specs.Found.{kept}
 use Rattle.blk_volume.specs.Sound.{words_of}
 use Rattle.blk_addr.specs.Claims.{IsClaimsOf}
 use Rattle.blk_addr.specs.declared.claim_set.Claims.{Claims}
+use Rattle.blk_disk.specs.declared.tables.BlockFiles.{BlockFiles}
+use Rattle.blk_disk.specs.Tables.{all_files}
+use Rattle.blk_alloc.specs.Mending.{AreNeeded}
+use Rattle.blk_alloc.specs.Rebuilding.{IsRebuilding}
 use Rattle.blk_repair_laws.specs.Mended.{HasMendedFiles}
 use Rattle.blk_repair_laws.specs.RecordSeals.{StaysSealed}
 use Rattle.blk_repair.specs.Seals.{HasMendedLinksOf}
@@ -19,3 +26,9 @@ pub record AreFilesMended (entry from image : Image) : Type 0 where
   pub holds : HasMendedLinksOf entry image
   pub files : HasMendedFiles image
   pub seals : StaysSealed from image
+
+-- lengths, maps, counters and updating of the linked files are under way to those of claims at each word, and nothing else differs; each step is needed, so a word is written only where it differs
+pub record Rebuilds (files : BlockFiles) (claims : Claims) (image : Image) (steps : List TrailStep) : Type 0 where
+  pub quiet : IsQuiet steps
+  pub along : Along (IsRebuilding claims (all_files files) image) image steps
+  pub needed : AreNeeded image steps

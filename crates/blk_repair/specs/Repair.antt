@@ -1,5 +1,5 @@
 -- The whole repair of a folder, by what its audit told.
-use Rattle.std.specs.Prelude.{ℕ, ◌≡◌, ◌⊎◌, ◌+◌, ◌%◌, ◌^◌, ◌==◌, if◌then◌else◌, List, [], ◌++◌, length}
+use Rattle.std.specs.Prelude.{ℕ, ◌≡◌, ◌⊎◌, ◌+◌, ◌%◌, ◌^◌, ◌==◌, if◌then◌else◌, List, [], ◌++◌, length, All, false}
 use Rattle.std.specs.List.{sum_by}
 use Rattle.std.specs.declared.option.Option.{Option}
 use Rattle.blk_image.specs.Image.{Image, Index, byte}
@@ -13,19 +13,24 @@ use Rattle.blk_volume.specs.Found.{charge_of, found, kept}
 use Rattle.blk_volume.specs.ListImages.{IsWritable}
 use Rattle.blk_volume.specs.StandsFor.{StandsFor}
 use Rattle.blk_io.specs.declared.fault.Damage.{Damage}
+use Rattle.blk_addr.specs.declared.claim_set.Claims.{Claims}
 use Rattle.blk_disk.specs.declared.tables.BlockFiles.{BlockFiles}
 use Rattle.blk_disk.specs.Tables.{all_files}
 use Rattle.blk_alloc.specs.Rebuilding.{IsShortReadOf}
-use Rattle.blk_repair_laws.specs.ChainRepair.{KeepsAllWalked}
+use Rattle.blk_repair_laws.specs.ChainRepair.{KeepsAllWalked, chain_repair_steps}
+use Rattle.blk_repair_laws.specs.ListRepair.{list_repair_steps}
 use Rattle.blk_repair_laws.specs.KeptSeals.{AreOthersSealed}
 use Rattle.blk_repair_laws.specs.Mended.{HasMendedFiles, HasOnlyKeptFiles, IsMended}
 use Rattle.blk_repair_laws.specs.MendedLinks.{HasMendedLinks}
 use Rattle.blk_scan.specs.declared.chains.KeptChains.{KeptChains}
 use Rattle.blk_scan.specs.declared.scan.Scan.{Scan}
 use Rattle.blk_scan.specs.Scans.{AreChainsTold, IsScanOf}
-use Rattle.blk_repair.specs.Counters.{IsShortIndexWord, crash_place, index_steps}
+use Rattle.blk_repair.specs.Counters.{IsShortIndexWord, crash_place, index_steps, writes_crash_word}
 use Rattle.blk_repair.specs.Damages.{IsChainsRepairDamage, IsListRepairDamage}
-use Rattle.blk_repair.specs.Seals.{HasMendedLinksOf, IsWrongSealed}
+use Rattle.blk_repair.specs.Deletions.{DeletesOthers}
+use Rattle.blk_repair.specs.Maps.{Rebuilds}
+use Rattle.blk_repair.specs.Parts.{Exactly, InTurn}
+use Rattle.blk_repair.specs.Seals.{HasMendedLinksOf, IsWrongSealed, seals_steps}
 
 -- an image is well formed, and this is what was told of it
 pub record IsRepairable (scan : Scan) (image : Image) : Type 0 where
@@ -49,10 +54,11 @@ pub record IsRepairedFor (id : ℕ) (entry image : Image) : Type 0 where
 abbrev pub IsRepaired : Image → Image → Type 0
 IsRepaired entry image = IsRepairedFor (next_id (this_id_of (byte entry Index))) entry image
 
--- the last step made the crash word 1
+-- the last step made the crash word 1, and no step before it wrote that word
 pub record EndsWithCrashWord (old new : Told) : Type 0 where
   pub before : List TrailStep
   pub applies : Applies old new (before ++ word_step Index crash_place 1)
+  pub first : All (λ step. writes_crash_word step ≡ false) before
 
 -- nothing is to be mended but words of the index, and no seal was told to be
 pub record NeedsOnlyWords (scan : Scan) (image : Image) : Type 0 where
@@ -64,6 +70,24 @@ pub record NeedsOnlyWords (scan : Scan) (image : Image) : Type 0 where
 -- the words of the index are mended for what is kept at the entry, and for a session with this number
 abbrev pub counting_steps : Image → ℕ → Image → List TrailStep
 counting_steps entry id image = index_steps (length (kept entry)) (sum_by charge_of (kept entry) % 2 ^ 32) id image
+
+-- The steps, part after part: each part's are made on what the parts before it leave.
+
+-- the use list is repaired, and then the chains
+abbrev pub MendsLinks : Image → List TrailStep → Type 0
+MendsLinks = InTurn (Exactly list_repair_steps) (Exactly chain_repair_steps)
+
+-- the block files become those of what is claimed, and then the files go that nothing names
+abbrev pub MendsFiles : BlockFiles → Claims → Image → List TrailStep → Type 0
+MendsFiles files claims = InTurn (Rebuilds files claims) (DeletesOthers files claims)
+
+-- the seals that are 0 are made whole, and then the words of the index right, for what is kept at the entry
+abbrev pub MendsRest : Scan → Image → ℕ → Image → List TrailStep → Type 0
+MendsRest scan entry id = InTurn (Exactly (seals_steps scan.bare.items)) (Exactly (counting_steps entry id))
+
+-- a folder is repaired: its links, then its files, and then the rest
+abbrev pub RepairsInOrder : BlockFiles → Scan → Image → ℕ → Image → List TrailStep → Type 0
+RepairsInOrder files scan entry id = InTurn MendsLinks (InTurn (MendsFiles files scan.claims) (MendsRest scan entry id))
 
 -- Between the parts.
 

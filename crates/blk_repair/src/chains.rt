@@ -1,52 +1,49 @@
 // Buckets that are made the chains of their kept records.
-ghost use Rattle.std.specs.Prelude.{◌≡◌, ◌+◌, ◌≤◌, None, OnOk, All, true};
+ghost use Rattle.std.specs.Prelude.{◌≡◌, ◌≤◌, None, OnOk, All, true};
 ghost use Rattle.std.specs.Option.{ForSome};
-ghost use Rattle.blk_image.specs.Image.{Image};
-ghost use Rattle.blk_image.specs.Told.{Along, Applies, MakesPartOf, Passes, Rises};
-ghost use Rattle.blk_volume.specs.ListView.{first_or};
+ghost use Rattle.blk_image.specs.Image.{Image, Index as index, byte};
+ghost use Rattle.blk_image.specs.Told.{Along, Applies, MakesPartOf, Rises};
+ghost use Rattle.blk_format.specs.Headers.{bucket_of};
 ghost use Rattle.blk_io.specs.Faults.{IfDamaged, IfDevice};
 ghost use Rattle.blk_disk.specs.Tables.{is_record_among};
 ghost use Rattle.blk_disk.specs.Open.{IsOpen};
-ghost use Rattle.blk_repair_laws.specs.ListRepair.{HoldsTheSame};
-ghost use Rattle.blk_repair_laws.specs.ChainRepair.{HasChainsUpTo, chain_steps, next_words_steps};
-ghost use Rattle.blk_repair.specs.Damages.{AllCheck, IsChainRepairDamage, IsFailedLink};
-ghost use Rattle.blk_repair.specs.Chains.{IsNextChain};
+ghost use Rattle.blk_repair_laws.specs.ChainRepair.{chain_steps, next_words_steps};
+ghost use Rattle.blk_repair.specs.Damages.{AllCheck, IsFailedLink};
+ghost use Rattle.blk_repair.specs.Chains.{IsNextChain, KeepsOtherBuckets};
 
 use crate::links::{first_word, set_front, set_next};
 use blk_addr::Addr;
 use blk_disk::BlockFiles;
 use blk_io::{Fault, Folder};
 
-/// Makes a bucket the chain of some records, from the front: the word of the bucket names the first of them, each has
-/// the one behind it as its next, and the last has 0.
-///
-/// A word is written only where it differs. A record that is to be written and doesn't check is a damage, and so are
-/// too few bytes. This takes at most two folder calls and six for each record.
-pub fn mend_chain<F: Folder>(
+// Makes a bucket the chain of some records, from the front: the word of the bucket, as it was read, names the first of
+// them, each has the one behind it as its next, and the last has 0.
+//
+// A word is written only where it differs. A record that is to be written and doesn't check is a damage, and so are
+// too few bytes. This takes at most one folder call and six for each record.
+pub(crate) fn mend_chain<F: Folder>(
     f: &mut F,
     files: &BlockFiles,
     bucket: u16,
+    front: u32,
     records: &[Addr],
 ) -> Result<(), Fault>
     requires stand { All (λ w. is_record_among files.now w ≡ true) records.now }
     requires is_open { ForSome (F.told f.old).files (IsOpen files.now) }
+    requires read { ForSome (F.told f.old).files (λ image. front ≡ bucket_of (byte image index) bucket) }
     ensures steps { OnOk result (ForSome (F.told f.old).files (λ from. Applies (F.told f.old) (F.told f.new) (chain_steps bucket records.now from))) }
     ensures prefix { MakesPartOf (F.told f.old) (F.told f.new) (λ from. chain_steps bucket records.now from) }
-
-    // Where the chains before this one are mended, this one is then too, and the same is kept and found at each word.
-    ensures mended { OnOk result (ForSome (F.told f.old).files (λ from. (entry : Image) → IsNextChain entry bucket records.now from → ForSome (F.told f.new).files (HasChainsUpTo entry (bucket + 1)))) }
-    ensures stops { ForSome (F.told f.old).files (λ from. (entry : Image) → IsNextChain entry bucket records.now from → Passes (F.told f.old) (F.told f.new) (HoldsTheSame entry)) }
-
+    ensures others { OnOk result (ForSome (F.told f.old).files (λ from. ForSome (F.told f.new).files (KeepsOtherBuckets bucket from))) }
     ensures is_open { ForSome (F.told f.new).files (IsOpen files.now) }
 
     // A folder that tells its files gives a damage only where the records aren't those that are kept.
-    ensures damaged { IfDamaged result (IsChainRepairDamage bucket files.now (F.told f.new)) }
+    ensures damaged { IfDamaged result (IsFailedLink files.now (F.told f.new)) }
     ensures untold { ForSome (F.told f.old).files (λ from. (entry : Image) × IsNextChain entry bucket records.now from) → IfDamaged result (λ _. (F.told f.old).files ≡ None) }
 
     ensures later { F.faults f.old ≤ F.faults f.new }
     ensures device { IfDevice result (Rises (F.faults f.old) (F.faults f.new)) }
 {
-    set_front(f, bucket, first_word(records))?;
+    set_front(f, bucket, front, first_word(records))?;
     link(f, files, records)
 }
 

@@ -17,7 +17,6 @@ mod repairing;
 mod seals;
 mod tables;
 
-pub use chains::mend_chain;
 pub use counters::mend_index;
 pub use deletions::{delete_unclaimed, delete_unlinked};
 pub use list::mend_list;

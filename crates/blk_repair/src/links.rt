@@ -1,13 +1,13 @@
 // The words by which chains are linked: those of the table, and the nexts of records. One is written only where it differs.
-ghost use Rattle.std.specs.Prelude.{◌≡◌, ◌+◌, ◌≤◌, ◌⊎◌, None, OnOk, true};
+ghost use Rattle.std.specs.Prelude.{◌≡◌, ◌≤◌, ◌⊎◌, None, OnErr, OnOk, true};
 ghost use Rattle.std.specs.Option.{ForSome};
+ghost use Rattle.blk_image.specs.Image.{Index as index, byte};
 ghost use Rattle.blk_image.specs.Told.{Applies, MakesPartOf, Rises};
-ghost use Rattle.blk_format.specs.Headers.{HasWholeIndex, place_of_bucket};
+ghost use Rattle.blk_format.specs.Headers.{HasWholeIndex, bucket_of};
 ghost use Rattle.blk_format.specs.Sealed.{RecordChecks};
 ghost use Rattle.blk_volume.specs.View.{store_of};
 ghost use Rattle.blk_volume.specs.ListView.{first_or};
-ghost use Rattle.blk_io.specs.declared.folder.FileId.TheVariants as FileId;
-ghost use Rattle.blk_io.specs.Faults.{IfDamaged, IfDevice, IsShort};
+ghost use Rattle.blk_io.specs.Faults.{IfDamaged, IfDevice};
 ghost use Rattle.blk_disk.specs.Tables.{is_record_among};
 ghost use Rattle.blk_disk.specs.Open.{IsOpen};
 ghost use Rattle.blk_repair_laws.specs.ChainRepair.{bucket_steps, next_steps};
@@ -16,8 +16,8 @@ ghost use Rattle.blk_repair.specs.Damages.{IsFailedLink};
 use blk_addr::Addr;
 use blk_disk::BlockFiles;
 use blk_entry::field;
-use blk_index::{bucket, set_bucket};
-use blk_io::{Fault, Folder};
+use blk_index::set_bucket;
+use blk_io::{Failed, Fault, Folder};
 use blk_record::EntryView;
 
 // The word of the first of some records, or 0.
@@ -30,22 +30,24 @@ pub(crate) fn first_word(records: &[Addr]) -> u32
     }
 }
 
-// The word of a bucket becomes this one, unless it is.
-pub(crate) fn set_front<F: Folder>(f: &mut F, number: u16, word: u32) -> Result<(), Fault>
+// The word of a bucket, as it was read, becomes this one, unless it is.
+pub(crate) fn set_front<F: Folder>(
+    f: &mut F,
+    number: u16,
+    now: u32,
+    word: u32,
+) -> Result<(), Failed>
     requires complete { ForSome (F.told f.old).files HasWholeIndex }
+    requires read { ForSome (F.told f.old).files (λ image. now ≡ bucket_of (byte image index) number) }
     ensures steps { OnOk result (ForSome (F.told f.old).files (λ from. Applies (F.told f.old) (F.told f.new) (bucket_steps number word from))) }
     ensures prefix { MakesPartOf (F.told f.old) (F.told f.new) (λ from. bucket_steps number word from) }
-    ensures damaged { IfDamaged result (IsShort (F.told f.new) FileId.Index (place_of_bucket number) 4) }
-    ensures untold { IfDamaged result (λ _. (F.told f.old).files ≡ None) }
     ensures later { F.faults f.old ≤ F.faults f.new }
-    ensures device { IfDevice result (Rises (F.faults f.old) (F.faults f.new)) }
+    ensures failed { OnErr result (Rises (F.faults f.old) (F.faults f.new)) }
 {
-    let now = bucket(f, number)?;
     if now == word {
         return Ok(());
     }
-    set_bucket(f, number, word)?;
-    Ok(())
+    set_bucket(f, number, word)
 }
 
 // The next of a record becomes this word by a sealed update, unless it is.

@@ -9,7 +9,8 @@ ghost use Rattle.blk_disk.specs.Tables.{all_files, files_of};
 ghost use Rattle.blk_alloc.specs.Extending.{KeepsStanding};
 ghost use Rattle.blk_alloc.specs.Rebuilding.{AreRight, IsShortReadOf};
 ghost use Rattle.blk_repair_laws.specs.MendedChanges.{KeepsMendedLinks};
-ghost use Rattle.blk_repair.specs.Maps.{AreFilesMended, IsNextRebuilt};
+ghost use Rattle.blk_repair.specs.Maps.{AreFilesMended, IsNextRebuilt, Rebuilds};
+ghost use Rattle.blk_repair.specs.Parts.{AppliesOf};
 
 use blk_addr::Claims;
 use blk_alloc::rebuild;
@@ -30,6 +31,9 @@ pub fn mend_files<F: Folder>(
     // In any case the same files are linked, and what stood still does.
     ensures all { (kind : ℕ) → files_of files.new kind ≡ files_of files.old kind }
     ensures keeps { KeepsStanding files.old files.new }
+
+    // A step is made only where it is needed, and none but on lengths, maps, counters and updating.
+    ensures rebuilds { ForSome (F.told f.old).files (λ from. AppliesOf (Rebuilds files.old claims.now) from (F.told f.old) (F.told f.new)) }
 
     // Where the links are mended they stay so at each word, with the same kept and found; where the claims are those of what is kept the files are mended in the end, and what was sealed is so still.
     ensures mended { OnOk result (ForSome (F.told f.old).files (λ from. (entry : Image) → IsNextRebuilt entry claims.now from → ForSome (F.told f.new).files (AreFilesMended entry from))) }

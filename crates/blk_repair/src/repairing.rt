@@ -10,15 +10,17 @@ ghost use Rattle.blk_disk.specs.Tables.{all_files, files_of};
 ghost use Rattle.blk_alloc.specs.Extending.{KeepsStanding};
 ghost use Rattle.blk_alloc.specs.Rebuilding.{IsShortReadOf};
 ghost use Rattle.blk_audit.specs.Sealable.{CanBeSealed};
-ghost use Rattle.blk_repair_laws.specs.ChainRepair.{AreChainsMended};
+ghost use Rattle.blk_repair_laws.specs.ChainRepair.{AreChainsMended, chain_repair_steps};
 ghost use Rattle.blk_repair_laws.specs.ListRepair.{HoldsTheSame};
 ghost use Rattle.blk_repair_laws.specs.Mended.{HasMendedFiles, HasOnlyKeptFiles};
 ghost use Rattle.blk_repair_laws.specs.MendedChanges.{IsMidRepair};
 ghost use Rattle.blk_repair_laws.specs.MendedLinks.{HasMendedLinks};
 ghost use Rattle.blk_scan.specs.Scans.{ChainsStandIf, StandAmong};
 ghost use Rattle.blk_repair.specs.Damages.{IsChainsRepairDamage};
+ghost use Rattle.blk_repair.specs.Deletions.{DeletesOthers};
 ghost use Rattle.blk_repair.specs.Maps.{IsNextRebuilt};
-ghost use Rattle.blk_repair.specs.Repair.{AreBucketsScanned, AreLinksMended, AreOnlyKeptLeft, AreOthersDeleted, EndsWithCrashWord, IsBehindRepairDamage, IsLinksRepairDamage, IsNextFinished, IsRepairDamage, IsRepairable, IsRepaired, IsRepairedFor, IsRestRepairDamage, NeedsOnlyWords, counting_steps, next_id as id_after};
+ghost use Rattle.blk_repair.specs.Parts.{AppliesOf, InTurn};
+ghost use Rattle.blk_repair.specs.Repair.{AreBucketsScanned, AreLinksMended, AreOnlyKeptLeft, AreOthersDeleted, EndsWithCrashWord, IsBehindRepairDamage, IsLinksRepairDamage, IsNextFinished, IsRepairDamage, IsRepairable, IsRepaired, IsRepairedFor, IsRestRepairDamage, MendsFiles, MendsLinks, MendsRest, NeedsOnlyWords, RepairsInOrder, counting_steps, next_id as id_after};
 
 use crate::counters::mend_index;
 use crate::deletions::{delete_unclaimed, delete_unlinked};
@@ -46,9 +48,12 @@ pub fn repair<F: Folder>(f: &mut F, files: &mut BlockFiles, scan: &Scan) -> Resu
     ensures all { (kind : ℕ) → files_of files.new kind ≡ files_of files.old kind }
     ensures keeps { KeepsStanding files.old files.new }
 
-    // With the scan of a well-formed folder nothing is left to mend in the end, and at each word the same is kept and found; the last makes the crash word 1.
+    // With the scan of a well-formed folder nothing is left to mend in the end, and at each word the same is kept and found.
     ensures mended { OnOk result (ForSome (F.told f.old).files (λ from. IsRepairable scan.now from → ForSome (F.told f.new).files (IsRepaired from))) }
     ensures stops { ForSome (F.told f.old).files (λ from. IsRepairable scan.now from → Passes (F.told f.old) (F.told f.new) (IsMidRepair from)) }
+
+    // The steps are those of the parts, in their order; so the last makes the crash word 1, and no other writes it.
+    ensures steps { OnOk result (ForSome (F.told f.old).files (λ from. IsRepairable scan.now from → AppliesOf (RepairsInOrder files.old scan.now from (id_after (this_id_of (byte from index)))) from (F.told f.old) (F.told f.new))) }
     ensures last { OnOk result (ForSome (F.told f.old).files (λ from. IsRepairable scan.now from → EndsWithCrashWord (F.told f.old) (F.told f.new))) }
 
     ensures is_open { ForSome (F.told f.new).files (IsOpen files.new) }
@@ -91,7 +96,7 @@ fn mend_all<F: Folder>(
     ensures keeps { KeepsStanding files.old files.new }
     ensures mended { OnOk result (ForSome (F.told f.old).files (λ from. IsRepairable scan.now from → ForSome (F.told f.new).files (IsRepairedFor this_id from))) }
     ensures stops { ForSome (F.told f.old).files (λ from. IsRepairable scan.now from → Passes (F.told f.old) (F.told f.new) (IsMidRepair from)) }
-    ensures last { OnOk result (ForSome (F.told f.old).files (λ from. IsRepairable scan.now from → EndsWithCrashWord (F.told f.old) (F.told f.new))) }
+    ensures steps { OnOk result (ForSome (F.told f.old).files (λ from. IsRepairable scan.now from → AppliesOf (RepairsInOrder files.old scan.now from this_id) from (F.told f.old) (F.told f.new))) }
     ensures is_open { ForSome (F.told f.new).files (IsOpen files.new) }
     ensures clean { OnOk result (ForSome (F.told f.old).files (λ from. IsRepairable scan.now from → NeedsOnlyWords scan.now from → Applies (F.told f.old) (F.told f.new) (counting_steps from this_id from))) }
     ensures damaged { IfDamaged result (IsRepairDamage files.new (F.told f.new)) }
@@ -117,7 +122,7 @@ fn mend_behind<F: Folder>(
     ensures keeps { KeepsStanding files.old files.new }
     ensures mended { OnOk result (ForSome (F.told f.old).files (λ from. (entry : Image) → AreLinksMended scan.now entry from → ForSome (F.told f.new).files (IsRepairedFor this_id entry))) }
     ensures stops { ForSome (F.told f.old).files (λ from. (entry : Image) → AreLinksMended scan.now entry from → Passes (F.told f.old) (F.told f.new) (IsMidRepair entry)) }
-    ensures last { OnOk result (ForSome (F.told f.old).files (λ from. (entry : Image) → AreLinksMended scan.now entry from → EndsWithCrashWord (F.told f.old) (F.told f.new))) }
+    ensures steps { OnOk result (ForSome (F.told f.old).files (λ from. (entry : Image) → AreLinksMended scan.now entry from → AppliesOf (InTurn (MendsFiles files.old scan.now.claims) (MendsRest scan.now entry this_id)) from (F.told f.old) (F.told f.new))) }
     ensures is_open { ForSome (F.told f.new).files (IsOpen files.new) }
     ensures clean { OnOk result (ForSome (F.told f.old).files (λ from. (entry : Image) → AreLinksMended scan.now entry from → NeedsOnlyWords scan.now from → Applies (F.told f.old) (F.told f.new) (counting_steps entry this_id from))) }
     ensures damaged { IfDamaged result (IsBehindRepairDamage files.new (F.told f.new)) }
@@ -137,6 +142,7 @@ fn mend_store<F: Folder>(f: &mut F, files: &mut BlockFiles, claims: &Claims) -> 
     ensures keeps { KeepsStanding files.old files.new }
     ensures mended { OnOk result (ForSome (F.told f.old).files (λ from. (entry : Image) → IsNextRebuilt entry claims.now from → ForSome (F.told f.new).files (AreOnlyKeptLeft entry from))) }
     ensures stops { ForSome (F.told f.old).files (λ from. (entry : Image) → IsNextRebuilt entry claims.now from → Passes (F.told f.old) (F.told f.new) (IsMidRepair entry)) }
+    ensures steps { OnOk result (ForSome (F.told f.old).files (λ from. AppliesOf (MendsFiles files.old claims.now) from (F.told f.old) (F.told f.new))) }
     ensures is_open { ForSome (F.told f.new).files (IsOpen files.new) }
     ensures clean { OnOk result (ForSome (F.told f.old).files (λ from. (entry : Image) → IsNextRebuilt entry claims.now from → HasMendedFiles from → HasOnlyKeptFiles from → Stays (F.told f.old) (F.told f.new))) }
     ensures damaged { IfDamaged result (IsShortReadOf (F.told f.new) (all_files files.new)) }
@@ -155,6 +161,7 @@ fn delete_others<F: Folder>(f: &mut F, files: &BlockFiles, claims: &Claims) -> R
     requires is_open { ForSome (F.told f.old).files (IsOpen files.now) }
     ensures mended { OnOk result (ForSome (F.told f.old).files (λ from. (entry : Image) → IsNextRebuilt entry claims.now from → ForSome (F.told f.new).files (AreOthersDeleted entry from))) }
     ensures stops { ForSome (F.told f.old).files (λ from. (entry : Image) → IsNextRebuilt entry claims.now from → Passes (F.told f.old) (F.told f.new) (IsMidRepair entry)) }
+    ensures steps { OnOk result (ForSome (F.told f.old).files (λ from. AppliesOf (DeletesOthers files.now claims.now) from (F.told f.old) (F.told f.new))) }
     ensures is_open { ForSome (F.told f.new).files (IsOpen files.now) }
     ensures clean { OnOk result (ForSome (F.told f.old).files (λ from. (entry : Image) → IsNextRebuilt entry claims.now from → HasOnlyKeptFiles from → Stays (F.told f.old) (F.told f.new))) }
     ensures silent { (F.told f.old).files ≡ None → (F.told f.new).files ≡ None }
@@ -171,6 +178,7 @@ fn mend_links<F: Folder>(f: &mut F, files: &BlockFiles, scan: &Scan) -> Result<(
     requires is_open { ForSome (F.told f.old).files (IsOpen files.now) }
     ensures mended { OnOk result (ForSome (F.told f.old).files (λ from. IsRepairable scan.now from → ForSome (F.told f.new).files (AreLinksMended scan.now from))) }
     ensures stops { ForSome (F.told f.old).files (λ from. IsRepairable scan.now from → Passes (F.told f.old) (F.told f.new) (IsMidRepair from)) }
+    ensures steps { OnOk result (ForSome (F.told f.old).files (λ from. IsRepairable scan.now from → AppliesOf MendsLinks from (F.told f.old) (F.told f.new))) }
     ensures is_open { ForSome (F.told f.new).files (IsOpen files.now) }
     ensures clean { OnOk result (ForSome (F.told f.old).files (λ from. IsRepairable scan.now from → HasMendedLinks from → Stays (F.told f.old) (F.told f.new))) }
     ensures damaged { IfDamaged result (IsLinksRepairDamage files.now (F.told f.new)) }
@@ -189,6 +197,7 @@ fn mend_buckets<F: Folder>(f: &mut F, files: &BlockFiles, scan: &Scan) -> Result
     requires is_open { ForSome (F.told f.old).files (IsOpen files.now) }
     ensures mended { OnOk result (ForSome (F.told f.old).files (λ from. AreBucketsScanned scan.now.chains from → ForSome (F.told f.new).files (AreChainsMended from))) }
     ensures stops { ForSome (F.told f.old).files (λ from. AreBucketsScanned scan.now.chains from → Passes (F.told f.old) (F.told f.new) (HoldsTheSame from)) }
+    ensures steps { OnOk result (ForSome (F.told f.old).files (λ from. AreBucketsScanned scan.now.chains from → Applies (F.told f.old) (F.told f.new) (chain_repair_steps from))) }
     ensures is_open { ForSome (F.told f.new).files (IsOpen files.now) }
     ensures clean { OnOk result (ForSome (F.told f.old).files (λ from. AreBucketsScanned scan.now.chains from → HasMendedLinks from → Stays (F.told f.old) (F.told f.new))) }
     ensures damaged { IfDamaged result (IsChainsRepairDamage files.now (F.told f.new)) }
@@ -214,7 +223,7 @@ fn mend_rest<F: Folder>(
     requires is_open { ForSome (F.told f.old).files (IsOpen files.now) }
     ensures mended { OnOk result (ForSome (F.told f.old).files (λ from. (entry : Image) → IsNextFinished scan.now entry from → ForSome (F.told f.new).files (IsRepairedFor this_id entry))) }
     ensures stops { ForSome (F.told f.old).files (λ from. (entry : Image) → IsNextFinished scan.now entry from → Passes (F.told f.old) (F.told f.new) (IsMidRepair entry)) }
-    ensures last { OnOk result (ForSome (F.told f.old).files (λ _. EndsWithCrashWord (F.told f.old) (F.told f.new))) }
+    ensures steps { OnOk result (ForSome (F.told f.old).files (λ from. (entry : Image) → IsNextFinished scan.now entry from → AppliesOf (MendsRest scan.now entry this_id) from (F.told f.old) (F.told f.new))) }
     ensures is_open { ForSome (F.told f.new).files (IsOpen files.now) }
     ensures clean { OnOk result (ForSome (F.told f.old).files (λ from. (entry : Image) → IsNextFinished scan.now entry from → NeedsOnlyWords scan.now from → Applies (F.told f.old) (F.told f.new) (counting_steps entry this_id from))) }
     ensures damaged { IfDamaged result (IsRestRepairDamage files.now (F.told f.new)) }

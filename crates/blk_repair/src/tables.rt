@@ -1,28 +1,35 @@
 // All buckets are made the chains of their kept records.
-ghost use Rattle.std.specs.Prelude.{◌≡◌, ◌<◌, ◌≤◌, None, OnOk, All, true, length};
+ghost use Rattle.std.specs.Prelude.{◌≡◌, ◌<◌, ◌≤◌, None, IfOk, OnOk, All, true, false, length};
 ghost use Rattle.std.specs.Option.{ForSome};
-ghost use Rattle.blk_image.specs.Image.{Image};
-ghost use Rattle.blk_image.specs.Told.{Applies, AppliesPrefix, Passes, Rises};
-ghost use Rattle.blk_format.specs.Headers.{table_length};
+ghost use Rattle.blk_image.specs.Image.{Image, Index as index, byte};
+ghost use Rattle.blk_image.specs.Told.{Applies, AppliesPrefix, Passes, Rises, Stays};
+ghost use Rattle.blk_format.specs.Headers.{HasWholeIndex, bucket_of, table_length};
 ghost use Rattle.blk_io.specs.Faults.{IfDamaged, IfDevice};
 ghost use Rattle.blk_disk.specs.Open.{IsOpen};
 ghost use Rattle.blk_disk.specs.Tables.{is_record_among};
 ghost use Rattle.blk_repair_laws.specs.ChainRepair.{AreChainsMended, chain_repair_steps, chain_steps};
 ghost use Rattle.blk_repair_laws.specs.ListRepair.{HoldsTheSame};
 ghost use Rattle.blk_audit.specs.BucketEnds.{AreEnds, records_of as records_among};
-ghost use Rattle.blk_repair.specs.Chains.{AreChainsScanned, IsNextBucket};
-ghost use Rattle.blk_repair.specs.Damages.{IsChainRepairDamage, IsChainsRepairDamage};
+ghost use Rattle.blk_audit.specs.Faults.{IsTableDamage};
+ghost use Rattle.blk_repair.specs.Chains.{AreChainsScanned, AreFronts, IsNextBucket, KeepsOtherBuckets};
+ghost use Rattle.blk_repair.specs.Damages.{IsChainsRepairDamage, IsFailedLink};
 
 use crate::chains::mend_chain;
 use blk_addr::Addr;
 use blk_disk::BlockFiles;
+use blk_index::buckets;
 use blk_io::{Fault, Folder};
+
+// The words of the table that one call reads.
+const PIECE: usize = 1024;
 
 /// Makes each bucket the chain of its kept records, in rising order of the buckets.
 ///
 /// `records` are the kept records of all buckets, bucket after bucket and each chain in its order. `ends` tells for each
 /// of the 65536 buckets where its records end among them, so they begin where those of the bucket before end. A bucket
-/// for which `whole` is true is the chain of its records already, and isn't read. A damage is one of `mend_chain`.
+/// for which `whole` is true is the chain of its records already. The words of 1024 buckets are read by one call, and only
+/// where one of them isn't told whole: so the table takes at most 64 calls beside its writes. A record that is to be
+/// written and doesn't check is a damage, and so are too few bytes.
 pub fn mend_chains<F: Folder>(
     f: &mut F,
     files: &BlockFiles,
@@ -52,11 +59,42 @@ pub fn mend_chains<F: Folder>(
     ensures later { F.faults f.old ≤ F.faults f.new }
     ensures device { IfDevice result (Rises (F.faults f.old) (F.faults f.new)) }
 {
+    let mut table = [0u32; PIECE];
+    let mut read = 0;
     for i in 0..ends.len() {
+        read = read_piece(f, whole[i], i as u16, read, &mut table)?;
         let own = records_of(records, ends, i);
-        mend_bucket(f, files, i as u16, own, whole[i])?;
+        mend_bucket(f, files, i as u16, table[i % PIECE], own, whole[i])?;
     }
     Ok(())
+}
+
+// Reads the words of the piece of the table in which a bucket stands, unless it is told whole or they were read: the
+// words of the buckets before `read` were. Gives the bucket up to which they are read then.
+fn read_piece<F: Folder>(
+    f: &mut F,
+    whole: bool,
+    bucket: u16,
+    read: u32,
+    table: &mut [u32],
+) -> Result<u32, Fault>
+    requires size { length table.old ≡ 1024 }
+    requires fronts { ForSome (F.told f.old).files (AreFronts table.old bucket read) }
+    ensures size { length table.new ≡ 1024 }
+    ensures fronts { IfOk result (λ now. ForSome (F.told f.old).files (AreFronts table.new bucket now)) }
+    ensures reached { IfOk result (λ now. whole ≡ false → bucket < now) }
+    ensures stays { Stays (F.told f.old) (F.told f.new) }
+    ensures damaged { IfDamaged result (IsTableDamage (F.told f.new)) }
+    ensures untold { ForSome (F.told f.old).files HasWholeIndex → IfDamaged result (λ _. (F.told f.old).files ≡ None) }
+    ensures later { F.faults f.old ≤ F.faults f.new }
+    ensures device { IfDevice result (Rises (F.faults f.old) (F.faults f.new)) }
+{
+    if whole || u32::from(bucket) < read {
+        return Ok(read);
+    }
+    let first = bucket - bucket % PIECE as u16;
+    buckets(f, first, table)?;
+    Ok(u32::from(first) + PIECE as u32)
 }
 
 // Makes a bucket the chain of its kept records, unless it is told whole.
@@ -64,16 +102,19 @@ fn mend_bucket<F: Folder>(
     f: &mut F,
     files: &BlockFiles,
     bucket: u16,
+    front: u32,
     records: &[Addr],
     whole: bool,
 ) -> Result<(), Fault>
     requires stand { All (λ w. is_record_among files.now w ≡ true) records.now }
     requires is_open { ForSome (F.told f.old).files (IsOpen files.now) }
+    requires read { whole ≡ false → ForSome (F.told f.old).files (λ image. front ≡ bucket_of (byte image index) bucket) }
     ensures steps { OnOk result (ForSome (F.told f.old).files (λ from. (entry : Image) → IsNextBucket entry bucket records.now whole from → Applies (F.told f.old) (F.told f.new) (chain_steps bucket records.now from))) }
     ensures prefix { ForSome (F.told f.old).files (λ from. (entry : Image) → IsNextBucket entry bucket records.now whole from → AppliesPrefix (F.told f.old) (F.told f.new) (chain_steps bucket records.now from)) }
+    ensures others { OnOk result (ForSome (F.told f.old).files (λ from. ForSome (F.told f.new).files (KeepsOtherBuckets bucket from))) }
     ensures is_open { ForSome (F.told f.new).files (IsOpen files.now) }
     ensures silent { (F.told f.old).files ≡ None → (F.told f.new).files ≡ None }
-    ensures damaged { IfDamaged result (IsChainRepairDamage bucket files.now (F.told f.new)) }
+    ensures damaged { IfDamaged result (IsFailedLink files.now (F.told f.new)) }
     ensures untold { ForSome (F.told f.old).files (λ from. (entry : Image) × IsNextBucket entry bucket records.now whole from) → IfDamaged result (λ _. (F.told f.old).files ≡ None) }
     ensures later { F.faults f.old ≤ F.faults f.new }
     ensures device { IfDevice result (Rises (F.faults f.old) (F.faults f.new)) }
@@ -81,7 +122,7 @@ fn mend_bucket<F: Folder>(
     if whole {
         return Ok(());
     }
-    mend_chain(f, files, bucket, records)
+    mend_chain(f, files, bucket, front, records)
 }
 
 // The records of a bucket among those of all buckets.

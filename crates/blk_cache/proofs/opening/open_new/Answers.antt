@@ -4,7 +4,11 @@ use Rattle.blk_image.specs.Image.{Image}
 use Rattle.blk_image.specs.Told.{Passes}
 use Rattle.blk_image.proofs.Runs.{passes_then, passes_weaker}
 use Rattle.blk_io.proofs.Carried.{if_damaged_weaker}
-use Rattle.blk_repair.proofs.RepairRuns.{none-before, still-told, then-ends}
+use Rattle.blk_format.specs.NewFolder.{new_index_words}
+use Rattle.blk_index.specs.Making.{folder_steps}
+use Rattle.blk_repair.proofs.CrashWord.{then-ends}
+use Rattle.blk_repair.proofs.RepairRuns.{none-before, still-told}
+use Rattle.blk_cache.proofs.MakingSteps.{spare-folder}
 use Rattle.blk_cache.specs.Opened.{IsJustMade}
 use Rattle.blk_cache.specs.Opening.{HoldsStill}
 use Rattle.blk_cache.proofs.OpenRuns.{made-opened, made-still, making-still, passes-silent}
@@ -45,7 +49,11 @@ returns-clause-stops g c from there =
     (passes_weaker (c.open_made.ensures.stops (mid g c from there) (here g c from there)) (λ i. still i (c.requires.unfinished from there) (made g c from there)) (λ i. still i (c.requires.unfinished from there) (made g c from there)))
 
 pub returns-clause-last : goal.returns-clause-last
-returns-clause-last g c = on_ok_weaker c.open_made.result (λ ends from there. then-ends from there (first g c from there) ends) c.open_made.ensures.last
+returns-clause-last g c =
+    on_ok_weaker c.open_made.result
+    (λ ends from there.
+    let making = c.in_ok-make.ensures.steps in
+    then-ends (g.F.Folder.told c.open_made.new.f) (folder_steps making.deleted (new_index_words c.args.moment)) from there making.applies (spare-folder making.deleted c.args.moment) ends) c.open_made.ensures.last
 
 pub returns-clause-untold : goal.returns-clause-untold
 returns-clause-untold g c =

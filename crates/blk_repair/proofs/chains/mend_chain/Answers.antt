@@ -1,15 +1,16 @@
-use Rattle.std.proofs.Common.{◌≡◌, ℕ, List, [], None, refl, subst, inl, inr, rules}
+use Rattle.std.proofs.Common.{◌≡◌, ℕ, List, [], refl, subst, rules}
 use Rattle.std.specs.Option.{ForSome}
 use Rattle.std.proofs.lemmas.Result.{on_ok_weaker}
 use Rattle.blk_image.specs.Image.{Image}
 use Rattle.blk_image.specs.Steps.{TrailStep}
 use Rattle.blk_image.specs.Told.{Along, Applies, AppliesPrefix}
-use Rattle.blk_io.proofs.Carried.{carried, if_damaged_weaker}
+use Rattle.blk_io.proofs.Carried.{if_damaged_weaker}
 use Rattle.blk_volume.specs.ListView.{first_or}
 use Rattle.blk_repair_laws.specs.ChainRepair.{bucket_steps, chain_steps, next_words_steps}
 use Rattle.blk_repair.specs.Damages.{AllCheck}
 use Rattle.blk_repair.proofs.Choices.{bucket-open, chain-open}
-use Rattle.blk_repair.proofs.ChainRuns.{chain-leads, chain-mended, chain-passes, links-check, links-lead}
+use Rattle.blk_repair.proofs.ChainRuns.{chain-leads, links-check, links-lead}
+use Rattle.blk_repair.proofs.FrontRuns.{others-kept}
 use Rattle.blk_repair.proofs.Progress.{Progress, begun, ended, now_has, stays-open, stopped, was_untold, went_on}
 use Rattle.blk_repair.proofs.chains.mend_chain.Given as given
 use Rattle.blk_repair.proofs.chains.mend_chain.Goals as goal
@@ -31,22 +32,10 @@ returns-in_err-set_front-clause-prefix g c = record {
   silent = search rules;
 }
 
-pub returns-in_err-set_front-clause-stops : goal.returns-in_err-set_front-clause-stops
-returns-in_err-set_front-clause-stops g c = chain-passes (g.F.Folder.told c.args.f.now) (g.F.Folder.told c.set_front.new.f) c.args.bucket c.args.records.now c.ranges.bucket.fits (returns-in_err-set_front-clause-prefix g c).made
-
 pub returns-in_err-set_front-clause-is_open : goal.returns-in_err-set_front-clause-is_open
 returns-in_err-set_front-clause-is_open g c =
     stays-open c.args.files.now (g.F.Folder.told c.args.f.now) (g.F.Folder.told c.set_front.new.f) (chain_steps c.args.bucket c.args.records.now) (chain-open c.args.files.now c.args.bucket c.args.records.now) c.requires.is_open
     (returns-in_err-set_front-clause-prefix g c).made c.in_err-set_front.ensures.prefix.silent
-
-pub returns-in_err-set_front-clause-damaged : goal.returns-in_err-set_front-clause-damaged
-returns-in_err-set_front-clause-damaged g c =
-    carried c.set_front.result c.from_residual.result c.in_err-set_front.field-0.0 _ c.in_err-set_front.was c.from_residual.ensures.1
-    (if_damaged_weaker c.set_front.result _ _ (λ damage short. inl short) c.set_front.ensures.damaged)
-
-pub returns-in_err-set_front-clause-untold : goal.returns-in_err-set_front-clause-untold
-returns-in_err-set_front-clause-untold g c next =
-    carried c.set_front.result c.from_residual.result c.in_err-set_front.field-0.0 (λ _. (g.F.Folder.told c.args.f.now).files ≡ None) c.in_err-set_front.was c.from_residual.ensures.1 c.set_front.ensures.untold
 
 -- the word of the bucket was written, and the links are left
 half : (g : given.Over) (c : goal.After-link g) → Progress (g.F.Folder.told c.args.f.now) (g.F.Folder.told c.set_front.new.f) (chain_steps c.args.bucket c.args.records.now) (next_words_steps c.args.records.now)
@@ -67,19 +56,10 @@ returns-clause-prefix g c = record {
   silent = λ none. c.link.ensures.prefix.silent (c.in_ok-set_front.ensures.prefix.silent none);
 }
 
-pub returns-clause-mended : goal.returns-clause-mended
-returns-clause-mended g c = on_ok_weaker c.link.result (λ made. chain-mended (g.F.Folder.told c.args.f.now) (g.F.Folder.told c.link.new.f) c.args.bucket c.args.records.now c.ranges.bucket.fits made) (returns-clause-steps g c)
-
-pub returns-clause-stops : goal.returns-clause-stops
-returns-clause-stops g c = chain-passes (g.F.Folder.told c.args.f.now) (g.F.Folder.told c.link.new.f) c.args.bucket c.args.records.now c.ranges.bucket.fits (returns-clause-prefix g c).made
-
 pub returns-clause-is_open : goal.returns-clause-is_open
 returns-clause-is_open g c =
     stays-open c.args.files.now (g.F.Folder.told c.args.f.now) (g.F.Folder.told c.link.new.f) (chain_steps c.args.bucket c.args.records.now) (chain-open c.args.files.now c.args.bucket c.args.records.now) c.requires.is_open
     (returns-clause-prefix g c).made (returns-clause-prefix g c).silent
-
-pub returns-clause-damaged : goal.returns-clause-damaged
-returns-clause-damaged g c = if_damaged_weaker c.link.result _ _ (λ damage wrong. inr wrong) c.link.ensures.damaged
 
 pub returns-clause-untold : goal.returns-clause-untold
 returns-clause-untold g c next =
@@ -88,3 +68,6 @@ returns-clause-untold g c next =
     (now_has (g.F.Folder.told c.args.f.now) (g.F.Folder.told c.set_front.new.f) (bucket_steps c.args.bucket (first_or 0 c.args.records.now)) (λ image. Along (AllCheck c.args.records.now) image (next_words_steps c.args.records.now image))
     (front c.args.records.now c.args.bucket c.first_word.result (λ (s : Image → List TrailStep). ForSome (g.F.Folder.told c.args.f.now).files (λ from. Applies (g.F.Folder.told c.args.f.now) (g.F.Folder.told c.set_front.new.f) (s from))) c.first_word.ensures c.in_ok-set_front.ensures.steps)
     c.in_ok-set_front.ensures.prefix.silent (λ image there. links-check (next image there).0 c.args.bucket c.args.records.now image c.ranges.bucket.fits (next image there).1)))
+
+pub returns-clause-others : goal.returns-clause-others
+returns-clause-others g c = on_ok_weaker c.link.result (λ made. others-kept (g.F.Folder.told c.args.f.now) (g.F.Folder.told c.link.new.f) c.args.bucket c.args.records.now made) (returns-clause-steps g c)

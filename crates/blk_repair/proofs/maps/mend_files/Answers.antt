@@ -2,6 +2,7 @@ use Rattle.blk_format.specs.Headers.{HasWholeIndex}
 use Rattle.blk_io.proofs.Carried.{told_at_end}
 use Rattle.blk_disk.specs.Tables.{all_files}
 use Rattle.blk_repair.proofs.MapRuns.{files-mended-now, index-whole, rebuilding-ends, rebuilding-passes}
+use Rattle.blk_repair.proofs.PartRuns.{rebuilds-made}
 use Rattle.blk_repair.proofs.maps.mend_files.Goals as goal
 
 pub returns-in_err-rebuild-clause-stops : goal.returns-in_err-rebuild-clause-stops
@@ -33,3 +34,9 @@ returns-clause-mended g c from was entry next now here =
 
 pub rebuild-requires : goal.rebuild-requires
 rebuild-requires g c = record { agrees = λ image there. (c.requires.is_open image there).agrees }
+
+pub returns-in_err-rebuild-clause-rebuilds : goal.returns-in_err-rebuild-clause-rebuilds
+returns-in_err-rebuild-clause-rebuilds g c = rebuilds-made c.args.files.now c.args.claims.now c.rebuild.ensures.stops
+
+pub returns-clause-rebuilds : goal.returns-clause-rebuilds
+returns-clause-rebuilds g c = rebuilds-made c.args.files.now c.args.claims.now c.rebuild.ensures.stops

@@ -1,6 +1,8 @@
 use Rattle.std.proofs.Common.{◌∙◌}
 use Rattle.std.proofs.lemmas.Result.{on_ok_weaker}
 use Rattle.blk_image.proofs.Runs.{passes_weaker}
+use Rattle.blk_repair.specs.Deletions.{Deletes, is_unclaimed, is_unlinked, last_block_file, last_first_file}
+use Rattle.blk_repair.proofs.PartRuns.{deletes-made, in-turn}
 use Rattle.blk_repair.proofs.RepairRuns.{deletion-mid, deletions-done, deletions-stop, here-still}
 use Rattle.blk_repair.proofs.repairing.delete_others.Goals as goal
 
@@ -27,3 +29,11 @@ returns-clause-clean g c =
     (λ claimed from there entry next only.
     let same = c.delete_unlinked.ensures.clean from there only.only_linked in
     c.delete_unclaimed.ensures.clean from (here-still from there same) entry next only.only_claimed ∙ same) c.delete_unclaimed.ensures.claimed
+
+pub returns-clause-steps : goal.returns-clause-steps
+returns-clause-steps g c =
+    on_ok_weaker c.delete_unclaimed.result
+    (λ all from there.
+    in-turn (g.F.Folder.told c.delete_unclaimed.new.f) (Deletes (is_unlinked c.args.files.now) last_first_file) (Deletes (is_unclaimed c.args.claims.now) last_block_file) from there
+    (deletes-made (is_unlinked c.args.files.now) last_first_file from there c.in_ok-delete_unlinked.ensures.steps)
+    (λ mid here. deletes-made (is_unclaimed c.args.claims.now) last_block_file mid here all)) c.delete_unclaimed.ensures.steps

@@ -3,8 +3,10 @@ use Rattle.std.proofs.lemmas.Result.{on_ok_weaker}
 use Rattle.blk_image.specs.Image.{Image}
 use Rattle.blk_image.specs.Told.{Told, Applies}
 use Rattle.blk_io.proofs.Carried.{if_damaged_weaker, told_at_end}
-use Rattle.blk_repair.specs.Repair.{AreLinksMended, IsRepairedFor, counting_steps}
-use Rattle.blk_repair.proofs.RepairRuns.{here-still, joined, led, none-before, still-told, then-ends}
+use Rattle.blk_repair.specs.Parts.{InTurn}
+use Rattle.blk_repair.specs.Repair.{AreLinksMended, IsRepairedFor, MendsFiles, MendsLinks, MendsRest, counting_steps}
+use Rattle.blk_repair.proofs.PartRuns.{in-turn}
+use Rattle.blk_repair.proofs.RepairRuns.{here-still, joined, led, none-before, still-told}
 use Rattle.blk_repair.proofs.repairing.mend_all.Goals as goal
 
 pub returns-clause-mended : goal.returns-clause-mended
@@ -25,10 +27,6 @@ returns-clause-untold g c all =
     (told_at_end (g.F.Folder.told c.args.f.now).files (g.F.Folder.told c.mend_links.new.f).files (λ mid. (entry : Image) × AreLinksMended c.args.scan.now entry mid) c.mend_links.ensures.silent
     (λ from there mid here. (from, c.in_ok-mend_links.ensures.mended from there (all from there) mid here))))
 
-pub returns-clause-last : goal.returns-clause-last
-returns-clause-last g c =
-    on_ok_weaker c.mend_behind.result (λ made from there is. then-ends from there (c.mend_links.ensures.stops from there is) (λ mid here. made mid here from (c.in_ok-mend_links.ensures.mended from there is mid here))) c.mend_behind.ensures.last
-
 pub returns-clause-clean : goal.returns-clause-clean
 returns-clause-clean g c =
     on_ok_weaker c.mend_behind.result
@@ -36,3 +34,10 @@ returns-clause-clean g c =
     let same = c.in_ok-mend_links.ensures.clean from there is needs.links in
     let here = here-still from there same in
     subst (λ (t : Told). Applies t (g.F.Folder.told c.mend_behind.new.f) (counting_steps from c.args.this_id from)) same (clean from here from (c.in_ok-mend_links.ensures.mended from there is from here) needs)) c.mend_behind.ensures.clean
+
+pub returns-clause-steps : goal.returns-clause-steps
+returns-clause-steps g c =
+    on_ok_weaker c.mend_behind.result
+    (λ made from there is.
+    in-turn (g.F.Folder.told c.mend_behind.new.f) MendsLinks (InTurn (MendsFiles c.args.files.now c.args.scan.now.claims) (MendsRest c.args.scan.now from c.args.this_id)) from there (c.in_ok-mend_links.ensures.steps from there is)
+    (λ mid here. made mid here from (c.in_ok-mend_links.ensures.mended from there is mid here))) c.mend_behind.ensures.steps

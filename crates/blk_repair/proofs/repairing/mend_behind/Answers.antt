@@ -5,8 +5,11 @@ use Rattle.blk_image.specs.Image.{Image}
 use Rattle.blk_image.specs.Told.{Told, Applies, Passes}
 use Rattle.blk_io.proofs.Carried.{if_damaged_weaker, told_at_end}
 use Rattle.blk_repair_laws.specs.MendedChanges.{IsMidRepair}
-use Rattle.blk_repair.specs.Repair.{AreLinksMended, IsNextFinished, IsRepairedFor, counting_steps}
-use Rattle.blk_repair.proofs.RepairRuns.{files-next, finished-next, here-still, joined, led, none-before, still-told, then-ends}
+use Rattle.blk_addr.specs.declared.claim_set.Claims.{Claims}
+use Rattle.blk_repair.specs.Parts.{AppliesOf}
+use Rattle.blk_repair.specs.Repair.{AreLinksMended, IsNextFinished, IsRepairedFor, MendsFiles, MendsRest, counting_steps}
+use Rattle.blk_repair.proofs.PartRuns.{in-turn}
+use Rattle.blk_repair.proofs.RepairRuns.{files-next, finished-next, here-still, joined, led, none-before, still-told}
 use Rattle.blk_repair.proofs.repairing.mend_behind.Given as given
 use Rattle.blk_repair.proofs.repairing.mend_behind.Goals as goal
 
@@ -38,9 +41,6 @@ returns-clause-untold g c some =
     (told_at_end (g.F.Folder.told c.args.f.now).files (g.F.Folder.told c.mend_store.new.f).files (λ mid. (entry : Image) × IsNextFinished c.args.scan.now entry mid) c.mend_store.ensures.silent
     (λ from there mid here. ((some from there).0, handed g c from there (some from there).0 (some from there).1 mid here))))
 
-pub returns-clause-last : goal.returns-clause-last
-returns-clause-last g c = on_ok_weaker c.mend_rest.result (λ made from there entry links. then-ends from there (first g c from there entry links) made) c.mend_rest.ensures.last
-
 pub returns-clause-clean : goal.returns-clause-clean
 returns-clause-clean g c =
     on_ok_weaker c.mend_rest.result
@@ -48,3 +48,11 @@ returns-clause-clean g c =
     let same = c.in_ok-mend_store.ensures.clean from there entry (files-next c.args.scan.now c.claims.result.now c.claims.ensures entry from links) needs.files needs.only in
     let here = here-still from there same in
     subst (λ (t : Told). Applies t (g.F.Folder.told c.mend_rest.new.f) (counting_steps entry c.args.this_id from)) same (clean from here entry (handed g c from there entry links from here) needs)) c.mend_rest.ensures.clean
+
+pub returns-clause-steps : goal.returns-clause-steps
+returns-clause-steps g c =
+    on_ok_weaker c.mend_rest.result
+    (λ made from there entry links.
+    in-turn (g.F.Folder.told c.mend_rest.new.f) (MendsFiles c.args.files.now c.args.scan.now.claims) (MendsRest c.args.scan.now entry c.args.this_id) from there
+    (subst (λ (cs : Claims). AppliesOf (MendsFiles c.args.files.now cs) from (g.F.Folder.told c.args.f.now) (g.F.Folder.told c.mend_store.new.f)) c.claims.ensures (c.in_ok-mend_store.ensures.steps from there))
+    (λ mid here. made mid here entry (handed g c from there entry links mid here))) c.mend_rest.ensures.steps

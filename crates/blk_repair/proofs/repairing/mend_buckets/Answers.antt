@@ -1,7 +1,10 @@
-use Rattle.std.proofs.Common.{Option, sym, subst}
+use Rattle.std.proofs.Common.{Option, refl, sym, subst}
 use Rattle.std.proofs.lemmas.Result.{on_ok_weaker}
+use Rattle.blk_image.specs.Told.{Applies}
+use Rattle.blk_image.proofs.Runs.{grows_none}
 use Rattle.blk_scan.specs.declared.chains.KeptChains.{KeptChains}
 use Rattle.blk_repair.specs.Repair.{AreBucketsScanned}
+use Rattle.blk_repair.proofs.PartRuns.{none-asked}
 use Rattle.blk_repair.proofs.RepairRuns.{chains-clean, chains-told}
 use Rattle.blk_repair.proofs.repairing.mend_buckets.Goals as goal
 
@@ -27,3 +30,14 @@ returns-in-Some-clause-clean g c =
     (made from there
     (chains-told c.in-Some.chains.now c.records.result.now c.ends.result.now c.whole.result.now from c.records.ensures c.ends.ensures c.whole.ensures (subst (λ (o : Option KeptChains). AreBucketsScanned o from) (sym c.in-Some.ensures) is))))
     c.mend_chains.ensures.steps
+
+pub returns-in-None-clause-steps : goal.returns-in-None-clause-steps
+returns-in-None-clause-steps g c from there is =
+    subst (Applies (g.F.Folder.told c.args.f.now) (g.F.Folder.told c.args.f.now)) (sym (none-asked from (subst (λ (o : Option KeptChains). AreBucketsScanned o from) (sym c.in-None.ensures) is))) (grows_none refl)
+
+pub returns-in-Some-clause-steps : goal.returns-in-Some-clause-steps
+returns-in-Some-clause-steps g c =
+    on_ok_weaker c.mend_chains.result
+    (λ made from there is.
+    made from there
+    (chains-told c.in-Some.chains.now c.records.result.now c.ends.result.now c.whole.result.now from c.records.ensures c.ends.ensures c.whole.ensures (subst (λ (o : Option KeptChains). AreBucketsScanned o from) (sym c.in-Some.ensures) is))) c.mend_chains.ensures.steps

@@ -1,12 +1,16 @@
-use Rattle.std.proofs.Common.{◌≡◌, ◌∙◌, Some}
+use Rattle.std.proofs.Common.{◌≡◌, ◌∙◌, Some, sym, subst}
 use Rattle.std.proofs.lemmas.Result.{on_ok_weaker}
 use Rattle.std.specs.Option.{ForSome}
 use Rattle.blk_image.specs.Image.{Image}
-use Rattle.blk_image.specs.Told.{Passes}
+use Rattle.blk_image.specs.Told.{Applies, Passes}
 use Rattle.blk_io.proofs.Carried.{if_damaged_weaker, told_at_end}
-use Rattle.blk_repair_laws.specs.ListRepair.{HoldsTheSame, IsListMended}
+use Rattle.blk_repair_laws.specs.ChainRepair.{chain_repair_steps}
+use Rattle.blk_repair_laws.specs.ListRepair.{HoldsTheSame, IsListMended, list_repair_steps}
+use Rattle.blk_repair.specs.Parts.{Exactly}
 use Rattle.blk_repair.specs.Removals.{IsListScanned}
 use Rattle.blk_repair.specs.Repair.{AreBucketsScanned, IsRepairable}
+use Rattle.blk_repair.proofs.ListRuns.{steps-are}
+use Rattle.blk_repair.proofs.PartRuns.{exactly-made, in-turn}
 use Rattle.blk_repair.proofs.RepairRuns.{can-write, chains-next, here-still, links-done, links-stops, list-clean, list-scanned, list-stops, none-before, still-told}
 use Rattle.blk_repair.proofs.repairing.mend_links.Given as given
 use Rattle.blk_repair.proofs.repairing.mend_links.Goals as goal
@@ -55,3 +59,14 @@ returns-clause-clean g c =
     let same = list-clean (g.F.Folder.told c.args.f.now) (g.F.Folder.told c.mend_list.new.f) c.walked_nodes.result.now c.kept_nodes.result.now from (scanned g c from there is) links (c.in_ok-mend_list.ensures.steps from there) in
     let here = here-still from there same in
     clean from here (chains-next c.args.scan.now (g.F.Folder.told c.args.f.now) (g.F.Folder.told c.mend_list.new.f) from there is (held g c from there is) (mended g c from there is) from here) links ∙ same) c.mend_buckets.ensures.clean
+
+pub returns-clause-steps : goal.returns-clause-steps
+returns-clause-steps g c =
+    on_ok_weaker c.mend_buckets.result
+    (λ made from there is.
+    let asked = steps-are from c.walked_nodes.result.now c.kept_nodes.result.now (scanned g c from there is) in
+    in-turn (g.F.Folder.told c.mend_buckets.new.f) (Exactly list_repair_steps) (Exactly chain_repair_steps) from there
+    (exactly-made list_repair_steps from (subst (Applies (g.F.Folder.told c.args.f.now) (g.F.Folder.told c.mend_list.new.f)) (sym asked) (c.in_ok-mend_list.ensures.steps from there)))
+    (λ mid here.
+    exactly-made chain_repair_steps mid
+    (made mid here (chains-next c.args.scan.now (g.F.Folder.told c.args.f.now) (g.F.Folder.told c.mend_list.new.f) from there is (held g c from there is) (mended g c from there is) mid here)))) c.mend_buckets.ensures.steps

@@ -3,8 +3,9 @@ use Rattle.std.proofs.lemmas.Result.{on_ok_weaker}
 use Rattle.blk_io.proofs.Carried.{if_damaged_weaker}
 use Rattle.blk_repair.specs.Counters.{index_steps}
 use Rattle.blk_repair.proofs.CounterRuns.{index-open}
+use Rattle.blk_repair.proofs.PartRuns.{rest-made}
 use Rattle.blk_repair.proofs.Progress.{stays-open}
-use Rattle.blk_repair.proofs.RepairRuns.{none-before, on_ok-both, rest-clean, rest-done, rest-ends, rest-stops, seals-next, seals-stop, still-told}
+use Rattle.blk_repair.proofs.RepairRuns.{none-before, on_ok-both, rest-clean, rest-done, rest-stops, seals-next, seals-stop, still-told}
 use Rattle.blk_repair.proofs.repairing.mend_rest.Goals as goal
 
 pub returns-in_err-seal_records-clause-stops : goal.returns-in_err-seal_records-clause-stops
@@ -38,16 +39,16 @@ returns-clause-untold g c some =
     none-before (g.F.Folder.told c.args.f.now) (g.F.Folder.told c.seal_records.new.f)
     (λ from there. still-told from there (c.seal_records.ensures.stops from there (some from there).0 (seals-next c.args.scan.now c.bare.result.now c.bare.ensures (some from there).0 from (some from there).1))) none) c.mend_index.ensures.untold
 
-pub returns-clause-last : goal.returns-clause-last
-returns-clause-last g c =
-    on_ok_weaker c.mend_index.result
-    (λ made from there.
-    rest-ends (g.F.Folder.told c.args.f.now) (g.F.Folder.told c.seal_records.new.f) (g.F.Folder.told c.mend_index.new.f) c.bare.result.now c.low_word-items.result c.low_word-bytes.result c.args.this_id from there
-    (c.in_ok-seal_records.ensures.steps from there) made) c.mend_index.ensures.steps
-
 pub returns-clause-clean : goal.returns-clause-clean
 returns-clause-clean g c =
     on_ok_weaker c.mend_index.result
     (λ made from there entry next needs.
     rest-clean c.args.scan.now entry from (g.F.Folder.told c.args.f.now) (g.F.Folder.told c.seal_records.new.f) (g.F.Folder.told c.mend_index.new.f) c.bare.result.now c.low_word-items.result c.low_word-bytes.result c.args.this_id c.bare.ensures
     (c.low_word-items.ensures ∙ ap (λ (n : ℕ). n % 2 ^ 32) c.items.ensures) (c.low_word-bytes.ensures ∙ ap (λ (n : ℕ). n % 2 ^ 32) c.bytes.ensures) there next needs.bare (c.in_ok-seal_records.ensures.steps from there) made) c.mend_index.ensures.steps
+
+pub returns-clause-steps : goal.returns-clause-steps
+returns-clause-steps g c =
+    on_ok_weaker c.mend_index.result
+    (λ made from there entry next.
+    rest-made c.args.scan.now entry from (g.F.Folder.told c.mend_index.new.f) c.bare.result.now c.low_word-items.result c.low_word-bytes.result c.args.this_id c.bare.ensures
+    (c.low_word-items.ensures ∙ ap (λ (n : ℕ). n % 2 ^ 32) c.items.ensures) (c.low_word-bytes.ensures ∙ ap (λ (n : ℕ). n % 2 ^ 32) c.bytes.ensures) there next (c.in_ok-seal_records.ensures.steps from there) made) c.mend_index.ensures.steps

@@ -3,6 +3,9 @@ use Rattle.blk_image.proofs.Runs.{passes_weaker}
 use Rattle.blk_io.proofs.Carried.{carried, if_damaged_weaker}
 use Rattle.blk_alloc.specs.Rebuilding.{IsShortReadOf}
 use Rattle.blk_repair_laws.proofs.MendedChanges.{keeps-mid}
+use Rattle.blk_repair.specs.Deletions.{DeletesOthers}
+use Rattle.blk_repair.specs.Maps.{Rebuilds}
+use Rattle.blk_repair.proofs.PartRuns.{in-turn, others-same}
 use Rattle.blk_repair.proofs.RepairRuns.{files-right, here-still, same-files, store-done, store-stops}
 use Rattle.blk_repair.proofs.repairing.mend_store.Goals as goal
 
@@ -33,3 +36,8 @@ pub returns-clause-clean : goal.returns-clause-clean
 returns-clause-clean g c from there entry next files only =
     let same = c.mend_files.ensures.clean from there (files-right entry from c.args.claims.now c.args.files.now next (c.requires.is_open from there) files) in
     c.in_ok-delete_others.ensures.clean from (here-still from there same) entry next only ∙ same
+
+pub returns-clause-steps : goal.returns-clause-steps
+returns-clause-steps g c from there =
+    in-turn (g.F.Folder.told c.delete_others.new.f) (Rebuilds c.args.files.now c.args.claims.now) (DeletesOthers c.args.files.now c.args.claims.now) from there (c.mend_files.ensures.rebuilds from there)
+    (others-same c.args.files.now c.mend_files.new.files c.args.claims.now c.mend_files.ensures.all c.in_ok-delete_others.ensures.steps)

@@ -1,10 +1,15 @@
 use Rattle.std.proofs.Common.{ℕ, sym, ◌∙◌, ap, subst}
 use Rattle.std.proofs.lemmas.Result.{on_ok_weaker}
 use Rattle.std.specs.Option.{ForSome}
+use Rattle.blk_image.specs.Image.{Index, byte}
 use Rattle.blk_image.specs.Told.{Told, Applies}
+use Rattle.blk_format.specs.Headers.{this_id_of}
 use Rattle.blk_io.proofs.Carried.{if_damaged_weaker}
 use Rattle.blk_disk.specs.Open.{IsOpen}
-use Rattle.blk_repair.specs.Repair.{EndsWithCrashWord, IsRepairable, IsRepairedFor, counting_steps, next_id}
+use Rattle.blk_repair.specs.Parts.{AppliesOf}
+use Rattle.blk_repair.specs.Repair.{IsRepairable, IsRepairedFor, RepairsInOrder, counting_steps, next_id}
+use Rattle.blk_repair.proofs.PartRuns.{repair-ends}
+use Rattle.blk_repair.proofs.RepairRuns.{can-write}
 use Rattle.blk_repair.proofs.repairing.repair.Goals as goal
 
 pub returns-in_err-this_id-clause-is_open : goal.returns-in_err-this_id-clause-is_open
@@ -25,10 +30,20 @@ returns-clause-untold g c all =
     if_damaged_weaker c.mend_all.result _ _ (λ damage none. sym (ap (λ (t : Told). t.files) c.in_ok-this_id.ensures.stays) ∙ none)
     (c.mend_all.ensures.untold (subst (λ (t : Told). ForSome t.files (IsRepairable c.args.scan.now)) (sym c.in_ok-this_id.ensures.stays) all))
 
+pub returns-clause-steps : goal.returns-clause-steps
+returns-clause-steps g c =
+    on_ok_weaker c.mend_all.result
+    (λ made from there is.
+    subst (λ (id : ℕ). AppliesOf (RepairsInOrder c.args.files.now c.args.scan.now from id) from (g.F.Folder.told c.args.f.now) (g.F.Folder.told c.mend_all.new.f)) (c.next_id.ensures ∙ ap next_id (c.in_ok-this_id.ensures.word from there))
+    (subst (λ (t : Told). AppliesOf (RepairsInOrder c.args.files.now c.args.scan.now from c.next_id.result) from t (g.F.Folder.told c.mend_all.new.f)) c.in_ok-this_id.ensures.stays (made from (ap (λ (t : Told). t.files) c.in_ok-this_id.ensures.stays ∙ there) is)))
+    c.mend_all.ensures.steps
+
 pub returns-clause-last : goal.returns-clause-last
 returns-clause-last g c =
     on_ok_weaker c.mend_all.result
-    (λ made from there is. subst (λ (t : Told). EndsWithCrashWord t (g.F.Folder.told c.mend_all.new.f)) c.in_ok-this_id.ensures.stays (made from (ap (λ (t : Told). t.files) c.in_ok-this_id.ensures.stays ∙ there) is)) c.mend_all.ensures.last
+    (λ made from there is.
+    repair-ends c.args.files.now c.args.scan.now (next_id (this_id_of (byte from Index))) from (can-write c.args.files.now from (g.met.F.Folder.are_bytes c.args.f.now from there) (c.requires.is_open from there)) is (made from there is))
+    (returns-clause-steps g c)
 
 pub returns-clause-clean : goal.returns-clause-clean
 returns-clause-clean g c =

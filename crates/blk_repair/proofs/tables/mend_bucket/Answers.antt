@@ -1,7 +1,9 @@
-use Rattle.std.proofs.Common.{Bool, subst, sym, refl}
+use Rattle.std.proofs.Common.{Bool, ap, subst, sym, refl, ◌∙◌}
 use Rattle.std.proofs.lemmas.Result.{on_ok_weaker}
+use Rattle.blk_image.specs.Image.{Image, Index, byte}
 use Rattle.blk_image.specs.Told.{Applies}
-use Rattle.blk_image.proofs.Runs.{grows_none, part_whole}
+use Rattle.blk_image.proofs.Runs.{grows_none, part_whole, some_inj}
+use Rattle.blk_format.specs.Headers.{bucket_of}
 use Rattle.blk_repair.specs.Chains.{IsNextBucket}
 use Rattle.blk_repair.proofs.WholeChains.{whole-steps}
 use Rattle.blk_repair.proofs.tables.mend_bucket.Goals as goal
@@ -19,3 +21,9 @@ returns-clause-steps g c = on_ok_weaker c.mend_chain.result (λ made image there
 
 pub returns-clause-prefix : goal.returns-clause-prefix
 returns-clause-prefix g c image there entry is = c.mend_chain.ensures.prefix.made image there
+
+pub returns-then-whole-clause-others : goal.returns-then-whole-clause-others
+returns-then-whole-clause-others g c from there image here other apart = ap (λ (i : Image). bucket_of (byte i Index) other) (some_inj (sym here ∙ there))
+
+pub mend_chain-requires-clause-read : goal.mend_chain-requires-clause-read
+mend_chain-requires-clause-read g c = c.requires.read c.if-whole.false

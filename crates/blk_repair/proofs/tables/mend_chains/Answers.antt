@@ -1,13 +1,19 @@
-use Rattle.std.proofs.Common.{◌≡◌, ◌<◌, ℕ, None, refl, arith}
+use Rattle.std.proofs.Common.{◌≡◌, ◌<◌, ℕ, None, inl, refl, sym, subst, arith}
+use Rattle.std.specs.Option.{ForSome}
+use Rattle.blk_image.specs.Told.{Told}
 use Rattle.blk_image.proofs.Runs.{part_whole}
 use Rattle.blk_io.proofs.Carried.{carried, if_damaged_weaker}
-use Rattle.blk_repair.proofs.TableRuns.{has-next, mended-none, mended-on, part-on, repair-mends, repair-passes, repair-steps, were-untold}
+use Rattle.blk_repair.specs.Chains.{AreFronts}
+use Rattle.blk_repair.proofs.FrontRuns.{fronts-on}
+use Rattle.blk_repair.proofs.TableRuns.{has-next, mended-none, mended-on, part-on, part-so-far, repair-mends, repair-passes, repair-steps, stays-mended, were-untold}
 use Rattle.blk_repair.proofs.tables.mend_chains.Goals as goal
 
 pub loop-i-init : goal.loop-i-init
 loop-i-init g c = record {
   are = mended-none (g.F.Folder.told c.args.f.now) c.args.records.now c.args.ends.now c.args.whole.now;
   is_open = c.requires.is_open;
+  size = refl;
+  fronts = λ image there other low high. absurd (omega (arith, high));
   later = omega arith;
 }
 
@@ -15,32 +21,59 @@ loop-i-init g c = record {
 below : (i n : ℕ) → i < n → n ≡ 65536 → i < 65536
 below i n less is = omega (arith, less, is)
 
+-- ---- the words of the table are read
+
+pub returns-in_err-read-clause-prefix : goal.returns-in_err-read-clause-prefix
+returns-in_err-read-clause-prefix g c =
+    part-so-far (g.F.Folder.told c.args.f.now) (g.F.Folder.told c.read_piece.new.f) c.args.records.now c.args.ends.now c.args.whole.now c.loop-i.i (stays-mended c.read_piece.ensures.stays c.loop-i.invariant.are)
+
+pub returns-in_err-read-clause-stops : goal.returns-in_err-read-clause-stops
+returns-in_err-read-clause-stops g c = repair-passes (g.F.Folder.told c.args.f.now) (g.F.Folder.told c.read_piece.new.f) c.args.records.now c.args.ends.now c.args.whole.now (returns-in_err-read-clause-prefix g c)
+
+pub returns-in_err-read-clause-untold : goal.returns-in_err-read-clause-untold
+returns-in_err-read-clause-untold g c scanned =
+    carried c.read_piece.result c.from_residual.result c.in_err-read.field-0.0 (λ _. (g.F.Folder.told c.args.f.now).files ≡ None) c.in_err-read.was c.from_residual.ensures.1
+    (if_damaged_weaker c.read_piece.result _ _
+    (λ damage none. were-untold (g.F.Folder.told c.args.f.now) (g.F.Folder.told c.loop-i.f) c.args.records.now c.args.ends.now c.args.whole.now c.loop-i.i c.loop-i.invariant.are scanned none)
+    (c.read_piece.ensures.untold (λ image here. (c.loop-i.invariant.is_open image here).whole_index)))
+
+pub returns-in_err-read-clause-damaged : goal.returns-in_err-read-clause-damaged
+returns-in_err-read-clause-damaged g c =
+    carried c.read_piece.result c.from_residual.result c.in_err-read.field-0.0 _ c.in_err-read.was c.from_residual.ensures.1
+    (if_damaged_weaker c.read_piece.result _ _ (λ damage short. inl short) c.read_piece.ensures.damaged)
+
+-- ---- a bucket is mended
+
 pub returns-in_err-mend_bucket-clause-prefix : goal.returns-in_err-mend_bucket-clause-prefix
 returns-in_err-mend_bucket-clause-prefix g c =
-    part-on (g.F.Folder.told c.args.f.now) (g.F.Folder.told c.loop-i.f) c.args.records.now c.args.ends.now c.args.whole.now c.loop-i.i c.records_of-own.result.now _ (below c.loop-i.i _ c.loop-i-test.true c.requires.ends.many) c.records_of-own.ensures refl
-    c.loop-i.invariant.are (g.F.Folder.told c.mend_bucket.new.f) c.mend_bucket.ensures.prefix
+    part-on (g.F.Folder.told c.args.f.now) (g.F.Folder.told c.read_piece.new.f) c.args.records.now c.args.ends.now c.args.whole.now c.loop-i.i c.records_of-own.result.now _ (below c.loop-i.i _ c.loop-i-test.true c.requires.ends.many) c.records_of-own.ensures refl
+    (stays-mended c.read_piece.ensures.stays c.loop-i.invariant.are) (g.F.Folder.told c.mend_bucket.new.f) c.mend_bucket.ensures.prefix
 
 pub returns-in_err-mend_bucket-clause-stops : goal.returns-in_err-mend_bucket-clause-stops
 returns-in_err-mend_bucket-clause-stops g c = repair-passes (g.F.Folder.told c.args.f.now) (g.F.Folder.told c.mend_bucket.new.f) c.args.records.now c.args.ends.now c.args.whole.now (returns-in_err-mend_bucket-clause-prefix g c)
 
 pub returns-in_err-mend_bucket-clause-untold : goal.returns-in_err-mend_bucket-clause-untold
 returns-in_err-mend_bucket-clause-untold g c scanned =
-    carried c.mend_bucket.result c.from_residual.result c.in_err-mend_bucket.field-0.0 (λ _. (g.F.Folder.told c.args.f.now).files ≡ None) c.in_err-mend_bucket.was c.from_residual.ensures.1
+    carried c.mend_bucket.result c.from_residual-in_err-mend_bucket.result c.in_err-mend_bucket.field-0.0 (λ _. (g.F.Folder.told c.args.f.now).files ≡ None) c.in_err-mend_bucket.was c.from_residual-in_err-mend_bucket.ensures.1
     (if_damaged_weaker c.mend_bucket.result _ _
     (λ damage none.
-    were-untold (g.F.Folder.told c.args.f.now) (g.F.Folder.told c.loop-i.f) c.args.records.now c.args.ends.now c.args.whole.now c.loop-i.i c.records_of-own.result.now _ (below c.loop-i.i _ c.loop-i-test.true c.requires.ends.many) c.records_of-own.ensures refl
-    c.loop-i.invariant.are scanned none)
+    were-untold (g.F.Folder.told c.args.f.now) (g.F.Folder.told c.read_piece.new.f) c.args.records.now c.args.ends.now c.args.whole.now c.loop-i.i (stays-mended c.read_piece.ensures.stays c.loop-i.invariant.are) scanned none)
     (c.mend_bucket.ensures.untold
-    (has-next (g.F.Folder.told c.args.f.now) (g.F.Folder.told c.loop-i.f) c.args.records.now c.args.ends.now c.args.whole.now c.loop-i.i c.records_of-own.result.now _ (below c.loop-i.i _ c.loop-i-test.true c.requires.ends.many) c.records_of-own.ensures refl
-    c.loop-i.invariant.are scanned)))
+    (has-next (g.F.Folder.told c.args.f.now) (g.F.Folder.told c.read_piece.new.f) c.args.records.now c.args.ends.now c.args.whole.now c.loop-i.i c.records_of-own.result.now _ (below c.loop-i.i _ c.loop-i-test.true c.requires.ends.many) c.records_of-own.ensures refl
+    (stays-mended c.read_piece.ensures.stays c.loop-i.invariant.are) scanned)))
 
 pub loop-i-preserved : goal.loop-i-preserved
 loop-i-preserved g c = record {
-  are = mended-on (g.F.Folder.told c.args.f.now) (g.F.Folder.told c.loop-i.f) c.args.records.now c.args.ends.now c.args.whole.now c.loop-i.i c.records_of-own.result.now _ (below c.loop-i.i _ c.loop-i-test.true c.requires.ends.many) c.records_of-own.ensures refl
-      c.loop-i.invariant.are (g.F.Folder.told c.mend_bucket.new.f) c.in_ok-mend_bucket.ensures.steps c.mend_bucket.ensures.silent;
+  are = mended-on (g.F.Folder.told c.args.f.now) (g.F.Folder.told c.read_piece.new.f) c.args.records.now c.args.ends.now c.args.whole.now c.loop-i.i c.records_of-own.result.now _ (below c.loop-i.i _ c.loop-i-test.true c.requires.ends.many) c.records_of-own.ensures refl
+      (stays-mended c.read_piece.ensures.stays c.loop-i.invariant.are) (g.F.Folder.told c.mend_bucket.new.f) c.in_ok-mend_bucket.ensures.steps c.mend_bucket.ensures.silent;
   is_open = c.mend_bucket.ensures.is_open;
-  later = omega (arith, c.loop-i.invariant.later, c.mend_bucket.ensures.later);
+  size = c.read_piece.ensures.size;
+  fronts = fronts-on (g.F.Folder.told c.read_piece.new.f) (g.F.Folder.told c.mend_bucket.new.f) c.read_piece.new.table c.loop-i.i c.in_ok-read.read
+      (subst (λ (t : Told). ForSome t.files (AreFronts c.read_piece.new.table c.loop-i.i c.in_ok-read.read)) (sym c.read_piece.ensures.stays) c.in_ok-read.ensures.fronts) c.in_ok-mend_bucket.ensures.others c.mend_bucket.ensures.silent;
+  later = omega (arith, c.loop-i.invariant.later, c.read_piece.ensures.later, c.mend_bucket.ensures.later);
 }
+
+-- ---- all buckets are mended
 
 pub returns-clause-steps : goal.returns-clause-steps
 returns-clause-steps g c =

@@ -1,6 +1,7 @@
-use Rattle.std.proofs.Common.{◌≤◌}
+use Rattle.std.proofs.Common.{◌≡◌, ◌≤◌, length}
 use Rattle.std.specs.Option.{ForSome}
 use Rattle.blk_disk.specs.Open.{IsOpen}
+use Rattle.blk_repair.specs.Chains.{AreFronts}
 use Rattle.blk_repair.proofs.TableRuns.{AreMendedTo}
 use Rattle.blk_repair.proofs.tables.mend_chains.Given as goal
 
@@ -8,5 +9,7 @@ abbrev pub invariant-loop-i : goal.invariant-loop-i
 invariant-loop-i g l = record {
   are : AreMendedTo (g.F.Folder.told l.fn.f) (g.F.Folder.told l.f) l.records l.ends l.whole l.i;
   is_open : ForSome (g.F.Folder.told l.f).files (IsOpen l.files);
+  size : length l.table ≡ 1024;
+  fronts : ForSome (g.F.Folder.told l.f).files (AreFronts l.table l.i l.read);
   later : g.F.Folder.faults l.fn.f ≤ g.F.Folder.faults l.f;
 }

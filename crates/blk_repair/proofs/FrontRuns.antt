@@ -1,0 +1,73 @@
+-- The words of the buckets, as they were read, while other buckets are mended.
+use Rattle.std.proofs.Common.{◌≡◌, ℕ, ◌+◌, ◌%◌, ◌<◌, ◌≤◌, Bool, true, false, List, [], ◌∷◌, length, Option, None, refl, sym, ◌∙◌, ap, subst, arith}
+use Rattle.std.specs.Prelude.{◌==◌, if◌then◌else◌}
+use Rattle.std.specs.Option.{ForSome, unwrap_or}
+use Rattle.blk_image.specs.Bytes.{content, word_bytes}
+use Rattle.blk_image.specs.Image.{Image, Index, Block, byte}
+use Rattle.blk_image.specs.Steps.{TrailStep, Word, after, applied, word_step, word_steps}
+use Rattle.blk_image.specs.Told.{Told, Applies}
+use Rattle.blk_image.proofs.Cuts.{after-append}
+use Rattle.blk_image.proofs.Images.{word-after_other}
+use Rattle.blk_image.proofs.Runs.{some_inj, told_whole}
+use Rattle.blk_format.specs.Address.{file_selector, place}
+use Rattle.blk_format.specs.Headers.{bucket_of, place_of_bucket}
+use Rattle.blk_format.specs.Records.{entry_next_place}
+use Rattle.blk_format.specs.Sealed.{new_seal, placed, seal_place, sealed_steps, update_steps, update_words}
+use Rattle.blk_volume.specs.ListView.{first_or}
+use Rattle.blk_volume.specs.View.{store_of}
+use Rattle.blk_io.proofs.Carried.{told_at_end}
+use Rattle.blk_index.specs.Table.{AreBuckets}
+use Rattle.blk_repair_laws.specs.ChainRepair.{bucket_steps, chain_steps, next_steps, next_words_steps}
+use Rattle.blk_repair.specs.Chains.{AreFronts, KeepsOtherBuckets}
+
+-- ---- a chain that is mended leaves the words of the other buckets
+
+blocks-elsewhere : (n : ℕ) (words : List (ℕ × ℕ)) (image : Image) → (after (word_steps (Block n) words) image) Index ≡ image Index
+unfolding word_step
+blocks-elsewhere n [] image = refl
+blocks-elsewhere n (w ∷ words) image = blocks-elsewhere n words (applied (Word (Block n) w.0 (word_bytes w.1)) image)
+
+sealed-elsewhere : (image : Image) (w : ℕ) (changes : List (ℕ × ℕ)) → (after (sealed_steps image w changes) image) Index ≡ image Index
+unfolding update_steps
+sealed-elsewhere image w changes = blocks-elsewhere (file_selector w) (placed (place w) (update_words (seal_place w) changes (new_seal image w changes))) image
+
+next-elsewhere : (image : Image) (w x : ℕ) (b : Bool) → (after (if b then [] else sealed_steps image w ((entry_next_place, x) ∷ [])) image) Index ≡ image Index
+next-elsewhere image w x true = refl
+next-elsewhere image w x false = sealed-elsewhere image w ((entry_next_place, x) ∷ [])
+
+links-elsewhere : (words : List ℕ) (image : Image) → (after (next_words_steps words image) image) Index ≡ image Index
+links-elsewhere [] image = refl
+links-elsewhere (w ∷ words) image =
+    let first : List TrailStep = next_steps w (first_or 0 words) image in
+    ap (λ (i : Image). i Index) (after-append first (next_words_steps words (after first image)) image) ∙ links-elsewhere words (after first image) ∙ next-elsewhere image w (first_or 0 words) ((store_of image).chain_next w == first_or 0 words)
+
+front-elsewhere : (bucket w : ℕ) (image : Image) (b : Bool) → KeepsOtherBuckets bucket image (after (if b then [] else word_step Index (place_of_bucket bucket) w) image)
+unfolding word_step
+front-elsewhere bucket w image true = λ other apart. refl
+front-elsewhere bucket w image false = λ other apart. word-after_other image Index (place_of_bucket bucket) (word_bytes w) (place_of_bucket other) (omega arith) (omega arith) (λ e. apart (omega (arith, e)))
+
+chain-elsewhere : (bucket : ℕ) (words : List ℕ) (image : Image) → KeepsOtherBuckets bucket image (after (chain_steps bucket words image) image)
+chain-elsewhere bucket words image = λ other apart.
+    let first : List TrailStep = bucket_steps bucket (first_or 0 words) image in
+    ap (λ (i : Image). bucket_of (byte i Index) other) (after-append first (next_words_steps words (after first image)) image)
+    ∙ ap (λ (o : Option (List ℕ)). bucket_of (content (unwrap_or o [])) other) (links-elsewhere words (after first image))
+    ∙ front-elsewhere bucket (first_or 0 words) image ((store_of image).table bucket == first_or 0 words) other apart
+
+pub others-kept : (a b : Told) (bucket : ℕ) (words : List ℕ) → ForSome a.files (λ from. Applies a b (chain_steps bucket words from)) → ForSome a.files (λ from. ForSome b.files (KeepsOtherBuckets bucket from))
+others-kept a b bucket words all from there =
+    told_whole (KeepsOtherBuckets bucket from) (all from there)
+    (λ i is. subst (λ (x : Image). KeepsOtherBuckets bucket from (after (chain_steps bucket words from) x)) (some_inj (sym there ∙ is)) (chain-elsewhere bucket words from))
+
+-- ---- the words that were read
+
+pub fronts-read : (words : List ℕ) (first bucket last : ℕ) (image : Image) → AreBuckets image first words → length words ≡ 1024 → first % 1024 ≡ 0 → first ≤ bucket → last ≡ first + 1024 → AreFronts words bucket last image
+fronts-read words first bucket last image are long aligned low_first is = λ other low high.
+    let at : first + other % 1024 ≡ other = omega (arith, low, high, aligned, low_first, is) in
+    let small : other % 1024 < length words = omega (arith, long) in
+    are (other % 1024) small ∙ ap (bucket_of (byte image Index)) at
+
+-- once a bucket is mended, those behind it are read still
+pub fronts-on : (a b : Told) (words : List ℕ) (bucket last : ℕ) → ForSome a.files (AreFronts words bucket last) → ForSome a.files (λ from. ForSome b.files (KeepsOtherBuckets bucket from)) → (a.files ≡ None → b.files ≡ None) → ForSome b.files (AreFronts words (bucket + 1) last)
+fronts-on a b words bucket last fronts others silent =
+    told_at_end a.files b.files (AreFronts words (bucket + 1) last) silent
+    (λ from there image here other low high. fronts from there other (omega (arith, low)) high ∙ sym (others from there image here other (λ e. absurd (omega (arith, low, e)))))

@@ -1,0 +1,23 @@
+-- Steps that are made part after part.
+use Rattle.std.specs.Prelude.{◌≡◌, List, ◌++◌}
+use Rattle.blk_image.specs.Image.{Image}
+use Rattle.blk_image.specs.Steps.{TrailStep, after}
+use Rattle.blk_image.specs.Told.{Told, Applies}
+
+-- exactly the steps that an image asks for
+abbrev pub Exactly : (Image → List TrailStep) → Image → List TrailStep → Type 0
+Exactly asked image steps = steps ≡ asked image
+
+-- steps of a first kind, and then, on what they leave, steps of a second
+pub record InTurn (first second : Image → List TrailStep → Type 0) (image : Image) (steps : List TrailStep) : Type 0 where
+  pub front : List TrailStep
+  pub behind : List TrailStep
+  pub joined : steps ≡ front ++ behind
+  pub front_is : first image front
+  pub behind_is : second (after front image) behind
+
+-- the steps that were made on an image are of this kind
+pub record AppliesOf (kind : Image → List TrailStep → Type 0) (from : Image) (old new : Told) : Type 0 where
+  pub steps : List TrailStep
+  pub applies : Applies old new steps
+  pub are : kind from steps
