@@ -73,6 +73,13 @@ open-damaged-weaker (Err Device) P Q f h = tt
 open-damaged-weaker (Err (Damaged damage)) P Q f h = f damage h
 open-damaged-weaker (Err Memory) P Q f h = tt
 
+-- what a premise leads to of a damage, a damage says under the premise
+pub open-damaged-where : {B : Type 0} (q : Result B OpenFault) (A : Type 0) (P : Damage → Type 0) → (A → IfOpenDamaged q P) → IfOpenDamaged q (λ damage. A → P damage)
+open-damaged-where (Ok b) A P h = tt
+open-damaged-where (Err Device) A P h = tt
+open-damaged-where (Err (Damaged damage)) A P h = h
+open-damaged-where (Err Memory) A P h = tt
+
 pub open-memory-weaker : {B : Type 0} (q : Result B OpenFault) (P Q : Type 0) → (P → Q) → IfOpenMemory q P → IfOpenMemory q Q
 open-memory-weaker (Ok b) P Q f h = tt
 open-memory-weaker (Err Device) P Q f h = tt

@@ -1,22 +1,21 @@
 -- What an opening leaves behind each of its parts.
-use Rattle.std.proofs.Common.{◌≡◌, ◌⊎◌, inl, inr, ⊎_elim, ℕ, Bool, true, List, [], ◌++◌, length, Option, Some, None, Result, Ok, Err, refl, sym, ap, subst, ◌∙◌, lit≤}
+use Rattle.std.proofs.Common.{◌≡◌, ◌⊎◌, inl, inr, ⊎_elim, ℕ, Bool, true, List, [], length, Option, Some, None, Result, Ok, Err, refl, sym, ap, subst, ◌∙◌, lit≤}
 use Rattle.std.specs.Prelude.{All, IsErrAnd, IsTrue, if◌then◌else◌, unwrap_or}
 use Rattle.std.specs.Option.{ForSome, option_map}
 use Rattle.blk_image.specs.Steps.{after}
 use Rattle.std.proofs.lemmas.List.Elements.{All-nil}
 use Rattle.blk_image.specs.Bytes.{content, word_at, zeros}
-use Rattle.blk_image.specs.Image.{Image, Index, AreBytes, byte, length_of, word}
+use Rattle.blk_image.specs.Image.{Image, Index, AreBytes, byte, word}
 use Rattle.blk_image.specs.Checks.{Damage}
 use Rattle.blk_image.specs.Told.{Told, Passes, PassesTo}
-use Rattle.blk_image.proofs.FirstChecks.{append_none, append_some}
 use Rattle.blk_image.proofs.Runs.{passes_none, passes_weaker, some_inj}
 use Rattle.blk_image.proofs.Words.{word-zeros}
 use Rattle.blk_model.specs.Items.{Row}
 use Rattle.blk_model.specs.Holding.{open_state}
 use Rattle.blk_model.specs.Room.{items, total}
 use Rattle.blk_kept.specs.Keeping.{KeepsSome}
-use Rattle.blk_format.specs.BlockFiles.{block_checks, first_block_damage, first_damage, IsWellFormed}
-use Rattle.blk_format.specs.Headers.{head_checks, index_length, list_checks, first_index_damage, IsUnfinished, this_id_of, unfinished}
+use Rattle.blk_format.specs.BlockFiles.{first_damage, IsWellFormed}
+use Rattle.blk_format.specs.Headers.{index_length, IsUnfinished, this_id_of, unfinished}
 use Rattle.blk_format.specs.NewFolder.{IsMade, new_index_words}
 use Rattle.blk_format.proofs.Finished.{finished_whole, well_formed-finished}
 use Rattle.blk_format.proofs.HeaderLemmas.{unfinished_agrees}
@@ -43,30 +42,8 @@ use Rattle.blk_repair.specs.Repair.{IsRepairDamage, IsRepairable, IsRepaired, ne
 use Rattle.blk_cache.specs.declared.opening.Opened.{Opened}
 use Rattle.blk_cache.specs.Opened.{IsFirstDamage, IsJustMade, IsOpenedAs, IsOpeningDamage}
 use Rattle.blk_cache.specs.Opening.{HoldsStill, opened_id}
+use Rattle.blk_cache.proofs.FirstDamages.{blocks-formed, first-before, first-behind}
 use Rattle.blk_cache.proofs.OpenedFolders.{made-repairable, repaired-kept, told-totals}
-
--- ---- checks
-
--- where neither a check of the index nor one of the block files fails, none does
-pub formed-of : (image : Image) → first_index_damage image ≡ None → first_block_damage image ≡ None → IsWellFormed image
-formed-of image none blocks = append_none (head_checks (byte image Index) (length_of image Index) ++ list_checks (byte image Index)) (block_checks image) none ∙ blocks
-
--- the first of the block files is the first where none of the index fails
-pub first-behind : (image : Image) → first_index_damage image ≡ None → first_damage image ≡ first_block_damage image
-first-behind image none = append_none (head_checks (byte image Index) (length_of image Index) ++ list_checks (byte image Index)) (block_checks image) none
-
--- and the first of the index is the first
-pub first-before : (image : Image) (damage : Damage) → first_index_damage image ≡ Some damage → first_damage image ≡ Some damage
-first-before image damage is = append_some (head_checks (byte image Index) (length_of image Index) ++ list_checks (byte image Index)) (block_checks image) damage is
-
--- no check of the block files fails of a well-formed folder
-pub blocks-whole : (image : Image) → IsWellFormed image → first_block_damage image ≡ None
-blocks-whole image well = go (first_index_damage image) refl where
-  go : (o : Option Damage) → first_index_damage image ≡ o → first_block_damage image ≡ None
-  go None is = sym (first-behind image is) ∙ well
-  go (Some damage) is = absurd (no (sym (first-before image damage is) ∙ well)) where
-    no : ◌≡◌ {A = Option Damage} (Some damage) None → ⊥
-    no e = cc
 
 -- ---- what is found
 
@@ -188,14 +165,14 @@ untold-on q e a b is before cause =
 -- the block files of a well-formed folder give no damage
 pub load-untold : (e : Fault) (a : Told) → ForSome a.files IsWellFormed → ForSome a.files (LoadsAs (Err e)) → IfDamaged {A = Told} (Err e) (λ _. a.files ≡ None)
 load-untold fault.Device a well loaded = tt
-load-untold (fault.Damaged damage) a well loaded = untold_where a.files (λ i there. no (damage_of damage) (sym (loaded i there) ∙ blocks-whole i (well i there))) where
+load-untold (fault.Damaged damage) a well loaded = untold_where a.files (λ i there. no (damage_of damage) (sym (loaded i there) ∙ blocks-formed i (well i there))) where
   no : (d : Damage) → ◌≡◌ {A = Option Damage} (Some d) None → ⊥
   no d e = cc
 
 -- the first damage of a folder with a finished index, and of any
-pub first-of_load : (e : Fault) (files : Option Image) → ForSome files IsFinished → ForSome files (LoadsAs (Err e)) → IfDamaged {A = Told} (Err e) (λ damage. ForSome files (λ from. first_damage from ≡ Some (damage_of damage)))
-first-of_load fault.Device files finished loaded = tt
-first-of_load (fault.Damaged damage) files finished loaded = λ image there. let fin = finished image there in first-behind image fin.undamaged ∙ loaded image there
+pub first-of_load : (e : Fault) (files : Option Image) → ForSome files (LoadsAs (Err e)) → IfDamaged {A = Told} (Err e) (λ damage. ForSome files (λ from. IsFinished from → first_damage from ≡ Some (damage_of damage)))
+first-of_load fault.Device files loaded = tt
+first-of_load (fault.Damaged damage) files loaded = λ image there (fin : IsFinished image). first-behind image fin.undamaged ∙ loaded image there
 
 pub first-of_look : (e : Fault) (files : Option Image) → ForSome files (LooksAs (Err e)) → IfDamaged {A = Told} (Err e) (λ damage. ForSome files (IsFirstDamage damage))
 first-of_look fault.Device files looked = tt

@@ -3,7 +3,7 @@ ghost use Rattle.std.specs.Prelude.{◌≡◌, ◌≤◌, IfOk, None, OnOk, Some
 ghost use Rattle.std.specs.Option.{ForSome};
 ghost use Rattle.blk_image.specs.Told.{Passes, Rises, Stays};
 ghost use Rattle.blk_format.specs.BlockFiles.{first_damage, IsWellFormed};
-ghost use Rattle.blk_format.specs.Headers.{IsUnfinished};
+ghost use Rattle.blk_format.specs.Headers.{HasWholeIndex, IsUnfinished};
 ghost use Rattle.blk_io.specs.Faults.{IfDamaged, IfDevice, damage_of};
 ghost use Rattle.blk_index.specs.Start.{IsFinished, IsLookDamage};
 ghost use Rattle.blk_disk.specs.Loading.{IsLoadDamage};
@@ -75,12 +75,12 @@ fn open_new<F: Folder>(alloc: Global, f: &mut F, moment: u64) -> Result<Opened, 
 
 // Opens a folder that was just made.
 fn open_made<F: Folder>(alloc: Global, f: &mut F) -> Result<Opened, Fault>
-    requires made { ForSome (F.told f.old).files IsJustMade }
-    ensures opened { IfOk result (λ opened. ForSome (F.told f.old).files (λ from. ForSome (F.told f.new).files (IsOpenedAs from opened))) }
-    ensures stops { ForSome (F.told f.old).files (λ from. Passes (F.told f.old) (F.told f.new) (IsMidRepair from)) }
-    ensures last { OnOk result (ForSome (F.told f.old).files (λ _. EndsWithCrashWord (F.told f.old) (F.told f.new))) }
+    requires complete { ForSome (F.told f.old).files HasWholeIndex }
+    ensures opened { IfOk result (λ opened. ForSome (F.told f.old).files (λ from. IsJustMade from → ForSome (F.told f.new).files (IsOpenedAs from opened))) }
+    ensures stops { ForSome (F.told f.old).files (λ from. IsJustMade from → Passes (F.told f.old) (F.told f.new) (IsMidRepair from)) }
+    ensures last { OnOk result (ForSome (F.told f.old).files (λ from. IsJustMade from → EndsWithCrashWord (F.told f.old) (F.told f.new))) }
     ensures damaged { IfDamaged result (IsOpeningDamage (F.told f.new)) }
-    ensures untold { IfDamaged result (λ _. (F.told f.old).files ≡ None) }
+    ensures untold { ForSome (F.told f.old).files IsJustMade → IfDamaged result (λ _. (F.told f.old).files ≡ None) }
     ensures silent { (F.told f.old).files ≡ None → (F.told f.new).files ≡ None }
     ensures later { F.faults f.old ≤ F.faults f.new }
     ensures device { IfDevice result (Rises (F.faults f.old) (F.faults f.new)) }
@@ -91,14 +91,14 @@ fn open_made<F: Folder>(alloc: Global, f: &mut F) -> Result<Opened, Fault>
 
 // Opens a folder whose index is finished.
 fn open_finished<F: Folder>(alloc: Global, f: &mut F) -> Result<Opened, OpenFault>
-    requires finished { ForSome (F.told f.old).files IsFinished }
-    ensures opened { IfOk result (λ opened. ForSome (F.told f.old).files (λ from. ForSome (F.told f.new).files (IsOpenedAs from opened))) }
-    ensures checked { OnOk result (ForSome (F.told f.old).files IsWellFormed) }
-    ensures stops { ForSome (F.told f.old).files (λ from. Passes (F.told f.old) (F.told f.new) (HoldsStill from)) }
-    ensures last { OnOk result (ForSome (F.told f.old).files (λ _. EndsWithCrashWord (F.told f.old) (F.told f.new))) }
+    requires complete { ForSome (F.told f.old).files HasWholeIndex }
+    ensures opened { IfOk result (λ opened. ForSome (F.told f.old).files (λ from. IsFinished from → ForSome (F.told f.new).files (IsOpenedAs from opened))) }
+    ensures checked { OnOk result (ForSome (F.told f.old).files (λ from. IsFinished from → IsWellFormed from)) }
+    ensures stops { ForSome (F.told f.old).files (λ from. IsFinished from → Passes (F.told f.old) (F.told f.new) (HoldsStill from)) }
+    ensures last { OnOk result (ForSome (F.told f.old).files (λ from. IsFinished from → EndsWithCrashWord (F.told f.old) (F.told f.new))) }
     ensures damaged { IfOpenDamaged result (IsOpeningDamage (F.told f.new)) }
-    ensures first { IfOpenDamaged result (λ damage. ForSome (F.told f.old).files (λ from. first_damage from ≡ Some (damage_of damage))) }
-    ensures unwritten { IfOpenDamaged result (λ _. ForSome (F.told f.old).files (λ _. Stays (F.told f.old) (F.told f.new))) }
+    ensures first { IfOpenDamaged result (λ damage. ForSome (F.told f.old).files (λ from. IsFinished from → first_damage from ≡ Some (damage_of damage))) }
+    ensures unwritten { IfOpenDamaged result (λ _. ForSome (F.told f.old).files (λ from. IsFinished from → Stays (F.told f.old) (F.told f.new))) }
     ensures memory { IfOpenMemory result (Stays (F.told f.old) (F.told f.new)) }
     ensures silent { (F.told f.old).files ≡ None → (F.told f.new).files ≡ None }
     ensures later { F.faults f.old ≤ F.faults f.new }

@@ -1,15 +1,24 @@
-use Rattle.std.proofs.Common.{sym, ap, subst, ◌∙◌}
+use Rattle.std.proofs.Common.{◌≡◌, Some, sym, ap, subst, ◌∙◌}
+use Rattle.std.specs.Option.{ForSome}
 use Rattle.std.proofs.lemmas.Result.{IfOk-weaker, on_ok_weaker}
-use Rattle.blk_image.specs.Told.{Told}
-use Rattle.blk_image.proofs.Runs.{passes_stayed, passes_weaker}
-use Rattle.blk_format.proofs.Finished.{whole_index}
+use Rattle.blk_image.specs.Image.{Image}
+use Rattle.blk_image.specs.Told.{Stays, Told}
+use Rattle.blk_image.proofs.Runs.{passes_stayed, passes_weaker, some_inj}
+use Rattle.blk_format.specs.BlockFiles.{first_damage, IsWellFormed}
+use Rattle.blk_io.specs.declared.fault.Damage.{Damage}
+use Rattle.blk_io.specs.Faults.{damage_of}
+use Rattle.blk_index.specs.Start.{IsFinished}
 use Rattle.blk_repair.specs.Repair.{EndsWithCrashWord}
-use Rattle.blk_cache.proofs.CarriedFaults.{damaged-on, if-damaged, if-memory, open-damaged-weaker, open-memory-weaker}
-use Rattle.blk_cache.proofs.OpenRuns.{first-of_load, formed-of, loading-as, mid-still, stayed-still, told-some}
+use Rattle.blk_cache.specs.Opening.{IfOpenDamaged}
+use Rattle.blk_cache.proofs.CarriedFaults.{damaged-on, if-damaged, if-memory, open-damaged-weaker, open-damaged-where, open-memory-weaker}
+use Rattle.blk_cache.proofs.FirstDamages.{formed-of}
+use Rattle.blk_cache.proofs.OpenRuns.{first-of_load, loading-as, mid-still, stayed-still, told-some}
+use Rattle.blk_cache.proofs.opening.open_finished.Given as given
 use Rattle.blk_cache.proofs.opening.open_finished.Goals as goal
+use Rattle.blk_cache.proofs.opening.open_finished.Goals.{After-open_loaded}
 
 pub returns-in_err-files-clause-stops : goal.returns-in_err-files-clause-stops
-returns-in_err-files-clause-stops g c from there = stayed-still from there c.in_err-files.ensures.stays
+returns-in_err-files-clause-stops g c from there fin = stayed-still from there c.in_err-files.ensures.stays
 
 pub returns-in_err-files-clause-damaged : goal.returns-in_err-files-clause-damaged
 returns-in_err-files-clause-damaged g c =
@@ -17,10 +26,10 @@ returns-in_err-files-clause-damaged g c =
 
 pub returns-in_err-files-clause-first : goal.returns-in_err-files-clause-first
 returns-in_err-files-clause-first g c =
-    damaged-on c.from_residual.result c.in_err-files.field-0.0 c.from_residual.ensures.1 _ (first-of_load c.in_err-files.field-0.0 (g.F.Folder.told c.args.f.now).files c.requires.finished c.in_err-files.ensures.loaded)
+    damaged-on c.from_residual.result c.in_err-files.field-0.0 c.from_residual.ensures.1 _ (first-of_load c.in_err-files.field-0.0 (g.F.Folder.told c.args.f.now).files c.in_err-files.ensures.loaded)
 
 pub returns-in_err-files-clause-unwritten : goal.returns-in_err-files-clause-unwritten
-returns-in_err-files-clause-unwritten g c = if-damaged c.from_residual.result _ (λ damage from there. c.in_err-files.ensures.stays)
+returns-in_err-files-clause-unwritten g c = if-damaged c.from_residual.result _ (λ damage from there fin. c.in_err-files.ensures.stays)
 
 pub returns-in_err-files-clause-memory : goal.returns-in_err-files-clause-memory
 returns-in_err-files-clause-memory g c = if-memory c.from_residual.result _ c.in_err-files.ensures.stays
@@ -29,52 +38,46 @@ pub open_loaded-requires : goal.open_loaded-requires
 open_loaded-requires g c = record {
   is_open = λ i here.
       let there = sym (ap (λ (t : Told). t.files) c.in_ok-files.ensures.stays) ∙ here in
-      let fin = c.requires.finished i there in
-      let loaded = c.in_ok-files.ensures.loaded i there in
-      record { agrees = loaded.0; whole_index = whole_index i (formed-of i fin.undamaged loaded.1) };
+      record { agrees = (c.in_ok-files.ensures.loaded i there).0; whole_index = c.requires.complete i there };
 }
+
+-- what was loaded of a finished folder is well formed
+formed : (g : given.Over) (c : After-open_loaded g) (from : Image) → (g.F.Folder.told c.args.f.now).files ≡ Some from → IsFinished from → IsWellFormed from
+formed g c from there fin = formed-of from fin.undamaged (c.in_ok-files.ensures.loaded from there).1
+
+-- and so is a folder that tells these files
+formed-here : (g : given.Over) (c : After-open_loaded g) (from : Image) → (g.F.Folder.told c.args.f.now).files ≡ Some from → IsFinished from → ForSome (g.F.Folder.told c.load.new.f).files IsWellFormed
+formed-here g c from there fin i here = subst IsWellFormed (some_inj (sym (ap (λ (t : Told). t.files) c.in_ok-files.ensures.stays ∙ there) ∙ here)) (formed g c from there fin)
 
 pub returns-clause-opened : goal.returns-clause-opened
 returns-clause-opened g c =
-    IfOk-weaker c.open_loaded.result _ _
-    (λ opened left from there.
-    let fin = c.requires.finished from there in
-    left from (ap (λ (t : Told). t.files) c.in_ok-files.ensures.stays ∙ there) (formed-of from fin.undamaged (c.in_ok-files.ensures.loaded from there).1)) c.open_loaded.ensures.opened
+    IfOk-weaker c.open_loaded.result _ _ (λ opened left from there fin. left from (ap (λ (t : Told). t.files) c.in_ok-files.ensures.stays ∙ there) (formed g c from there fin)) c.open_loaded.ensures.opened
 
 pub returns-clause-checked : goal.returns-clause-checked
-returns-clause-checked g c = on_ok_weaker c.open_loaded.result (λ _ from there. let fin = c.requires.finished from there in formed-of from fin.undamaged (c.in_ok-files.ensures.loaded from there).1) c.open_loaded.ensures.last
+returns-clause-checked g c = on_ok_weaker c.open_loaded.result (λ _ from there fin. formed g c from there fin) c.open_loaded.ensures.last
 
 pub returns-clause-stops : goal.returns-clause-stops
-returns-clause-stops g c from there =
-    let fin = c.requires.finished from there in
-    let mid = c.open_loaded.ensures.stops from (ap (λ (t : Told). t.files) c.in_ok-files.ensures.stays ∙ there) (formed-of from fin.undamaged (c.in_ok-files.ensures.loaded from there).1) in
+returns-clause-stops g c from there fin =
+    let mid = c.open_loaded.ensures.stops from (ap (λ (t : Told). t.files) c.in_ok-files.ensures.stays ∙ there) (formed g c from there fin) in
     passes_stayed c.in_ok-files.ensures.stays (passes_weaker mid (mid-still from) (mid-still from))
 
 pub returns-clause-last : goal.returns-clause-last
 returns-clause-last g c =
     on_ok_weaker c.open_loaded.result
-    (λ made from there.
-    let fin = c.requires.finished from there in
-    subst (λ (t : Told). EndsWithCrashWord t (g.F.Folder.told c.open_loaded.new.f)) c.in_ok-files.ensures.stays
-    (made from (ap (λ (t : Told). t.files) c.in_ok-files.ensures.stays ∙ there) (formed-of from fin.undamaged (c.in_ok-files.ensures.loaded from there).1))) c.open_loaded.ensures.last
+    (λ made from there fin. subst (λ (t : Told). EndsWithCrashWord t (g.F.Folder.told c.open_loaded.new.f)) c.in_ok-files.ensures.stays (made from (ap (λ (t : Told). t.files) c.in_ok-files.ensures.stays ∙ there) (formed g c from there fin))) c.open_loaded.ensures.last
+
+-- a damage of a finished folder comes only where it tells nothing
+never : (g : given.Over) (c : After-open_loaded g) (P : Damage → Image → Type 0) → IfOpenDamaged c.open_loaded.result (λ damage. ForSome (g.F.Folder.told c.args.f.now).files (λ from. IsFinished from → P damage from))
+never g c P =
+    open-damaged-weaker c.open_loaded.result _ _
+    (λ damage none from there fin. told-some (g.F.Folder.told c.load.new.f) from (ap (λ (t : Told). t.files) c.in_ok-files.ensures.stays ∙ there) (none (formed-here g c from there fin)))
+    (open-damaged-where c.open_loaded.result _ _ c.open_loaded.ensures.untold)
 
 pub returns-clause-first : goal.returns-clause-first
-returns-clause-first g c =
-    open-damaged-weaker c.open_loaded.result _ _ (λ damage none from there. told-some (g.F.Folder.told c.load.new.f) from (ap (λ (t : Told). t.files) c.in_ok-files.ensures.stays ∙ there) none)
-    (c.open_loaded.ensures.untold
-    (λ i here.
-    let there = sym (ap (λ (t : Told). t.files) c.in_ok-files.ensures.stays) ∙ here in
-    let fin = c.requires.finished i there in
-    formed-of i fin.undamaged (c.in_ok-files.ensures.loaded i there).1))
+returns-clause-first g c = never g c (λ damage from. first_damage from ≡ Some (damage_of damage))
 
 pub returns-clause-unwritten : goal.returns-clause-unwritten
-returns-clause-unwritten g c =
-    open-damaged-weaker c.open_loaded.result _ _ (λ damage none from there. told-some (g.F.Folder.told c.load.new.f) from (ap (λ (t : Told). t.files) c.in_ok-files.ensures.stays ∙ there) none)
-    (c.open_loaded.ensures.untold
-    (λ i here.
-    let there = sym (ap (λ (t : Told). t.files) c.in_ok-files.ensures.stays) ∙ here in
-    let fin = c.requires.finished i there in
-    formed-of i fin.undamaged (c.in_ok-files.ensures.loaded i there).1))
+returns-clause-unwritten g c = never g c (λ damage from. Stays (g.F.Folder.told c.args.f.now) (g.F.Folder.told c.open_loaded.new.f))
 
 pub returns-clause-memory : goal.returns-clause-memory
 returns-clause-memory g c = open-memory-weaker c.open_loaded.result _ _ (λ same. same ∙ c.in_ok-files.ensures.stays) c.open_loaded.ensures.memory

@@ -5,6 +5,7 @@ use Rattle.blk_image.proofs.Runs.{passes_stayed}
 use Rattle.blk_repair.specs.Repair.{EndsWithCrashWord}
 use Rattle.blk_cache.specs.Opened.{IsFirstDamage}
 use Rattle.blk_cache.proofs.CarriedFaults.{damaged-on, if-damaged, if-memory, no-memory, open-damaged-weaker, open-memory-weaker}
+use Rattle.blk_cache.proofs.FirstDamages.{length-checked}
 use Rattle.blk_cache.proofs.OpenRuns.{first-of_look, looked-as, looking-as, stayed-still, untold-says}
 use Rattle.blk_cache.proofs.opening.open_folder.Goals as goal
 
@@ -63,32 +64,42 @@ returns-in_ok-open_new-in-Unfinished-clause-last g c from there =
     subst (λ (t : Told). EndsWithCrashWord t (g.F.Folder.told c.open_new.new.f)) c.in_ok-look.ensures.stays (c.in_ok-open_new-in-Unfinished.ensures.last from (ap (λ (t : Told). t.files) c.in_ok-look.ensures.stays ∙ there))
 
 pub open_finished-requires : goal.open_finished-requires
-open_finished-requires g c = record { finished = λ i here. looked-as _ _ i c.in-Finished.is (c.in_ok-look.ensures.looked i (sym (ap (λ (t : Told). t.files) c.in_ok-look.ensures.stays) ∙ here)) }
+open_finished-requires g c = record {
+  complete = λ i here.
+      let fin = looked-as _ _ i c.in-Finished.is (c.in_ok-look.ensures.looked i (sym (ap (λ (t : Told). t.files) c.in_ok-look.ensures.stays) ∙ here)) in
+      length-checked i fin.undamaged;
+}
 
 pub returns-in-Finished-clause-opened : goal.returns-in-Finished-clause-opened
-returns-in-Finished-clause-opened g c = IfOk-weaker c.open_finished.result _ _ (λ opened left from there. left from (ap (λ (t : Told). t.files) c.in_ok-look.ensures.stays ∙ there)) c.open_finished.ensures.opened
+returns-in-Finished-clause-opened g c =
+    IfOk-weaker c.open_finished.result _ _
+    (λ opened left from there. left from (ap (λ (t : Told). t.files) c.in_ok-look.ensures.stays ∙ there) (looked-as _ _ from c.in-Finished.is (c.in_ok-look.ensures.looked from there))) c.open_finished.ensures.opened
 
 pub returns-in-Finished-clause-checked : goal.returns-in-Finished-clause-checked
-returns-in-Finished-clause-checked g c = on_ok_weaker c.open_finished.result (λ well from there. inr (well from (ap (λ (t : Told). t.files) c.in_ok-look.ensures.stays ∙ there))) c.open_finished.ensures.checked
+returns-in-Finished-clause-checked g c =
+    on_ok_weaker c.open_finished.result
+    (λ well from there. inr (well from (ap (λ (t : Told). t.files) c.in_ok-look.ensures.stays ∙ there) (looked-as _ _ from c.in-Finished.is (c.in_ok-look.ensures.looked from there)))) c.open_finished.ensures.checked
 
 pub returns-in-Finished-clause-stops : goal.returns-in-Finished-clause-stops
-returns-in-Finished-clause-stops g c from there = passes_stayed c.in_ok-look.ensures.stays (c.open_finished.ensures.stops from (ap (λ (t : Told). t.files) c.in_ok-look.ensures.stays ∙ there))
+returns-in-Finished-clause-stops g c from there =
+    passes_stayed c.in_ok-look.ensures.stays (c.open_finished.ensures.stops from (ap (λ (t : Told). t.files) c.in_ok-look.ensures.stays ∙ there) (looked-as _ _ from c.in-Finished.is (c.in_ok-look.ensures.looked from there)))
 
 pub returns-in-Finished-clause-last : goal.returns-in-Finished-clause-last
 returns-in-Finished-clause-last g c =
     on_ok_weaker c.open_finished.result
-    (λ made from there. subst (λ (t : Told). EndsWithCrashWord t (g.F.Folder.told c.open_finished.new.f)) c.in_ok-look.ensures.stays (made from (ap (λ (t : Told). t.files) c.in_ok-look.ensures.stays ∙ there))) c.open_finished.ensures.last
+    (λ made from there. subst (λ (t : Told). EndsWithCrashWord t (g.F.Folder.told c.open_finished.new.f)) c.in_ok-look.ensures.stays (made from (ap (λ (t : Told). t.files) c.in_ok-look.ensures.stays ∙ there) (looked-as _ _ from c.in-Finished.is (c.in_ok-look.ensures.looked from there)))) c.open_finished.ensures.last
 
 pub returns-in-Finished-clause-first : goal.returns-in-Finished-clause-first
 returns-in-Finished-clause-first g c =
     open-damaged-weaker c.open_finished.result _ _
     (λ damage first from there.
     let fin = looked-as _ _ from c.in-Finished.is (c.in_ok-look.ensures.looked from there) in
-    record { finished = fin.finished; first = first from (ap (λ (t : Told). t.files) c.in_ok-look.ensures.stays ∙ there) }) c.open_finished.ensures.first
+    record { finished = fin.finished; first = first from (ap (λ (t : Told). t.files) c.in_ok-look.ensures.stays ∙ there) fin }) c.open_finished.ensures.first
 
 pub returns-in-Finished-clause-unwritten : goal.returns-in-Finished-clause-unwritten
 returns-in-Finished-clause-unwritten g c =
-    open-damaged-weaker c.open_finished.result _ _ (λ damage same from there. same from (ap (λ (t : Told). t.files) c.in_ok-look.ensures.stays ∙ there) ∙ c.in_ok-look.ensures.stays) c.open_finished.ensures.unwritten
+    open-damaged-weaker c.open_finished.result _ _
+    (λ damage same from there. same from (ap (λ (t : Told). t.files) c.in_ok-look.ensures.stays ∙ there) (looked-as _ _ from c.in-Finished.is (c.in_ok-look.ensures.looked from there)) ∙ c.in_ok-look.ensures.stays) c.open_finished.ensures.unwritten
 
 pub returns-in-Finished-clause-memory : goal.returns-in-Finished-clause-memory
 returns-in-Finished-clause-memory g c = open-memory-weaker c.open_finished.result _ _ (λ same. same ∙ c.in_ok-look.ensures.stays) c.open_finished.ensures.memory

@@ -3,6 +3,7 @@ use Rattle.std.proofs.lemmas.Result.{IfOk-weaker, on_ok_weaker}
 use Rattle.blk_image.specs.Image.{Image}
 use Rattle.blk_image.specs.Told.{Passes}
 use Rattle.blk_image.proofs.Runs.{passes_then, passes_weaker}
+use Rattle.blk_format.proofs.Finished.{whole_index}
 use Rattle.blk_io.proofs.Carried.{if_damaged_weaker}
 use Rattle.blk_format.specs.NewFolder.{new_index_words}
 use Rattle.blk_index.specs.Making.{folder_steps}
@@ -11,7 +12,7 @@ use Rattle.blk_repair.proofs.RepairRuns.{none-before, still-told}
 use Rattle.blk_cache.proofs.MakingSteps.{spare-folder}
 use Rattle.blk_cache.specs.Opened.{IsJustMade}
 use Rattle.blk_cache.specs.Opening.{HoldsStill}
-use Rattle.blk_cache.proofs.OpenRuns.{made-opened, made-still, making-still, passes-silent}
+use Rattle.blk_cache.proofs.OpenRuns.{made-formed, made-opened, made-still, making-still, passes-silent}
 use Rattle.blk_cache.proofs.opening.open_new.Given as given
 use Rattle.blk_cache.proofs.opening.open_new.Goals as goal
 use Rattle.blk_cache.proofs.opening.open_new.Goals.{After-open_made}
@@ -23,7 +24,7 @@ pub returns-in_err-make-clause-silent : goal.returns-in_err-make-clause-silent
 returns-in_err-make-clause-silent g c none = passes-silent c.make.ensures.stops none
 
 pub open_made-requires : goal.open_made-requires
-open_made-requires g c = record { made = λ i here. (c.args.moment, c.in_ok-make.ensures.made i here) }
+open_made-requires g c = record { complete = λ i here. whole_index i (made-formed i (c.args.moment, c.in_ok-make.ensures.made i here)) }
 
 module _ (g : given.Over) (c : After-open_made g) (from : Image) (there : (g.F.Folder.told c.args.f.now).files ≡ Some from) where
   abbrev first : Passes (g.F.Folder.told c.args.f.now) (g.F.Folder.told c.make.new.f) (HoldsStill from)
@@ -40,25 +41,25 @@ module _ (g : given.Over) (c : After-open_made g) (from : Image) (there : (g.F.F
 
 pub returns-clause-opened : goal.returns-clause-opened
 returns-clause-opened g c =
-    IfOk-weaker c.open_made.result _ _ (λ opened left from there image now. made-opened from (mid g c from there) image opened (c.requires.unfinished from there) (made g c from there) (left (mid g c from there) (here g c from there) image now)) c.open_made.ensures.opened
+    IfOk-weaker c.open_made.result _ _ (λ opened left from there image now. made-opened from (mid g c from there) image opened (c.requires.unfinished from there) (made g c from there) (left (mid g c from there) (here g c from there) (made g c from there) image now)) c.open_made.ensures.opened
 
 pub returns-clause-stops : goal.returns-clause-stops
 returns-clause-stops g c from there =
     let still = made-still from (mid g c from there) in
     passes_then (first g c from there)
-    (passes_weaker (c.open_made.ensures.stops (mid g c from there) (here g c from there)) (λ i. still i (c.requires.unfinished from there) (made g c from there)) (λ i. still i (c.requires.unfinished from there) (made g c from there)))
+    (passes_weaker (c.open_made.ensures.stops (mid g c from there) (here g c from there) (made g c from there)) (λ i. still i (c.requires.unfinished from there) (made g c from there)) (λ i. still i (c.requires.unfinished from there) (made g c from there)))
 
 pub returns-clause-last : goal.returns-clause-last
 returns-clause-last g c =
     on_ok_weaker c.open_made.result
     (λ ends from there.
     let making = c.in_ok-make.ensures.steps in
-    then-ends (g.F.Folder.told c.open_made.new.f) (folder_steps making.deleted (new_index_words c.args.moment)) from there making.applies (spare-folder making.deleted c.args.moment) ends) c.open_made.ensures.last
+    then-ends (g.F.Folder.told c.open_made.new.f) (folder_steps making.deleted (new_index_words c.args.moment)) from there making.applies (spare-folder making.deleted c.args.moment) (λ i now. ends i now (c.args.moment, c.in_ok-make.ensures.made i now))) c.open_made.ensures.last
 
 pub returns-clause-untold : goal.returns-clause-untold
 returns-clause-untold g c =
     if_damaged_weaker c.open_made.result _ _
-    (λ damage none. none-before (g.F.Folder.told c.args.f.now) (g.F.Folder.told c.make.new.f) (λ from there. still-told from there (first g c from there)) none) c.open_made.ensures.untold
+    (λ damage none. none-before (g.F.Folder.told c.args.f.now) (g.F.Folder.told c.make.new.f) (λ from there. still-told from there (first g c from there)) none) (c.open_made.ensures.untold (λ i here. (c.args.moment, c.in_ok-make.ensures.made i here)))
 
 pub returns-clause-silent : goal.returns-clause-silent
 returns-clause-silent g c none = c.open_made.ensures.silent (passes-silent c.make.ensures.stops none)
