@@ -78,31 +78,62 @@ patch() {
     printf "$3" | dd of="$1" bs=1 seek="$2" conv=notrunc status=none
 }
 
-# Makes a folder of a kind: empty, finished (made, and without entries), damaged (its version is wrong), or entries (it counts one).
+# Prints all that a folder has, but for the number of the session, which each run that opens it raises.
+held() {
+    local copy=$room/held
+    rm -rf "$copy"
+    cp -a "$1" "$copy"
+    [ ! -f "$copy/index" ] || patch "$copy/index" 20 '\0\0\0\0'
+    picture "$copy"
+}
+
+# Makes a folder of a kind: empty, finished (made, and without entries), damaged (its version is wrong), or entries (it has one).
 make() {
     mkdir "$2"
-    [ "$1" = empty ] && return
-    cp "$room/made/"* "$2"
     case $1 in
-        damaged) patch "$2/index" 4 '\003' ;;
-        entries) patch "$2/index" 8 '\001' ;;
+        finished | damaged) cp "$room/made/"* "$2" ;;
+        entries) cp "$room/listed/"* "$2" ;;
     esac
+    [ "$1" != damaged ] || patch "$2/index" 4 '\003'
 }
 kinds='empty finished damaged entries'
 
+# Writes an entry with the key a and no streams into a folder without entries: its node is the only one of the list, and its
+# record that of its bucket.
+write_entry() {
+    local node='\0\0\0\220' record='\0\0\001\240'
+    for it in data_0 data_1; do
+        patch "$1/$it" 20 '\0\004\0\0'
+        truncate -s 9216 "$1/$it"
+    done
+    patch "$1/data_0" 8208 "$node$node$record"
+    patch "$1/data_1" 8192 '\202\247\136\021'
+    patch "$1/data_1" 8200 "$node"
+    patch "$1/data_1" 8224 '\001\0\0\0'
+    patch "$1/data_1" 8288 a
+    patch "$1/index" 288 "$node"
+    patch "$1/index" 308 "$node"
+    patch "$1/index" 171896 "$record"
+}
+
 # What count answers on a folder of a kind.
 status_of() {
-    case $1 in empty | finished) echo 0 ;; damaged) echo 7 ;; entries) echo 9 ;; esac
+    case $1 in damaged) echo 7 ;; *) echo 0 ;; esac
 }
 line_of() {
     case $1 in
         empty | finished) echo "$empty_line" ;;
         damaged) echo 'damaged index 4 00020003' ;;
-        entries) echo 'not built 8 00000001' ;;
+        entries) echo 'items 1 bytes 1' ;;
     esac
 }
 
-# A finished folder, of which the others are copies.
+# A finished folder and one with an entry, of which the others are copies. The first count of an entry completes its maps,
+# counters and hashes.
 mkdir "$room/made"
 count_in "$room/made"
 is 'a folder is made' "0 $empty_line" "$status $said$complained"
+cp -r "$room/made" "$room/listed"
+write_entry "$room/listed"
+count_in "$room/listed"
+is 'an entry is counted' '0 items 1 bytes 1' "$status $said$complained"

@@ -70,10 +70,10 @@ ln -s nothing "$room/others/Index"
 mkdir "$room/others/f_1"
 mkfifo "$room/others/data_256"
 mkfifo "$room/others/f_000000"
-before=$(both "$room/others")
+before=$(held "$room/others")
 count_in "$room/others"
 is 'other names' "0 $empty_line" "$status $said"
-is 'other names stay' "$before" "$(both "$room/others")"
+is 'other names stay' "$before" "$(held "$room/others")"
 
 # The folder itself may be named through a link.
 make finished "$room/real"

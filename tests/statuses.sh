@@ -11,9 +11,23 @@ for kind in $kinds; do
     make "$kind" "$room/$kind"
     answers "a folder that is $kind" "$room/$kind" "$(status_of "$kind") $(line_of "$kind")"
 done
-finished=$(both "$room/finished")
+finished=$(held "$room/finished")
 answers 'a finished folder once more' "$room/finished" "0 $empty_line"
-is 'a finished folder is not written to' "$finished" "$(both "$room/finished")"
+is 'a finished folder has what it had' "$finished" "$(held "$room/finished")"
+listed=$(held "$room/entries")
+answers 'a folder with an entry once more' "$room/entries" '0 items 1 bytes 1'
+is 'a folder with an entry has what it had' "$listed" "$(held "$room/entries")"
+damaged=$(both "$room/damaged")
+answers 'a damaged folder once more' "$room/damaged" "7 $(line_of damaged)"
+is 'a damaged folder is not written to' "$damaged" "$(both "$room/damaged")"
+
+# A session that was stopped is opened again, and what isn't whole is dropped.
+patch "$room/entries/index" 32 '\001'
+answers 'a folder whose session was stopped' "$room/entries" '0 items 1 bytes 1'
+is 'its session is closed' "$listed" "$(held "$room/entries")"
+patch "$room/entries/data_1" 8192 '\0'
+answers 'an entry that is not whole' "$room/entries" "0 $empty_line"
+answers 'and once more' "$room/entries" "0 $empty_line"
 
 # What a stop leaves is made anew.
 make finished "$room/stopped"
@@ -88,5 +102,5 @@ is 'an output that nobody reads' '5 ' "$? $(cat "$room/complained")"
 exec 9>&-
 timeout 60 "$program" "$room/finished" count <"$room/finished" >"$room/said" 2>&1
 is 'an input that cannot be read is not asked' "0 $empty_line" "$? $(cat "$room/said")"
-is 'nothing of all this was written' "$finished" "$(both "$room/finished")"
+is 'after all this the folder has what it had' "$finished" "$(held "$room/finished")"
 finish

@@ -25,7 +25,7 @@ for closed in '' '0' '1' '2' '0 1' '0 2' '1 2' '0 1 2'; do
         what="with [$closed] closed, on a folder that is $kind"
         folder=$room/$kind
         make "$kind" "$folder"
-        before=$(both "$folder")
+        before=$(held "$folder")
         count_closed "$folder" "$closed"
         wanted=$(status_of "$kind")
         line=$(line_of "$kind")
@@ -42,7 +42,7 @@ for closed in '' '0' '1' '2' '0 1' '0 2' '1 2' '0 1 2'; do
             count_in "$folder"
             is "the next run $what" "0 $empty_line" "$status $said"
         else
-            is "the folder $what" "$before" "$(both "$folder")"
+            is "the folder $what" "$before" "$(held "$folder")"
         fi
         rm -r "$folder"
     done

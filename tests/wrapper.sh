@@ -101,7 +101,7 @@ for it in $'\xff' $'a\xe4b' $'\xe2\x82' $'\xc0\xaf' $'\xed\xa0\x80' $'\xf4\x90\x
     answers "the folder $(printf %q "$it")" 2 usage ''
 done
 wrap --help
-for it in 'blkcache FOLDER WORDS' '  count ' '  --help ' '  --version ' '  0 ' '  2 ' '  3 ' '  5 ' '  6 ' '  7 ' '  9 ' '  70 ' 'mkdir cache' './blkcache cache count'; do
+for it in 'blkcache FOLDER WORDS' '  count ' '  --help ' '  --version ' '  0 ' '  2 ' '  3 ' '  5 ' '  6 ' '  7 ' '  70 ' 'mkdir cache' './blkcache cache count'; do
     [[ $said == *"$it"* ]]
     is "--help tells [$it]" 0 $?
 done
@@ -236,7 +236,7 @@ done
 cp "$program" "$out/blkcache"
 for closed in '' 0 1 2 '0 1 2'; do
     make finished "$room/closed"
-    before=$(both "$room/closed")
+    before=$(held "$room/closed")
     (
         cd "$room" || exit
         for it in $closed; do eval "exec $it>&-"; done
@@ -245,7 +245,7 @@ for closed in '' 0 1 2 '0 1 2'; do
     status=$?
     [[ $closed == *1* ]] && wanted='5 ' || wanted="0 $empty_line"
     is "with [$closed] closed" "$wanted" "$status $(cat "$room/said" "$room/complained")"
-    is "with [$closed] closed, the folder" "$before" "$(both "$room/closed")"
+    is "with [$closed] closed, the folder" "$before" "$(held "$room/closed")"
     rm -r "$room/closed"
 done
 

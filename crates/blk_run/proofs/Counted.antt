@@ -1,101 +1,102 @@
--- What is found of a folder at the start.
-use Rattle.std.proofs.Common.{◌≡◌, ◌⊎◌, inl, inr, ⊎_elim, ℕ, Option, None, Some, Result, Ok, Err, sym, ◌∙◌, subst}
-use Rattle.std.specs.Prelude.{IfOk, IsErrAnd}
-use Rattle.std.specs.Option.{ForSome}
-use Rattle.std.proofs.lemmas.Result.{err_from_is_err_and}
-use Rattle.blk_image.specs.Image.{Image}
-use Rattle.blk_image.specs.Told.{Told, PassesTo}
-use Rattle.blk_image.proofs.Runs.{passes_weaker, passes_stayed}
-use Rattle.blk_format.specs.Headers.{IsUnfinished}
-use Rattle.blk_io.specs.declared.fault.Fault.{Fault}
-use Rattle.blk_io.specs.declared.fault.Fault.TheVariants.{Device, Damaged}
-use Rattle.blk_io.specs.Faults.{IfDamaged, damage_of}
-use Rattle.blk_io.specs.Streams.{Readings, reading_of}
-use Rattle.blk_index.specs.declared.start.Start.{Start}
-use Rattle.blk_format.specs.NewFolder.{IsMade}
-use Rattle.blk_format.specs.BlockFiles.{IsWhole}
-use Rattle.blk_index.specs.Start.{IsFinished, LooksAs}
-use Rattle.blk_disk.specs.Loading.{LoadsAs}
+-- A folder is opened, its totals are printed, and its session ends.
+use Rattle.std.proofs.Common.{◌≡◌, ℕ, List, [], ◌++◌, Option, None, Some, Err, refl, sym, ◌∙◌, ap, subst, arith, lit≤}
+use Rattle.std.specs.Option.{ForSome, option_map}
+use Rattle.std.proofs.lemmas.List.{append-nil}
+use Rattle.blk_image.specs.Bytes.{word_bytes}
+use Rattle.blk_image.specs.Image.{Image, Index, byte, word}
+use Rattle.blk_image.specs.Steps.{after, word_step}
+use Rattle.blk_image.specs.Told.{Told, Applies, Passes, PassesTo}
+use Rattle.blk_image.proofs.Images.{word-after_other}
+use Rattle.blk_image.proofs.Runs.{passes_end, passes_then, passes_weaker, some_inj, told_whole}
+use Rattle.blk_format.specs.Headers.{this_id_of}
+use Rattle.blk_io.specs.Streams.{Appends}
+use Rattle.blk_cache.specs.declared.cache.Cache.{Cache}
+use Rattle.blk_cache.specs.CacheKeeping.{KeepsState}
+use Rattle.blk_io.specs.declared.fault.Damage.{Damage}
+use Rattle.blk_io.specs.Faults.{damage_of}
+use Rattle.blk_cache.specs.declared.fault.OpenFault.{OpenFault}
+use Rattle.blk_cache.specs.declared.fault.OpenFault.TheVariants.{Damaged}
+use Rattle.blk_cache.specs.Opened.{IsFirstDamage}
+use Rattle.blk_cache.specs.Opening.{EndsSession, HoldsStill, IfOpenDamaged, opened_id}
+use Rattle.blk_cache.proofs.Ends.{kept-open}
+use Rattle.blk_disk.specs.Open.{IsOpen}
+use Rattle.blk_model.specs.State.{State}
 use Rattle.blk_run.specs.declared.ending.Status.{Status}
-use Rattle.blk_run.specs.declared.ending.Status.TheVariants as status
-use Rattle.blk_run.specs.declared.used.Used.{Used}
-use Rattle.blk_run.specs.Used.{FirstUsed}
-use Rattle.blk_run.specs.Count.{AnswersFor, CountsAs, IsCountable, IsEmpty, IsNew, IsStartDamage, checked_place, checked_places}
-use Rattle.blk_run.proofs.Made.{made_empty}
-use Rattle.blk_run.proofs.Whole.{damage_behind, damage_first}
+use Rattle.blk_run.specs.Count.{AreTotalsOf, EndsSame, IsDamaged, PrintsAt, ShowsTotals, opened_on}
+use Rattle.blk_run.specs.Texts.{totals_line}
 
--- the files that a folder tells
-abbrev pub files : Told → Option Image
-files told = told.files
-
--- an answer of a look, known
-pub looked_ok : (a b : Start) (image : Image) → a ≡ b → LooksAs (Ok a) image → LooksAs (Ok b) image
-looked_ok a b image same = subst (λ (s : Start). LooksAs (Ok s) image) same
-
--- a fault that is handed on
-pub counts_fault : (q : Result (Option Used) Fault) (e : Fault) (image : Image) → IsErrAnd q (λ (x : Fault). x ≡ e) → CountsAs (Err e) image → CountsAs q image
-counts_fault q e image same counts =
-    let p = err_from_is_err_and q same in
-    subst (λ (r : Result (Option Used) Fault). CountsAs r image) (sym p.1) (subst (λ (x : Fault). CountsAs (Err x) image) (sym p.2) counts)
-
-pub look_counts : (e : Fault) (image : Image) → LooksAs (Err e) image → CountsAs (Err e) image
-look_counts Device image looked = tt
-look_counts (Damaged d) image looked = (looked.0, damage_first image (damage_of d) looked.1)
-
-pub load_counts : (e : Fault) (image : Image) → IsFinished image → LoadsAs (Err e) image → CountsAs (Err e) image
-load_counts Device image finished loaded = tt
-load_counts (Damaged d) image finished loaded = (finished.finished, damage_behind image finished.undamaged ∙ loaded)
-
--- what is found where no check of the headers fails
-pub used_counts : (r : Result (Option Used) Fault) (files : Option Image) (image : Image) → files ≡ Some image → IsWhole image
-    → IfOk r (λ used. ForSome files (λ i. FirstUsed checked_place checked_places i used)) → IfDamaged r (λ _. files ≡ None) → CountsAs r image
-used_counts (Ok None) files image there whole first untold = inr (whole, record { finished = whole.finished; unused = first image there })
-used_counts (Ok (Some used)) files image there whole first untold = (whole, first image there)
-used_counts (Err Device) files image there whole first untold = tt
-used_counts (Err (Damaged d)) files image there whole first untold = absurd (clash (sym there ∙ untold))
+-- nothing is a front of each text
+pub none_printed : (line : List ℕ) (old : Option (List ℕ)) → Appends old old line
+none_printed line old = record { front = []; rest = line; split = refl; written = same old }
   where
-    clash : Some image ≡ None → ⊥
-    clash e = cc
+    same : (o : Option (List ℕ)) → o ≡ option_map (λ (w : List ℕ). w ++ []) o
+    same None = refl
+    same (Some w) = ap Some (sym (append-nil w))
 
-pub used_empty : (r : Result (Option Used) Fault) (old new : Option Image) → new ≡ old → ForSome old IsWhole
-    → IfOk r (λ used. ForSome old (λ i. FirstUsed checked_place checked_places i used)) → IfOk r (λ used. used ≡ None → ForSome new IsEmpty)
-used_empty (Ok used) old new same whole first = λ none image there.
-    let there_then = sym same ∙ there in
-    record { finished = (whole image there_then).finished; unused = subst (FirstUsed checked_place checked_places image) none (first image there_then) }
-used_empty (Err fault) old new same whole first = tt
+-- the totals of the files that are told, and any where none are
+pub told_totals : (s : Status) (files : Option Image) (old new : Option (List ℕ)) → ((line : List ℕ) → PrintsAt s line old new) → ShowsTotals s files old new
+told_totals s None old new printed = record { item_count = 0; byte_count = 0; totals = λ image there. absurd (no_image there); printed = printed (totals_line 0 0) }
+  where
+    no_image : {image : Image} → ◌≡◌ {A = Option Image} None (Some image) → ⊥
+    no_image e = cc
+told_totals s (Some from) old new printed = record {
+  item_count = _;
+  byte_count = _;
+  totals = λ image there. subst (AreTotalsOf _ _) (some_inj there) (record { items_are = refl; bytes_are = refl });
+  printed = printed _;
+}
 
--- a folder that is finished isn't unfinished
-pub none_made : (r : Result (Option Used) Fault) (old : Option Image) (Q : Type 0) → ForSome old IsFinished → IfOk r (λ _. ForSome old (λ image. IsUnfinished image → Q))
-none_made (Ok used) old Q finished = λ image there begun. absurd ((finished image there).finished begun)
-none_made (Err fault) old Q finished = tt
+-- the files that are told are told still
+pub told_still : {a b : Told} {P Q : Image → Type 0} (from : Image) → PassesTo a b P Q → a.files ≡ Some from → (image : Image) × (b.files ≡ Some image)
+told_still {a} {b} {P} {Q} from passes there = (after passes.steps from, passes.applies.files ∙ ap (option_map (after passes.steps)) there)
 
-pub new_is : (readings : Option Readings) (moment : ℕ) (image : Image) → ForSome readings (λ r. moment ≡ reading_of r) → IsMade moment image → IsNew readings image
-new_is readings moment image reading made = record { moment = moment; reading = reading; made = made; empty = made_empty moment image made }
+still_then : (a b c : Image) → HoldsStill a b → HoldsStill b c → HoldsStill a c
+still_then a b c one other = record { usable = λ h. other.usable (one.usable h); formed = λ h. other.formed (one.formed h); found_same = other.found_same ∙ one.found_same }
 
--- what a stop leaves: the files as they were, or an unfinished folder, or a new one
-abbrev pub Leaves : Option Image → Option Readings → Image → Type 0
-Leaves start readings image = (start ≡ Some image) ⊎ (IsUnfinished image ⊎ IsNew readings image)
+-- a folder on which a cache keeps a state may be written; one that tells nothing asks nothing
+pub opened_open : (start middle : Told) (cache : Cache) → (start.files ≡ None → middle.files ≡ None) → ForSome start.files (λ from. ForSome middle.files (KeepsState cache (opened_on from))) → ForSome middle.files (IsOpen cache.files)
+opened_open start middle cache silent keeps = by_files start.files silent keeps
+  where
+    no_image : {image : Image} → ◌≡◌ {A = Option Image} None (Some image) → ⊥
+    no_image e = cc
 
-pub making : {a m b : Told} (readings : Option Readings) (moment : ℕ) → m ≡ a → ForSome readings (λ r. moment ≡ reading_of r) → PassesTo m b IsUnfinished (λ image. IsUnfinished image ⊎ IsMade moment image)
-    → PassesTo a b (Leaves a.files readings) (Leaves a.files readings)
-making readings moment stays reading stops =
-    passes_weaker (passes_stayed stays stops) (λ image u. inr (inl u)) (λ image. ⊎_elim (λ u. inr (inl u)) (λ m. inr (inr (new_is readings moment image reading m))))
+    by_files : (files : Option Image) → (files ≡ None → middle.files ≡ None) → ForSome files (λ from. ForSome middle.files (KeepsState cache (opened_on from))) → ForSome middle.files (IsOpen cache.files)
+    by_files None silent keeps image there = absurd (no_image (sym (silent refl) ∙ there))
+    by_files (Some from) silent keeps image there = kept-open cache (opened_on from) image (keeps from refl image there)
 
--- From what is found to the status.
+-- What an opening and then an end of it leave.
+module _ (start middle : Told) (cache : Cache) (from : Image) (there : start.files ≡ Some from) (opened : Passes start middle (HoldsStill from))
+    (keeps : ForSome start.files (λ from. ForSome middle.files (KeepsState cache (opened_on from)))) where
+  mid : (image : Image) × (middle.files ≡ Some image)
+  mid = told_still from opened there
 
-pub found_ok : (a b : Option Used) (image : Image) → a ≡ b → CountsAs (Ok a) image → CountsAs (Ok b) image
-found_ok a b image same = subst (λ (u : Option Used). CountsAs (Ok u) image) same
+  pub counted : AreTotalsOf cache.items cache.bytes from
+  counted = let k = keeps from there mid.0 mid.1 in record { items_are = k.items_are; bytes_are = k.bytes_are }
 
-pub found_err : (a b : Fault) (image : Image) → a ≡ b → CountsAs (Err a) image → CountsAs (Err b) image
-found_err a b image same = subst (λ (x : Fault). CountsAs (Err x) image) same
+  module _ (final : Told) (ended : ForSome middle.files (λ image. (state : State) → KeepsState cache state image → Passes middle final (HoldsStill image))) where
+    pub passed : Passes start final (HoldsStill from)
+    passed =
+        let before : HoldsStill from mid.0 = passes_end opened mid.0 mid.1 in
+        let more = λ (image : Image) (still : HoldsStill mid.0 image). still_then from mid.0 image before still in
+        passes_then opened (passes_weaker (ended mid.0 mid.1 (opened_on from) (keeps from there mid.0 mid.1)) more more)
 
-pub cause_err : (a b : Fault) (told : Told) → a ≡ b → IfDamaged {A = Option Used} (Err a) (IsStartDamage told) → IfDamaged {A = Option Used} (Err b) (IsStartDamage told)
-cause_err a b told same = subst (λ (x : Fault). IfDamaged {A = Option Used} (Err x) (IsStartDamage told)) same
+    pub left_same : ForSome start.files (λ from. ForSome middle.files (λ image. this_id_of (byte image Index) ≡ opened_id from)) → ForSome middle.files (λ image. (state : State) → KeepsState cache state image → ForSome final.files EndsSession)
+        → ForSome middle.files (λ image. ForSome final.files (λ last. this_id_of (byte last Index) ≡ this_id_of (byte image Index))) → ForSome final.files (EndsSame from)
+    left_same numbered sound same image here = record {
+      found_same = (passes_end passed image here).found_same;
+      ends = sound mid.0 mid.1 (opened_on from) (keeps from there mid.0 mid.1) image here;
+      session = same mid.0 mid.1 image here ∙ numbered from there mid.0 mid.1;
+    }
 
-pub answers_empty : (s : Status) (image : Image) → IsCountable image → (s ≡ status.Ok) ⊎ (s ≡ status.Sink) → AnswersFor s image
-answers_empty s image countable (inl ok) =
-    let fits = λ (t : Status). AnswersFor t image in
-    subst fits (sym ok) countable
-answers_empty s image countable (inr sink) =
-    let fits = λ (t : Status). AnswersFor t image in
-    subst fits (sym sink) countable
+-- the crash word is beside the number of the session
+pub number_stays : {a b : Told} → Applies a b (word_step Index 32 0) → ForSome a.files (λ from. ForSome b.files (λ image. this_id_of (byte image Index) ≡ this_id_of (byte from Index)))
+number_stays {a} {b} made from there = told_whole (λ image. word image Index 20 ≡ word from Index 20) made (λ image is. subst (λ (i : Image). word (after (word_step Index 32 0) i) Index 20 ≡ word from Index 20) (some_inj (sym there ∙ is)) (beside from))
+  where
+    beside : (image : Image) → word (after (word_step Index 32 0) image) Index 20 ≡ word image Index 20
+    beside image = unfold word_step in word-after_other image Index 32 (word_bytes 0) 20 (lit≤ tt) refl (omega arith)
+
+-- a damage that is the first of the folder
+pub first_is : (fault : OpenFault) (damage : Damage) (files : Option Image) → fault ≡ Damaged damage → IfOpenDamaged {A = Cache} (Err fault) (λ d. ForSome files (IsFirstDamage d)) → ForSome files IsDamaged
+first_is fault damage files is first image there =
+    let own = subst (λ (x : OpenFault). IfOpenDamaged {A = Cache} (Err x) (λ d. ForSome files (IsFirstDamage d))) is first image there in
+    record { finished = own.finished; damage = damage_of damage; first = own.first }

@@ -14,7 +14,6 @@ code_of status.Sink = 5
 code_of status.Memory = 6
 code_of status.Damaged = 7
 code_of status.TooLong = 8
-code_of status.NotBuilt = 9
 
 -- what is shown of a status
 abbrev pub status_text : Status → List ℕ
@@ -27,4 +26,3 @@ status_text status.Sink = codes "the output failed"
 status_text status.Memory = codes "there is no memory"
 status_text status.Damaged = codes "the folder is damaged"
 status_text status.TooLong = codes "the input is too long"
-status_text status.NotBuilt = codes "the folder has entries, which can't be opened yet"

@@ -4,23 +4,19 @@ use Rattle.std.specs.Option.{option_map}
 use Rattle.blk_image.specs.Checks.{Damage}
 use Rattle.blk_image.specs.Told.{Rises}
 use Rattle.blk_io.specs.Streams.{Appends}
-use Rattle.blk_io.specs.Texts.{damage_text, hex_text}
+use Rattle.blk_io.specs.Texts.{damage_text}
 
 -- the usage
 abbrev pub usage_text : List ℕ
 usage_text = codes "usage\n"
 
--- a folder without entries
-abbrev pub empty_text : List ℕ
-empty_text = codes "items 0 bytes 0\n"
+-- so many items, with so many bytes, on a line
+abbrev pub totals_line : ℕ → ℕ → List ℕ
+totals_line items bytes = codes "items " ++ (decimal items ++ (codes " bytes " ++ (decimal bytes ++ codes "\n")))
 
 -- a damage, on a line
 abbrev pub damage_line : Damage → List ℕ
 damage_line damage = damage_text damage ++ codes "\n"
-
--- a folder with entries: the place and the word of the index that shows it
-abbrev pub not_built_text : ℕ → ℕ → List ℕ
-not_built_text at found = codes "not built " ++ decimal at ++ codes " " ++ hex_text 8 found ++ codes "\n"
 
 -- a text was printed, and a front of it where the sink failed
 pub record Prints (old new : Option (List ℕ)) (before now : ℕ) (text : List ℕ) : Type 0 where

@@ -24,8 +24,6 @@ pub enum Status {
     Damaged = 7,
     /// The input is longer than it may be.
     TooLong = 8,
-    /// The folder has entries, which can't be opened yet. Nothing was written.
-    NotBuilt = 9,
 }
 
 impl Status {
@@ -56,7 +54,6 @@ impl fmt::Display for Status {
             Status::Memory => "there is no memory",
             Status::Damaged => "the folder is damaged",
             Status::TooLong => "the input is too long",
-            Status::NotBuilt => "the folder has entries, which can't be opened yet",
         })
     }
 }

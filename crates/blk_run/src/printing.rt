@@ -6,7 +6,7 @@ ghost use Rattle.blk_image.specs.Told.{Rises};
 ghost use Rattle.blk_io.specs.Streams.{Appends};
 ghost use Rattle.blk_io.specs.Faults.{damage_of};
 ghost use Rattle.blk_io.specs.Texts.{hex_text};
-ghost use Rattle.blk_run.specs.Texts.{damage_line, not_built_text};
+ghost use Rattle.blk_run.specs.Texts.{damage_line, totals_line};
 
 use blk_io::{Damage, Failed, FileId, Sink};
 use itoa::Buffer;
@@ -77,17 +77,18 @@ fn left_out(n: u32) -> usize
     }
 }
 
-/// Prints that a folder with entries can't be opened yet, with the place and the word of the index that shows them.
+/// Prints how many items there are, and how many bytes, on a line.
 ///
 /// Where the sink fails, a front of the line may have been printed.
-pub fn print_not_built<K: Sink>(out: &mut K, at: u32, found: u32) -> Result<(), Failed>
-    ensures steps { OnOk result (K.written out.new ≡ option_map (λ w. w ++ not_built_text at found) (K.written out.old)) }
-    ensures prefix { Appends (K.written out.old) (K.written out.new) (not_built_text at found) }
+pub fn print_totals<K: Sink>(out: &mut K, items: u64, bytes: u64) -> Result<(), Failed>
+    ensures steps { OnOk result (K.written out.new ≡ option_map (λ w. w ++ totals_line items bytes) (K.written out.old)) }
+    ensures prefix { Appends (K.written out.old) (K.written out.new) (totals_line items bytes) }
     ensures later { K.faults out.old ≤ K.faults out.new }
     ensures failed { OnErr result (Rises (K.faults out.old) (K.faults out.new)) }
 {
-    let mut place = Buffer::new();
-    let at = place.format(at).as_bytes();
-    let found = digits_of(found);
-    print_all(out, &[b"not built ", at, b" ", &found, b"\n"])
+    let mut count = Buffer::new();
+    let mut sum = Buffer::new();
+    let items = count.format(items).as_bytes();
+    let bytes = sum.format(bytes).as_bytes();
+    print_all(out, &[b"items ", items, b" bytes ", bytes, b"\n"])
 }
