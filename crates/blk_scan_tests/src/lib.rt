@@ -1,10 +1,12 @@
-//! The tests of the audit and of the repair of whole folders.
+//! The tests of the audit and of the repair of whole folders, of their opening, and of the word `count`.
 #![tactic(auto)]
 
 #[cfg(test)]
 mod calls;
 #[cfg(test)]
 mod cases;
+#[cfg(test)]
+mod counting;
 #[cfg(test)]
 mod folders;
 #[cfg(test)]
