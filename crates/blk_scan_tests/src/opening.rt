@@ -1,5 +1,8 @@
-// The opening and the end of a cache, on an empty folder and on one of many entries.
+// The opening and the end of a cache: on an empty folder, on one of many entries, and on damaged ones where it is stopped.
 use crate::calls::{ENTRIES, Sort, many};
+use crate::cases::STOPPED;
+use crate::folders::{Change, audited};
+use crate::repairs::{Mem, again, changed};
 use blk_cache::Cache;
 use blk_io::{FileId, Folder, MemFolder, SilentFolder, read_word};
 use blk_model::{Limits, MOST_BYTES, MOST_ITEMS};
@@ -14,6 +17,12 @@ const LIMITS: Limits = Limits {
 
 // When a folder is made.
 const MOMENT: u64 = 7;
+
+// More steps than the opening of any of these folders takes.
+const MOST_STEPS: u64 = 100;
+
+// An opening that follows on a stopped one is stopped after so many steps.
+const NEXT_STEPS: [u64; 8] = [0, 1, 2, 3, 10, 20, 30, 40];
 
 // What a session shows: its items and bytes, its number, and the crash word once it is opened and once it is ended.
 type Shown = ((u64, u64), u32, [u32; 2]);
@@ -54,5 +63,65 @@ fn a_clean_folder_of_4000_entries_is_opened_by_few_calls(rt: HostRuntime) -> Res
     assert_eq!(rt; (items, number, crash), (4000, 2, [1, 0]));
     assert_eq!(rt; ending, 1);
     assert!(rt; opening <= 260, "{opening} calls");
+    Ok(())
+}
+
+// Whether an opening shows these items and bytes, in the session with the next number; or none where it is stopped.
+fn shows(alloc: Global, f: &mut Mem, totals: (u64, u64)) -> Option<bool> {
+    let before = read_word(f, FileId::Index, IndexHead::THIS_ID).ok()?;
+    let cache = Cache::start(alloc, f, LIMITS, MOMENT).ok()?;
+    let number = read_word(f, FileId::Index, IndexHead::THIS_ID).ok()?;
+    Some(cache.totals() == totals && number == before.wrapping_add(1))
+}
+
+// Whether an opening of what a stopped one left shows these, or is stopped after so many steps and a third one shows them.
+fn shows_in_the_end(alloc: Global, f: Mem, steps: u64, totals: (u64, u64)) -> bool {
+    let mut f = again(f, steps);
+    let second = shows(alloc, &mut f, totals);
+    let mut f = again(f, u64::MAX);
+    second != Some(false) && shows(alloc, &mut f, totals) == Some(true)
+}
+
+// Whether all ends well where the first opening is stopped after so many steps, wherever the second one is; and whether the first
+// one came to its end.
+fn is_opened_again(
+    alloc: Global,
+    changes: &[Change],
+    steps: u64,
+    totals: (u64, u64),
+) -> Result<(bool, bool), Fail> {
+    let mut ended = false;
+    for next in NEXT_STEPS {
+        let mut f = changed(alloc, true, changes, steps)?;
+        let first = shows(alloc, &mut f, totals);
+        if first == Some(false) || !shows_in_the_end(alloc, f, next, totals) {
+            return Ok((false, ended));
+        }
+        ended = first.is_some();
+    }
+    Ok((true, ended))
+}
+
+// How many steps an opening takes, where all ends well at each stop before; or none, where it doesn't, or where the opening takes
+// more than so many.
+fn steps_of(alloc: Global, changes: &[Change]) -> Result<Option<u64>, Fail> {
+    let mut f = changed(alloc, true, changes, u64::MAX)?;
+    let before = audited(alloc, &mut f)?;
+    let totals = (before.items(), before.bytes());
+    for steps in 0..MOST_STEPS {
+        let (same, ended) = is_opened_again(alloc, changes, steps, totals)?;
+        if ended || !same {
+            return Ok(if same { Some(steps) } else { None });
+        }
+    }
+    Ok(None)
+}
+
+#[test]
+fn an_opening_may_be_stopped_at_each_word_twice(rt: HostRuntime) -> Result<(), Fail> {
+    for changes in [STOPPED[0], STOPPED[2]] {
+        let steps = steps_of(rt.alloc(), changes)?;
+        assert!(rt; steps.is_some());
+    }
     Ok(())
 }

@@ -13,7 +13,7 @@ use blk_scan::{Scan, scan_files};
 use std::alloc::Global;
 use std::test::Fail;
 
-type Mem = SilentFolder<StopFolder>;
+pub(crate) type Mem = SilentFolder<StopFolder>;
 
 // The words of the index that are written where nothing is to be mended: this_id and crash.
 const INDEX_WORDS: u64 = 2;
@@ -30,7 +30,7 @@ fn empty(alloc: Global) -> Mem {
 }
 
 // The folder with what was written, where so many more steps pass.
-fn again(f: Mem, steps: u64) -> Mem {
+pub(crate) fn again(f: Mem, steps: u64) -> Mem {
     SilentFolder::new(StopFolder::new(f.into_inner().into_inner(), steps))
 }
 
@@ -45,7 +45,12 @@ fn whole(alloc: Global, sealed: bool) -> Result<Mem, Fail> {
 }
 
 // That folder with some changes, where so many more steps pass.
-fn changed(alloc: Global, sealed: bool, changes: &[Change], steps: u64) -> Result<Mem, Fail> {
+pub(crate) fn changed(
+    alloc: Global,
+    sealed: bool,
+    changes: &[Change],
+    steps: u64,
+) -> Result<Mem, Fail> {
     let mut f = whole(alloc, sealed)?;
     change_all(&mut f, changes)?;
     Ok(again(f, steps))

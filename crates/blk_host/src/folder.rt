@@ -1,0 +1,70 @@
+// A folder of the machine. It tells nothing of its content.
+ghost use Rattle.std.specs.Prelude.{◌≡◌, ◌≤◌, ◌^◌, ◌<◌, None, Ok, OnErr, OnOk, IfOk, length};
+ghost use Rattle.std.specs.Option.{ForSome};
+ghost use Rattle.blk_host.specs.FileIds.{ComesAfter};
+ghost use Rattle.blk_image.specs.Told.{Rises};
+
+use crate::faults::counted;
+use crate::files::DiskFiles;
+use blk_io::{Failed, FileId, Folder};
+use std::alloc::Global;
+use std::fs::File;
+use std::io;
+use std::rt::Files;
+
+/// A folder of the machine, which counts the failures of the machine.
+#[derive(Drop)]
+pub struct RealFolder<R: Files<File = File> + Drop> {
+    files: DiskFiles<R>,
+    faults: u64,
+}
+
+impl<R: Files<File = File> + AllocGlobal + Clone + Drop> RealFolder<R> {
+    /// The folder at a path, whose names are read here and never again.
+    pub fn new(rt: R, alloc: Global, path: String) -> io::Result<Self> {
+        Ok(RealFolder {
+            files: DiskFiles::new(rt, alloc, path)?,
+            faults: 0,
+        })
+    }
+}
+
+impl<R: Files<File = File> + Drop> Folder for RealFolder<R> {
+    ghost use Rattle.blk_io.specs.SilentFolder.{untold, untold_agrees, untold_bytes};
+
+    ghost told = { λ _. untold };
+
+    ghost faults = { λ folder. folder.faults };
+
+    ghost agrees = { λ folder. untold_agrees };
+
+    ghost are_bytes = { λ folder. untold_bytes };
+
+    fn length(&mut self, file: FileId) -> Result<Option<u64>, Failed> {
+        counted(self.files.length(file), &mut self.faults)
+    }
+
+    fn read_at(&mut self, file: FileId, at: u64, out: &mut [u8]) -> Result<usize, Failed> {
+        counted(self.files.read_at(file, at, out), &mut self.faults)
+    }
+
+    fn write_at(&mut self, file: FileId, at: u64, bytes: &[u8]) -> Result<(), Failed> {
+        counted(self.files.write_at(file, at, bytes), &mut self.faults)
+    }
+
+    fn set_len(&mut self, file: FileId, length: u64) -> Result<(), Failed> {
+        counted(self.files.set_len(file, length), &mut self.faults)
+    }
+
+    fn delete(&mut self, file: FileId) -> Result<(), Failed> {
+        counted(self.files.delete(file), &mut self.faults)
+    }
+
+    fn list(&mut self, after: Option<FileId>) -> Result<Option<FileId>, Failed> {
+        Ok(self.files.next(after))
+    }
+
+    fn note(&mut self, _answered: u64) -> Result<(), Failed> {
+        Ok(())
+    }
+}

@@ -1,0 +1,256 @@
+// The real objects on the machine.
+ghost use Rattle.std.specs.Prelude.{◌≤◌, IfOk};
+
+use crate::folder::RealFolder;
+use crate::spelling::file_of_name;
+use crate::streams::{StdSink, StdSource, SystemClock};
+use blk_io::{Clock, Failed, FileId, Folder, Sink, Source};
+use std::alloc::{AllocError, Global};
+use std::io::{ErrorKind, Read, Write};
+use std::{env, fs, io};
+
+// A folder of this machine.
+type Machine = RealFolder<HostRuntime>;
+
+// The least and the greatest external file.
+const LOW: FileId = FileId::External(1);
+
+const HIGH: FileId = FileId::External(268_435_455);
+
+// The cache files with these names.
+fn files_of(alloc: Global, names: &[&str; 10]) -> Result<[Option<FileId>; 10], AllocError> {
+    let mut files = [None; 10];
+    for (file, name) in files.iter_mut().zip(names) {
+        *file = file_of_name(alloc, name)?;
+    }
+    Ok(files)
+}
+
+#[test]
+fn cache_files_have_exact_names(rt: HostRuntime) -> Result<(), AllocError> {
+    let names = [
+        "index",
+        "data_10",
+        "f_00a0ff",
+        "f_fffffff",
+        "Index",
+        "data_01",
+        "data_256",
+        "f_000000",
+        "f_0000A0",
+        "f_10000000",
+    ];
+    let mut files = [None; 10];
+    files[0] = Some(FileId::Index);
+    files[1] = Some(FileId::Block(10));
+    files[2] = Some(FileId::External(41215));
+    files[3] = Some(HIGH);
+    assert!(rt; files_of(rt.alloc(), &names)? == files);
+    Ok(())
+}
+
+// A new folder of this test's own.
+fn new_folder(rt: HostRuntime, name: &str) -> io::Result<String> {
+    let alloc = rt.alloc();
+    let moment = SystemClock::new(rt).now();
+    let parent = env::temp_dir(&rt)?;
+    let parent = parent.as_str();
+    let path = format!(in alloc; "{parent}/blk_host_{name}_{moment}")?;
+    fs::create_dir(&rt, path.as_str())?;
+    Ok(path)
+}
+
+// The folder at a path, whose names are read now.
+fn look(rt: HostRuntime, path: &str) -> io::Result<Machine> {
+    RealFolder::new(rt, rt.alloc(), String::from_str(rt.alloc(), path)?)
+}
+
+// Gives four files a length and bytes, of which one is written over and one is cut.
+fn write_four(folder: &mut Machine) -> Result<(), Failed> {
+    for file in [HIGH, FileId::Block(255), LOW, FileId::Index] {
+        folder.set_len(file, 6)?;
+        folder.write_at(file, 2, b"abc")?;
+    }
+    folder.write_at(HIGH, 0, b"zyxwvu")?;
+    folder.set_len(FileId::Index, 4)
+}
+
+// The first files of a folder in their order, and none behind the last.
+fn listed(folder: &mut Machine) -> Result<[Option<FileId>; 5], Failed> {
+    let mut files = [None; 5];
+    let mut last = None;
+    for file in &mut files {
+        last = folder.list(last)?;
+        *file = last;
+    }
+    Ok(files)
+}
+
+// How many bytes a read gives, and a buffer of nines behind it.
+fn read(folder: &mut Machine, file: FileId, at: u64) -> Result<(usize, [u8; 8]), Failed> {
+    let mut out = [9; 8];
+    let n = folder.read_at(file, at, &mut out)?;
+    Ok((n, out))
+}
+
+// What is read of two files that are there, and of one that isn't.
+fn bytes_of(folder: &mut Machine) -> Result<[(usize, [u8; 8]); 3], Failed> {
+    let low = read(folder, LOW, 1)?;
+    let high = read(folder, HIGH, 4)?;
+    Ok([low, high, read(folder, FileId::Block(4), 0)?])
+}
+
+// Deletes a file twice, and gives the next one before it.
+fn without(folder: &mut Machine, file: FileId, before: FileId) -> Result<Option<FileId>, Failed> {
+    folder.delete(file)?;
+    folder.delete(file)?;
+    folder.list(Some(before))
+}
+
+#[test]
+fn a_real_folder_keeps_its_files(rt: HostRuntime) -> io::Result<()> {
+    let path = new_folder(rt, "keeps")?;
+    let mut folder = look(rt, path.as_str())?;
+    assert!(rt; listed(&mut folder) == Ok([None; 5]) && write_four(&mut folder).is_ok());
+
+    // Another look at the same folder sees the same files, in their order.
+    let mut folder = look(rt, path.as_str())?;
+    let block = FileId::Block(255);
+    let files = [
+        Some(FileId::Index),
+        Some(block),
+        Some(LOW),
+        Some(HIGH),
+        None,
+    ];
+    assert!(rt; listed(&mut folder) == Ok(files));
+    assert!(rt; folder.length(FileId::Index) == Ok(Some(4)));
+    let bytes = [
+        (5, [0, 97, 98, 99, 0, 9, 9, 9]),
+        (2, [118, 117, 9, 9, 9, 9, 9, 9]),
+        (0, [9; 8]),
+    ];
+    assert!(rt; bytes_of(&mut folder) == Ok(bytes));
+    assert!(rt; without(&mut folder, LOW, block) == Ok(Some(HIGH)));
+    fs::remove_dir_all(&rt, path.as_str())
+}
+
+// The lengths of two files after their folder is gone, of which the last one is still open, and of one that isn't made there.
+fn lengths(folder: &mut Machine) -> [Result<Option<u64>, Failed>; 3] {
+    let last = folder.length(FileId::External(2));
+    let first = folder.length(FileId::External(1));
+    let made = folder.set_len(FileId::Index, 8);
+    [last, first, made.and(folder.length(FileId::Index))]
+}
+
+#[test]
+fn a_failure_of_the_machine_is_answered(rt: HostRuntime) -> io::Result<()> {
+    let path = new_folder(rt, "fails")?;
+    let mut folder = look(rt, path.as_str())?;
+    let first = folder.set_len(FileId::External(1), 4);
+    let second = folder.set_len(FileId::External(2), 4);
+    assert!(rt; first.is_ok() && second.is_ok());
+    fs::remove_dir_all(&rt, path.as_str())?;
+
+    // The one file is still open, and the other one is gone.
+    assert!(rt; lengths(&mut folder) == [Ok(Some(4)), Err(Failed), Err(Failed)]);
+    assert!(rt; folder.length(FileId::Index) == Ok(None));
+    assert!(rt; look(rt, path.as_str()).is_err());
+    Ok(())
+}
+
+#[test]
+fn a_file_that_came_later_is_not_taken(rt: HostRuntime) -> io::Result<()> {
+    let alloc = rt.alloc();
+    let path = new_folder(rt, "later")?;
+    let mut folder = look(rt, path.as_str())?;
+    let text = path.as_str();
+    let later = format!(in alloc; "{text}/data_1")?;
+    fs::write(&rt, later.as_str(), "kept")?;
+    assert!(rt; folder.set_len(FileId::Block(1), 0).is_err());
+    assert!(rt; folder.length(FileId::Block(1)) == Ok(None));
+    let kept = fs::read_to_string(&rt, later)?;
+    assert!(rt; kept.as_str() == "kept");
+    fs::remove_dir_all(&rt, text)
+}
+
+// A stream of the machine that gives and takes two bytes in a call, and has an error of a kind in the third call.
+#[derive(Drop)]
+struct Halting {
+    calls: u64,
+    kind: ErrorKind,
+}
+
+impl Halting {
+    fn new(kind: ErrorKind) -> Self {
+        Halting { calls: 0, kind }
+    }
+}
+
+impl Halting {
+    fn count(&mut self, length: usize) -> io::Result<usize>
+        ensures { IfOk result (λ n. n ≤ length) }
+    {
+        self.calls = self.calls.saturating_add(1);
+        if self.calls == 3 {
+            return Err(io::Error::from(self.kind));
+        }
+        Ok(length.min(2))
+    }
+}
+
+impl Read for Halting {
+    fn read(&mut self, buf: &mut [u8]) -> io::Result<usize> {
+        self.count(buf.len())
+    }
+}
+
+impl Write for Halting {
+    fn write(&mut self, buf: &[u8]) -> io::Result<usize> {
+        self.count(buf.len())
+    }
+
+    fn flush(&mut self) -> io::Result<()> {
+        Ok(())
+    }
+}
+
+// The answers of four takes of three bytes.
+fn takes<S: Source>(source: &mut S) -> [Result<usize, Failed>; 4] {
+    let mut out = [0; 3];
+    let mut answers = [Ok(0); 4];
+    for answer in &mut answers {
+        *answer = source.take(&mut out);
+    }
+    answers
+}
+
+// The answers of three puts of three bytes.
+fn puts<K: Sink>(sink: &mut K) -> [Result<(), Failed>; 3] {
+    let mut answers = [Ok(()); 3];
+    for answer in &mut answers {
+        *answer = sink.put(b"abc");
+    }
+    answers
+}
+
+#[test]
+fn a_stream_that_fails_once_is_answered_once(rt: HostRuntime) {
+    let mut source = StdSource::new(Halting::new(ErrorKind::BrokenPipe));
+    assert!(rt; takes(&mut source) == [Ok(2), Ok(2), Err(Failed), Ok(2)]);
+    let mut sink = StdSink::new(Halting::new(ErrorKind::BrokenPipe));
+    assert!(rt; puts(&mut sink) == [Ok(()), Err(Failed), Ok(())]);
+}
+
+#[test]
+fn a_stream_that_is_interrupted_goes_on(rt: HostRuntime) {
+    let mut source = StdSource::new(Halting::new(ErrorKind::Interrupted));
+    assert!(rt; takes(&mut source) == [Ok(2); 4]);
+    let mut sink = StdSink::new(Halting::new(ErrorKind::Interrupted));
+    assert!(rt; puts(&mut sink) == [Ok(()); 3]);
+}
+
+#[test]
+fn the_clock_is_past_2020(rt: HostRuntime) {
+    assert!(rt; SystemClock::new(rt).now() > 1_577_836_800_000_000);
+}

@@ -1,6 +1,0 @@
-use Rattle.std.proofs.Common.{refl}
-use Rattle.blkcache.proofs.HasNames.{has-none}
-use Rattle.blkcache.proofs.names.Names.new.Goals as goal
-
-pub returns : goal.returns
-returns c = has-none _ refl c.new.ensures.empty c.new-2.ensures.empty
