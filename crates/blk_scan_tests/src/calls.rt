@@ -1,9 +1,11 @@
 // The folder calls of an audit of many entries, and of a repair.
-use crate::folders::{Entry, Mem, add, audited, give_blocks, put_index};
+use crate::folders::{Entry, Mem, add, audited, give_blocks, put_index, put_words};
 use crate::repairs::mend;
+use blk_audit::ScanFault;
 use blk_disk::BlockFiles;
 use blk_index::make;
 use blk_io::{Fault, FileId, Folder, MemFolder, SilentFolder};
+use blk_record::IndexHead;
 use blk_repair::repair;
 use blk_scan::scan_files;
 use std::alloc::Global;
@@ -133,15 +135,37 @@ fn an_audit_of_4000_entries_takes_few_calls(rt: HostRuntime) -> Result<(), Fail>
     Ok(())
 }
 
+// The folder calls of a repair.
+fn calls_of_repair(alloc: Global, f: &mut Mem) -> Result<u64, ScanFault> {
+    let mut files = BlockFiles::load(f)?;
+    let scan = scan_files(alloc, f, &files)?;
+    let start = f.calls();
+    repair(f, &mut files, &scan)?;
+    Ok(f.calls().wrapping_sub(start))
+}
+
 // The folder calls of a repair of so many entries, where all is repaired already.
 fn repair_calls(alloc: Global, sort: Sort, entries: u32) -> Result<u64, Fail> {
     let mut f = many(alloc, sort, entries)?;
     mend(alloc, &mut f)?;
-    let mut files = BlockFiles::load(&mut f)?;
-    let scan = scan_files(alloc, &mut f, &files)?;
-    let start = f.calls();
-    repair(&mut f, &mut files, &scan)?;
-    Ok(f.calls().wrapping_sub(start))
+    Ok(calls_of_repair(alloc, &mut f)?)
+}
+
+// The buckets that are wrong: 16 in each piece of the table that one call reads.
+const WRONG: u64 = 1024;
+
+// The folder calls of a repair of an empty folder in which each 64th bucket names nothing, but for those that write these buckets.
+fn table_calls(alloc: Global) -> Result<u64, Fail> {
+    let mut f = many(alloc, Sort::Plain, 0)?;
+    for i in 0..WRONG {
+        put_words(
+            &mut f,
+            FileId::Index,
+            IndexHead::TABLE.wrapping_add(i.wrapping_mul(256)),
+            &[1],
+        )?;
+    }
+    Ok(calls_of_repair(alloc, &mut f)?.wrapping_sub(WRONG))
 }
 
 #[test]
@@ -155,5 +179,12 @@ fn a_repair_of_what_is_repaired_takes_few_calls(rt: HostRuntime) -> Result<(), F
         let calls = repair_calls(rt.alloc(), sort, entries)?;
         assert!(rt; calls <= 60 + externals, "{calls} calls, {externals}");
     }
+    Ok(())
+}
+
+#[test]
+fn the_table_is_read_in_pieces(rt: HostRuntime) -> Result<(), Fail> {
+    let calls = table_calls(rt.alloc())?;
+    assert!(rt; calls <= 60 + 64, "{calls} calls");
     Ok(())
 }

@@ -8,6 +8,8 @@ mod cases;
 #[cfg(test)]
 mod folders;
 #[cfg(test)]
+mod found;
+#[cfg(test)]
 mod long;
 #[cfg(test)]
 mod opening;

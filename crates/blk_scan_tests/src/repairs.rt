@@ -2,6 +2,7 @@
 use crate::cases::{Case, STOPPED, TABLES};
 use crate::folders::Change::{Index, Length};
 use crate::folders::{Change, OPERATION, TRANSACTION, audited, change_all, dropped_at};
+use crate::found::found;
 use crate::worked::make_all;
 use blk_audit::ScanFault;
 use blk_disk::BlockFiles;
@@ -58,15 +59,19 @@ pub(crate) fn mend<F: Folder>(alloc: Global, f: &mut SilentFolder<F>) -> Result<
     Ok(scan)
 }
 
-// Whether two audits tell the same of what is kept.
-fn is_same(one: &Scan, other: &Scan) -> bool {
-    let mut same = one.items() == other.items() && one.bytes() == other.bytes();
-    for (node, same_node) in one.kept_nodes().iter().zip(other.kept_nodes()) {
-        if node.word() != same_node.word() {
-            same = false;
-        }
-    }
-    same
+// What is held: the number of the entries that are kept, the bytes that are charged for them, and the hash of all that is
+// found of them, their keys and their data in the order of the list.
+type Held = (u64, u64, u64);
+
+// What a folder holds of which this was told.
+fn held(f: &mut Mem, scan: &Scan) -> Result<Held, ScanFault> {
+    Ok((scan.items(), scan.bytes(), found(f, scan)?))
+}
+
+// Audits the folder. Gives what it holds.
+fn held_now(alloc: Global, f: &mut Mem) -> Result<Held, ScanFault> {
+    let scan = audited(alloc, f)?;
+    held(f, &scan)
 }
 
 // Whether nothing is left to mend but the words of the index.
@@ -77,36 +82,39 @@ fn is_tidy(scan: &Scan) -> bool {
 // Whether repair keeps what is kept and leaves nothing to mend, and a second one makes no other steps than those of the index.
 fn is_mended(alloc: Global, case: Case) -> Result<bool, Fail> {
     let mut f = changed(alloc, false, case.0, u64::MAX)?;
-    let before = mend(alloc, &mut f)?;
+    let before = held_now(alloc, &mut f)?;
+    mend(alloc, &mut f)?;
     let mut f = again(f, INDEX_WORDS);
     let then = mend(alloc, &mut f)?;
-    Ok(is_same(&before, &then) && is_tidy(&then))
-}
-
-// Whether the same is kept in a stopped folder as before, and a repair that isn't stopped keeps it and leaves nothing to mend.
-fn is_ended_well(alloc: Global, f: Mem, before: &Scan) -> Result<bool, Fail> {
     let mut f = again(f, u64::MAX);
-    let stopped = mend(alloc, &mut f)?;
-    let then = audited(alloc, &mut f)?;
-    Ok(is_same(before, &stopped) && is_same(before, &then) && is_tidy(&then))
+    Ok(before == held(&mut f, &then)? && is_tidy(&then))
 }
 
-// Whether the same is kept where repair is stopped after so many steps, and where the next one is after some more, and all ends
+// Whether the same is held in a stopped folder as before, and a repair that isn't stopped keeps it and leaves nothing to mend.
+fn is_ended_well(alloc: Global, f: Mem, before: Held) -> Result<bool, Fail> {
+    let mut f = again(f, u64::MAX);
+    let stopped = held_now(alloc, &mut f)?;
+    mend(alloc, &mut f)?;
+    let then = audited(alloc, &mut f)?;
+    Ok(before == stopped && before == held(&mut f, &then)? && is_tidy(&then))
+}
+
+// Whether the same is held where repair is stopped after so many steps, and where the next one is after some more, and all ends
 // well; and whether the first one came to its end.
 fn is_stopped_well(
     alloc: Global,
     sealed: bool,
     changes: &[Change],
-    before: &Scan,
+    before: Held,
     steps: u64,
 ) -> Result<(bool, bool), Fail> {
     let mut f = changed(alloc, sealed, changes, steps)?;
     let ended = mend(alloc, &mut f).is_ok();
     let mut f = again(f, u64::MAX);
-    let stopped = audited(alloc, &mut f)?;
+    let stopped = held_now(alloc, &mut f)?;
     let mut f = again(f, steps % NEXT_STEPS);
     let _ = mend(alloc, &mut f).is_ok();
-    let same = is_same(before, &stopped) && is_ended_well(alloc, f, before)?;
+    let same = before == stopped && is_ended_well(alloc, f, before)?;
     Ok((same, ended))
 }
 
@@ -119,9 +127,9 @@ fn steps_of(
     most: u64,
 ) -> Result<Option<u64>, Fail> {
     let mut f = changed(alloc, sealed, changes, u64::MAX)?;
-    let before = audited(alloc, &mut f)?;
+    let before = held_now(alloc, &mut f)?;
     for steps in 0..most {
-        let (same, ended) = is_stopped_well(alloc, sealed, changes, &before, steps)?;
+        let (same, ended) = is_stopped_well(alloc, sealed, changes, before, steps)?;
         if !same {
             return Ok(None);
         }
