@@ -1,7 +1,6 @@
 pub mod Unnamed
 pub mod OpenedFolders
 pub mod Ends
-pub mod FirstDamages
 pub mod OpenRuns
 pub mod CarriedFaults
 pub mod Starts

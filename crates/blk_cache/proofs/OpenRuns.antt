@@ -42,7 +42,7 @@ use Rattle.blk_repair.specs.Repair.{IsRepairDamage, IsRepairable, IsRepaired, ne
 use Rattle.blk_cache.specs.declared.opening.Opened.{Opened}
 use Rattle.blk_cache.specs.Opened.{IsFirstDamage, IsJustMade, IsOpenedAs, IsOpeningDamage}
 use Rattle.blk_cache.specs.Opening.{HoldsStill, opened_id}
-use Rattle.blk_cache.proofs.FirstDamages.{blocks-formed, first-before, first-behind}
+use Rattle.blk_scan.proofs.FirstDamages.{blocks-formed, first-before, first-behind}
 use Rattle.blk_cache.proofs.OpenedFolders.{made-repairable, repaired-kept, told-totals}
 
 -- ---- what is found
@@ -183,10 +183,6 @@ loading-as e a b same cause = if_damaged_weaker {A = Told} (Err e) (IsLoadDamage
 
 pub looking-as : (e : Fault) (a b : Told) → b ≡ a → IfDamaged {A = Told} (Err e) (IsLookDamage a) → IfDamaged {A = Told} (Err e) (IsOpeningDamage b)
 looking-as e a b same cause = if_damaged_weaker {A = Told} (Err e) (IsLookDamage a) (IsOpeningDamage b) (λ damage h. inl (subst (λ (t : Told). IsLookDamage t damage) (sym same) h)) cause
-
--- an answer of a look, known
-pub looked-as : (x y : Start) (image : Image) → x ≡ y → LooksAs (Ok x) image → LooksAs (Ok y) image
-looked-as x y image same = subst (λ (s : Start). LooksAs (Ok s) image) same
 
 -- a folder that tells its files tells them
 pub told-some : {P : Type 0} (a : Told) (image : Image) → a.files ≡ Some image → a.files ≡ None → P

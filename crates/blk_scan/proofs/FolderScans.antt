@@ -14,7 +14,7 @@ use Rattle.blk_disk.specs.declared.tables.BlockFiles.{BlockFiles}
 use Rattle.blk_audit.specs.Faults.{IfScanDamaged}
 use Rattle.blk_audit.specs.declared.fault.ScanFault.{ScanFault}
 use Rattle.blk_audit.proofs.Carrying.{weaker}
-use Rattle.blk_scan.specs.Faults.{IsFolderDamage, IsScanDamage}
+use Rattle.blk_scan.specs.Faults.{IsBlocksDamage, IsScanDamage}
 
 -- where its index has its length, a damage is the first check of a header of a block file that fails
 abbrev pub IsFirstIfWhole : Told → Damage → Type 0
@@ -27,9 +27,9 @@ loading_first (Err fault.Device) told loads = tt
 loading_first (Err (fault.Damaged damage)) told loads = λ image there whole. loads image there
 
 -- a damage of a scan by the block files that agree with it has its cause
-pub scanning_cause : {A : Type 0} (r : Result A ScanFault) (files : BlockFiles) (a b c : Told) → b ≡ a → c ≡ b → ForSome b.files (Agrees files) → IfScanDamaged r (IsScanDamage files c) → IfScanDamaged r (IsFolderDamage a)
+pub scanning_cause : {A : Type 0} (r : Result A ScanFault) (files : BlockFiles) (a b c : Told) → b ≡ a → c ≡ b → ForSome b.files (Agrees files) → IfScanDamaged r (IsScanDamage files c) → IfScanDamaged r (IsBlocksDamage a)
 scanning_cause r files a b c before after agrees cause =
-    weaker r (IsScanDamage files c) (IsFolderDamage a)
+    weaker r (IsScanDamage files c) (IsBlocksDamage a)
     (λ damage is. inr (record {
       files = files;
       agrees = subst (λ (t : Told). ForSome t.files (Agrees files)) before agrees;

@@ -1,4 +1,5 @@
 pub mod BareFacts
+pub mod FirstDamages
 pub mod FolderScans
 pub mod Packed
 pub mod Placed

@@ -3,6 +3,7 @@ use Rattle.std.specs.Prelude.{◌⊎◌}
 use Rattle.std.specs.Option.{ForSome}
 use Rattle.blk_image.specs.Told.{Told}
 use Rattle.blk_io.specs.declared.fault.Damage.{Damage}
+use Rattle.blk_index.specs.Start.{IsLookDamage}
 use Rattle.blk_disk.specs.declared.tables.BlockFiles.{BlockFiles}
 use Rattle.blk_disk.specs.Loading.{IsLoadDamage}
 use Rattle.blk_disk.specs.Tables.{Agrees}
@@ -20,5 +21,9 @@ pub record IsLoadedDamage (told : Told) (damage : Damage) : Type 0 where
   pub cause : IsScanDamage files told damage
 
 -- the block files couldn't be loaded, or a scan by them was damaged
+abbrev pub IsBlocksDamage : Told → Damage → Type 0
+IsBlocksDamage told damage = IsLoadDamage told damage ⊎ IsLoadedDamage told damage
+
+-- a check of the index failed, or it was so with the block files
 abbrev pub IsFolderDamage : Told → Damage → Type 0
-IsFolderDamage told damage = IsLoadDamage told damage ⊎ IsLoadedDamage told damage
+IsFolderDamage told damage = IsLookDamage told damage ⊎ IsBlocksDamage told damage

@@ -1,10 +1,10 @@
 // The audit of a folder.
-ghost use Rattle.std.specs.Prelude.{◌≡◌, ◌≤◌, All, IfOk, None, Some, length};
+ghost use Rattle.std.specs.Prelude.{◌≡◌, ◌⊎◌, ◌≤◌, All, IfOk, None, Some, length};
 ghost use Rattle.std.specs.Option.{ForSome};
 ghost use Rattle.blk_image.specs.Image.{Image};
 ghost use Rattle.blk_image.specs.Told.{Rises, Stays};
-ghost use Rattle.blk_format.specs.BlockFiles.{first_block_damage};
-ghost use Rattle.blk_format.specs.Headers.{HasWholeIndex};
+ghost use Rattle.blk_format.specs.BlockFiles.{first_block_damage, first_damage, IsWellFormed};
+ghost use Rattle.blk_format.specs.Headers.{HasWholeIndex, IsUnfinished};
 ghost use Rattle.blk_volume.specs.ListView.{most_nodes};
 ghost use Rattle.blk_io.specs.Faults.{damage_of};
 ghost use Rattle.blk_disk.specs.declared.tables.BlockFiles.{BlockFiles as Files};
@@ -13,9 +13,9 @@ ghost use Rattle.blk_disk.specs.Tables.{Agrees};
 ghost use Rattle.blk_audit.specs.Chaining.{HasBuckets};
 ghost use Rattle.blk_audit.specs.Faults.{IfScanDamaged, IfScanDevice};
 ghost use Rattle.blk_audit.specs.ReadLists.{AreListsAmong};
-ghost use Rattle.blk_scan.specs.Faults.{IsFolderDamage, IsScanDamage};
+ghost use Rattle.blk_scan.specs.Faults.{IsBlocksDamage, IsFolderDamage, IsScanDamage};
 ghost use Rattle.blk_scan.specs.Ordering.{IsToldBy};
-ghost use Rattle.blk_scan.specs.Scans.{AreBare, ChainsStandIf, IsScanOf, StandAmong};
+ghost use Rattle.blk_scan.specs.Scans.{AreBare, ChainsStandIf, IsEmptyScan, IsScanOf, StandAmong};
 
 use crate::bare::bare_of;
 use crate::chains::kept_chains;
@@ -25,29 +25,51 @@ use crate::telling::{add_unlisted, kept_of, nodes_of};
 use blk_addr::{Addr, NoMemory};
 use blk_audit::{Lists, ScanFault, read_lists};
 use blk_disk::BlockFiles;
+use blk_index::{Start, look};
 use blk_io::Folder;
 use blk_verdict::{Judged, charge_of_all, judge_nodes, unlisted};
 use std::alloc::Global;
 
-/// Tells what a folder holds whose index is finished, as it is once its operation in flight is completed: the block files
-/// are loaded, and the folder is scanned by them. Nothing is written.
+/// Tells what a folder holds, as it is once its operation in flight is completed. An unfinished folder holds nothing. Nothing
+/// is written.
 ///
-/// The folder calls are those of `BlockFiles::load` and of `scan_files`. A damage is the first check that fails of a header
-/// of a block file, or a read that gave too few bytes; a folder whose index has its length gives the first alone. `Device`
-/// comes only where the folder failed in this call, and `Memory` where there was too little of it.
+/// The index is looked at; where it is finished the block files are loaded, and the folder is scanned by them. The folder
+/// calls are those of `look`, `BlockFiles::load` and `scan_files`.
+///
+/// # Errors
+///
+/// `Damaged` with the first check of the index and of the headers of the block files that fails; a folder that tells its files
+/// gives no other damage. `Device` where the folder failed in this call, and `Memory` where there was too little of it.
 pub fn scan_folder<F: Folder>(alloc: Global, f: &mut F) -> Result<Scan, ScanFault>
-    ensures scanned { IfOk result (λ scan. ForSome (F.told f.old).files (λ image. IsScanOf image scan)) }
+    ensures scanned { IfOk result (λ scan. ForSome (F.told f.old).files (λ image. IsWellFormed image → IsScanOf image scan)) }
+    ensures empty { IfOk result (λ scan. ForSome (F.told f.old).files (λ image. IsUnfinished image → IsEmptyScan scan)) }
     ensures few { IfOk result (λ scan. length scan.walked.items ≤ most_nodes) }
-    ensures checked { IfOk result (λ _. ForSome (F.told f.old).files (λ image. first_block_damage image ≡ None)) }
+    ensures checked { IfOk result (λ _. ForSome (F.told f.old).files (λ image. IsUnfinished image ⊎ IsWellFormed image)) }
     ensures stays { Stays (F.told f.old) (F.told f.new) }
 
-    // A folder that tells its files, and whose index has its length, gives a damage only where a check of a header of a
-    // block file fails: the first that does.
-    ensures damaged { IfScanDamaged result (λ damage. ForSome (F.told f.old).files (λ image. HasWholeIndex image → first_block_damage image ≡ Some (damage_of damage))) }
+    // A folder that tells its files gives a damage only where a check of its headers fails: the first that does.
+    ensures damaged { IfScanDamaged result (λ damage. ForSome (F.told f.old).files (λ image. (IsUnfinished image → ⊥) × (first_damage image ≡ Some (damage_of damage)))) }
 
     // The cause of a damage, which holds for a folder that tells nothing too.
     ensures cause { IfScanDamaged result (IsFolderDamage (F.told f.old)) }
 
+    ensures later { F.faults f.old ≤ F.faults f.new }
+    ensures device { IfScanDevice result (Rises (F.faults f.old) (F.faults f.new)) }
+{
+    match look(f)? {
+        Start::Unfinished => Ok(Scan::empty(alloc)),
+        Start::Finished => scan_finished(alloc, f),
+    }
+}
+
+// Tells what a folder holds whose index is finished.
+fn scan_finished<F: Folder>(alloc: Global, f: &mut F) -> Result<Scan, ScanFault>
+    ensures scanned { IfOk result (λ scan. ForSome (F.told f.old).files (λ image. IsScanOf image scan)) }
+    ensures few { IfOk result (λ scan. length scan.walked.items ≤ most_nodes) }
+    ensures checked { IfOk result (λ _. ForSome (F.told f.old).files (λ image. first_block_damage image ≡ None)) }
+    ensures stays { Stays (F.told f.old) (F.told f.new) }
+    ensures damaged { IfScanDamaged result (λ damage. ForSome (F.told f.old).files (λ image. HasWholeIndex image → first_block_damage image ≡ Some (damage_of damage))) }
+    ensures cause { IfScanDamaged result (IsBlocksDamage (F.told f.old)) }
     ensures later { F.faults f.old ≤ F.faults f.new }
     ensures device { IfScanDevice result (Rises (F.faults f.old) (F.faults f.new)) }
 {

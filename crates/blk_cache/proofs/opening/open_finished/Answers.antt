@@ -11,7 +11,7 @@ use Rattle.blk_index.specs.Start.{IsFinished}
 use Rattle.blk_repair.specs.Repair.{EndsWithCrashWord}
 use Rattle.blk_cache.specs.Opening.{IfOpenDamaged}
 use Rattle.blk_cache.proofs.CarriedFaults.{damaged-on, if-damaged, if-memory, open-damaged-weaker, open-damaged-where, open-memory-weaker}
-use Rattle.blk_cache.proofs.FirstDamages.{formed-of}
+use Rattle.blk_scan.proofs.FirstDamages.{formed-of}
 use Rattle.blk_cache.proofs.OpenRuns.{first-of_load, loading-as, mid-still, stayed-still, told-some}
 use Rattle.blk_cache.proofs.opening.open_finished.Given as given
 use Rattle.blk_cache.proofs.opening.open_finished.Goals as goal

@@ -5,8 +5,8 @@ use Rattle.blk_image.proofs.Runs.{passes_stayed}
 use Rattle.blk_repair.specs.Repair.{EndsWithCrashWord}
 use Rattle.blk_cache.specs.Opened.{IsFirstDamage}
 use Rattle.blk_cache.proofs.CarriedFaults.{damaged-on, if-damaged, if-memory, no-memory, open-damaged-weaker, open-memory-weaker}
-use Rattle.blk_cache.proofs.FirstDamages.{length-checked}
-use Rattle.blk_cache.proofs.OpenRuns.{first-of_look, looked-as, looking-as, stayed-still, untold-says}
+use Rattle.blk_scan.proofs.FirstDamages.{length-checked, looked-as}
+use Rattle.blk_cache.proofs.OpenRuns.{first-of_look, looking-as, stayed-still, untold-says}
 use Rattle.blk_cache.proofs.opening.open_folder.Goals as goal
 
 pub returns-in_err-look-clause-stops : goal.returns-in_err-look-clause-stops

@@ -1,19 +1,43 @@
+use Rattle.std.proofs.Common.{inl, inr, sym, ap, subst, ◌∙◌}
+use Rattle.std.specs.Option.{ForSome}
 use Rattle.std.proofs.lemmas.Result.{IfOk-weaker}
+use Rattle.blk_image.specs.Image.{Image}
+use Rattle.blk_image.specs.Told.{Told}
+use Rattle.blk_format.proofs.Finished.{finished_whole}
 use Rattle.blk_lru.proofs.Conditions.{told_now}
-use Rattle.blk_disk.proofs.Agreeing.{loaded_agrees}
-use Rattle.blk_audit.proofs.Carrying.{converted}
-use Rattle.blk_scan.proofs.FolderScans.{loading_first, scanning_cause}
+use Rattle.blk_audit.proofs.Carrying.{converted, weaker}
+use Rattle.blk_index.specs.Start.{IsFinished}
+use Rattle.blk_scan.proofs.FirstDamages.{first-behind, formed-of, length-checked, looked-as, looked-first}
+use Rattle.blk_scan.proofs.scanning.scan_folder.Given as given
 use Rattle.blk_scan.proofs.scanning.scan_folder.Goals as goal
 
-pub returns-in_err-files-clause-damaged : goal.returns-in_err-files-clause-damaged
-returns-in_err-files-clause-damaged g c = converted c.load.result c.from_residual.result c.in_err-files.field-0.0 _ c.in_err-files.was c.from_residual.ensures.1 (loading_first c.load.result (g.F.Folder.told c.args.f.now) c.load.ensures.loaded)
+pub returns-in_err-look-clause-damaged : goal.returns-in_err-look-clause-damaged
+returns-in_err-look-clause-damaged g c = converted c.look.result c.from_residual.result c.in_err-look.field-0.0 _ c.in_err-look.was c.from_residual.ensures.1 (looked-first c.look.result (g.F.Folder.told c.args.f.now) c.look.ensures.looked)
 
-pub returns-clause-scanned : goal.returns-clause-scanned
-returns-clause-scanned g c =
-    let agrees = loaded_agrees c.in_ok-files.files (g.F.Folder.told c.args.f.now) (g.F.Folder.told c.load.new.f) c.in_ok-files.ensures.stays c.in_ok-files.ensures.loaded in
-    IfOk-weaker c.scan_files.result _ _ (λ scan tells image there. let now = told_now image c.in_ok-files.ensures.stays there in tells image now (agrees image now)) c.scan_files.ensures.scanned
+pub returns-in-Unfinished-clause-scanned : goal.returns-in-Unfinished-clause-scanned
+returns-in-Unfinished-clause-scanned g c image there well = absurd ((finished_whole image well).finished (looked-as _ _ image c.in-Unfinished.is (c.in_ok-look.ensures.looked image there)))
 
-pub returns-clause-cause : goal.returns-clause-cause
-returns-clause-cause g c =
-    scanning_cause c.scan_files.result c.in_ok-files.files (g.F.Folder.told c.args.f.now) (g.F.Folder.told c.load.new.f) (g.F.Folder.told c.scan_files.new.f) c.in_ok-files.ensures.stays c.scan_files.ensures.stays
-    (loaded_agrees c.in_ok-files.files (g.F.Folder.told c.args.f.now) (g.F.Folder.told c.load.new.f) c.in_ok-files.ensures.stays c.in_ok-files.ensures.loaded) c.scan_files.ensures.damaged
+pub returns-in-Unfinished-clause-checked : goal.returns-in-Unfinished-clause-checked
+returns-in-Unfinished-clause-checked g c image there = inl (looked-as _ _ image c.in-Unfinished.is (c.in_ok-look.ensures.looked image there))
+
+pub returns-in-Finished-clause-scanned : goal.returns-in-Finished-clause-scanned
+returns-in-Finished-clause-scanned g c = IfOk-weaker c.scan_finished.result _ _ (λ scan tells image there well. tells image (told_now image c.in_ok-look.ensures.stays there)) c.scan_finished.ensures.scanned
+
+pub returns-in-Finished-clause-empty : goal.returns-in-Finished-clause-empty
+returns-in-Finished-clause-empty g c =
+    IfOk-weaker c.scan_finished.result _ _
+    (λ scan _ image there un. absurd ((looked-as _ _ image c.in-Finished.is (c.in_ok-look.ensures.looked image there)).finished un)) c.scan_finished.ensures.scanned
+
+pub returns-in-Finished-clause-checked : goal.returns-in-Finished-clause-checked
+returns-in-Finished-clause-checked g c =
+    IfOk-weaker c.scan_finished.result _ _
+    (λ scan none image there.
+    let fin = looked-as _ _ image c.in-Finished.is (c.in_ok-look.ensures.looked image there) in
+    inr (formed-of image fin.undamaged (none image (told_now image c.in_ok-look.ensures.stays there)))) c.scan_finished.ensures.checked
+
+pub returns-in-Finished-clause-damaged : goal.returns-in-Finished-clause-damaged
+returns-in-Finished-clause-damaged g c =
+    weaker c.scan_finished.result _ _
+    (λ damage first image there.
+    let fin = looked-as _ _ image c.in-Finished.is (c.in_ok-look.ensures.looked image there) in
+    (fin.finished, first-behind image fin.undamaged ∙ first image (told_now image c.in_ok-look.ensures.stays there) (length-checked image fin.undamaged))) c.scan_finished.ensures.damaged

@@ -1,11 +1,19 @@
 -- The first damage of a folder: of its index, and then of its block files.
-use Rattle.std.proofs.Common.{◌≡◌, ◌++◌, ◌%◌, ◌^◌, ◌==◌, Option, None, Some, refl, sym, ◌∙◌}
+use Rattle.std.proofs.Common.{◌≡◌, ◌++◌, ◌%◌, ◌^◌, ◌==◌, Option, None, Some, Result, Ok, Err, refl, subst, sym, ◌∙◌}
+use Rattle.std.specs.Option.{ForSome}
 use Rattle.std.proofs.lemmas.Bool.{eqb-true}
 use Rattle.blk_image.specs.Checks.{Damage}
 use Rattle.blk_image.specs.Image.{Image, Index, byte, length_of}
 use Rattle.blk_image.proofs.FirstChecks.{all_none, append_none, append_some, passed}
 use Rattle.blk_format.specs.BlockFiles.{block_checks, first_block_damage, first_damage, IsWellFormed}
-use Rattle.blk_format.specs.Headers.{HasWholeIndex, first_index_damage, head_checks, list_checks}
+use Rattle.blk_format.specs.Headers.{HasWholeIndex, IsUnfinished, first_index_damage, head_checks, list_checks}
+use Rattle.blk_image.specs.Told.{Told}
+use Rattle.blk_io.specs.declared.fault.Damage.{Damage as Met}
+use Rattle.blk_io.specs.declared.fault.Fault.{Fault}
+use Rattle.blk_io.specs.declared.fault.Fault.TheVariants as fault
+use Rattle.blk_io.specs.Faults.{IfDamaged, damage_of}
+use Rattle.blk_index.specs.declared.start.Start.{Start}
+use Rattle.blk_index.specs.Start.{IsFinished, LooksAs}
 
 -- where no check of the index fails, it is that of the block files
 pub first-behind : (image : Image) → first_index_damage image ≡ None → first_damage image ≡ first_block_damage image
@@ -37,3 +45,17 @@ length-checked image none =
     let f = byte image Index in
     let size = length_of image Index in
     eqb-true size 262512 (passed Index 262512 (size % 2 ^ 32) (size == 262512) (all_none (head_checks f size ++ list_checks f) none 1))
+
+-- an answer of a look, known
+pub looked-as : (x y : Start) (image : Image) → x ≡ y → LooksAs (Ok x) image → LooksAs (Ok y) image
+looked-as x y image same = subst (λ (s : Start). LooksAs (Ok s) image) same
+
+-- the folder is finished, and this is its first damage
+abbrev pub IsFirst : Told → Met → Type 0
+IsFirst told damage = ForSome told.files (λ image. (IsUnfinished image → ⊥) × (first_damage image ≡ Some (damage_of damage)))
+
+-- so it is where a look finds it
+pub looked-first : (r : Result Start Fault) (told : Told) → ForSome told.files (LooksAs r) → IfDamaged r (IsFirst told)
+looked-first (Ok start) told looks = tt
+looked-first (Err fault.Device) told looks = tt
+looked-first (Err (fault.Damaged damage)) told looks = λ image there. ((looks image there).0, first-before image (damage_of damage) (looks image there).1)
