@@ -92,7 +92,7 @@ abbrev pub AreChainsExact : Image → Option KeptChains → Type 0
 AreChainsExact image None = AreChainsWhole image
 AreChainsExact image (Some chains) = AreChainsToMend image chains.whole.items
 
--- a scan tells whole each bucket that is, and bare the nodes and the records of what is kept that are, each once
+-- a scan tells whole each bucket that is, and bare exactly the nodes and the records of what is kept whose seal is 0
 pub record IsExactScan (image : Image) (scan : Scan) : Type 0 where
   pub chains : AreChainsExact image scan.chains
   pub bare : scan.bare.items ≡ bare_of_kept image
