@@ -1,9 +1,10 @@
 -- What has no seal of what is kept.
 use Rattle.std.proofs.Common.{◌≡◌, ◌≢◌, ◌<◌, ◌⊎◌, inl, inr, ℕ, zero, suc, Bool, true, false, List, [], ◌∷◌, ◌++◌, map, length, None, Some, if◌then◌else◌, refl, sym, ap, ap₂, subst, ◌∙◌, ⊎_elim, arith}
-use Rattle.std.specs.Prelude.{All, Contains, slice_index_or, ◌==◌}
+use Rattle.std.specs.Prelude.{All, Contains, slice_index_or, ◌==◌, ◌&&◌}
 use Rattle.std.specs.List.{filter}
 use Rattle.std.proofs.lemmas.Bool.{and_parts, cases_Bool, eq-eqb, eqb-true, or_left, or_right}
 use Rattle.std.proofs.lemmas.Bool.Decides.{eqb_tells}
+use Rattle.std.proofs.Math.Bool.{and-true}
 use Rattle.std.proofs.Math.Dec.{eqb}
 use Rattle.std.proofs.lemmas.List.Elements.{All-append, All-filter, All-weaker, Contains-append_left, Contains-append_right, filter_passes}
 use Rattle.blk_image.specs.Image.{AreBytes, Image}
@@ -31,9 +32,9 @@ use Rattle.blk_audit.proofs.Shown.{names_stand}
 use Rattle.blk_audit.proofs.CheckedSeals.{nodes-sealed, records-sealed}
 use Rattle.blk_verdict.specs.Kept.{AreShown}
 use Rattle.blk_verdict.specs.declared.loading.Loaded.{Loaded}
-use Rattle.blk_scan.specs.Bare.{is_bare_node, is_bare_record}
+use Rattle.blk_scan.specs.Bare.{bare_of_kept, is_bare_node, is_bare_record, is_kept_bare_node}
 use Rattle.blk_scan.specs.Scans.{AreBare}
-use Rattle.blk_scan.proofs.Ordered.{all_nodes_told}
+use Rattle.blk_scan.proofs.Ordered.{all_entries_told, all_nodes_told}
 use Rattle.blk_scan.proofs.Packed.{same_entries}
 
 -- Lists.
@@ -52,6 +53,17 @@ among_at (x ∷ xs) (suc k) d inside = or_right (x == slice_index_or xs k d) (is
 
 filtered : (p : ℕ → Bool) (xs : List ℕ) (w : ℕ) → p w ≡ true → is_among xs w ≡ true → Contains (filter p xs) w
 filtered p xs w passes among = contained (filter p xs) w (is_among-filter p xs w ∙ rw (passes, among) refl)
+
+-- of some of a list those that pass, by a test that agrees on its members
+filter_both : (p q k : ℕ → Bool) (xs : List ℕ) → ((w : ℕ) → is_among xs w ≡ true → p w ≡ k w) → filter (λ w. p w && q w) xs ≡ filter q (filter k xs)
+filter_both p q k [] same = refl
+filter_both p q k (x ∷ xs) same =
+    let here : p x ≡ k x = same x (or_left (x == x) (is_among xs x) (eq-eqb x x refl)) in
+    let more : filter (λ w. p w && q w) xs ≡ filter q (filter k xs) = filter_both p q k xs (λ w among. same w (or_right (x == w) (is_among xs w) among)) in
+    ⊎_elim
+    (λ (kx : k x ≡ true). rw (here ∙ kx, kx) (ap (λ (ys : List ℕ). if q x then x ∷ ys else ys) more))
+    (λ (kx : k x ≡ false). rw (here ∙ kx, kx) more)
+    (cases_Bool (k x))
 
 not_zero : (n : ℕ) → (n == 0) ≡ false → n ≢ 0
 not_zero n e z = let c : true ≡ false = sym (eq-eqb n 0 z) ∙ e in absurd cc
@@ -104,7 +116,7 @@ module _ (image : Image) (small : AreBytes image) (said : List Loaded) (are : Ar
   entries = map (λ (s : Loaded). s.entry) said
 
   abbrev bare_words : List ℕ
-  bare_words = filter (is_bare_node keep image) (completed_walk image) ++ filter (is_bare_record image) entries
+  bare_words = filter (is_kept_bare_node keep image) (completed_walk image) ++ filter (is_bare_record image) entries
 
   keeps_nodes : (w : ℕ) → keep w ≡ is_among (map (λ (k : shown.Loaded). k.node) (kept image)) w
   keeps_nodes w = keeps w ∙ ap (λ (ns : List ℕ). is_among ns w) (all_nodes_told image (kept image) said are)
@@ -129,7 +141,7 @@ module _ (image : Image) (small : AreBytes image) (said : List Loaded) (are : Ar
       let good = node_checked w walked in
       ⊎_elim
       (λ (z : ((node_at image w).self_hash == 0) ≡ true).
-      inr (Contains-append_left (filter (is_bare_node keep image) (completed_walk image)) (filter (is_bare_record image) entries) w (filtered (is_bare_node keep image) (completed_walk image) w (rw (keeps_nodes w ∙ among, z) refl) walked)))
+      inr (Contains-append_left (filter (is_kept_bare_node keep image) (completed_walk image)) (filter (is_bare_record image) entries) w (filtered (is_kept_bare_node keep image) (completed_walk image) w (rw (keeps_nodes w ∙ among, z) refl) walked)))
       (λ (z : ((node_at image w).self_hash == 0) ≡ false). inl (nodes-sealed image w small good.0 good.1 (not_zero (node_at image w).self_hash z)))
       (cases_Bool ((node_at image w).self_hash == 0))
 
@@ -138,20 +150,37 @@ module _ (image : Image) (small : AreBytes image) (said : List Loaded) (are : Ar
       let good = kept_good image (kept image) said w are is in
       ⊎_elim
       (λ (z : ((entry_at image w).self_hash == 0) ≡ true).
-      inr (Contains-append_right (filter (is_bare_node keep image) (completed_walk image)) (filter (is_bare_record image) entries) w (filtered (is_bare_record image) entries w z (same_entries image (kept image) said w are ∙ is))))
+      inr (Contains-append_right (filter (is_kept_bare_node keep image) (completed_walk image)) (filter (is_bare_record image) entries) w (filtered (is_bare_record image) entries w z (same_entries image (kept image) said w are ∙ is))))
       (λ (z : ((entry_at image w).self_hash == 0) ≡ false). inl (records-sealed image w small good.kind good.checks (not_zero (entry_at image w).self_hash z)))
       (cases_Bool ((entry_at image w).self_hash == 0))
 
   pub bare_told : AreBare image bare_words
   bare_told = record {
-    are_kept = All-append (IsOfKept image) (filter (is_bare_node keep image) (completed_walk image)) (filter (is_bare_record image) entries)
-        (All-weaker (λ w. is_bare_node keep image w ≡ true) (IsOfKept image) (λ w e. inl (sym (keeps_nodes w) ∙ (and_parts (keep w) ((node_at image w).self_hash == 0) e).0)) (filter (is_bare_node keep image) (completed_walk image)) (filter_passes (is_bare_node keep image) (completed_walk image)))
+    are_kept = All-append (IsOfKept image) (filter (is_kept_bare_node keep image) (completed_walk image)) (filter (is_bare_record image) entries)
+        (All-weaker (λ w. is_kept_bare_node keep image w ≡ true) (IsOfKept image) (λ w e. inl (sym (keeps_nodes w) ∙ (and_parts (keep w) ((node_at image w).self_hash == 0) e).0)) (filter (is_kept_bare_node keep image) (completed_walk image)) (filter_passes (is_kept_bare_node keep image) (completed_walk image)))
         (All-filter (is_bare_record image) (IsOfKept image) entries (λ k d inside. inr (sym (same_entries image (kept image) said (slice_index_or entries k d) are) ∙ among_at entries k d inside)));
     others = λ w of. ⊎_elim (λ (among : is_among (map (λ (k : shown.Loaded). k.node) (kept image)) w ≡ true). node_covered w among) (λ (is : is_kept_record (kept image) w ≡ true). record_covered w is) of;
   }
 
-  pub bare_are : (before after nodes words : List ℕ) → nodes ≡ completed_walk image → words ≡ entries → before ≡ filter (is_bare_node keep image) nodes → after ≡ before ++ filter (is_bare_record image) words → AreBare image after
+  -- the walked nodes that are kept and bare are those of what is kept that are
+  bare_nodes_are : filter (is_kept_bare_node keep image) (completed_walk image) ≡ filter (is_bare_node image) (map (λ (k : shown.Loaded). k.node) (kept image))
+  unfolding kept
+  bare_nodes_are =
+      let nodes : List ℕ = completed_walk image in
+      let kept_are : map (λ (k : shown.Loaded). k.node) (kept image) ≡ kept_nodes (store_of image) held_rule nodes = kept-nodes (store_of image) held_rule nodes (walk-once (completed_list (list_of image))) in
+      filter_both keep (is_bare_node image) (is_kept (store_of image) held_rule nodes) nodes
+      (λ w among. keeps_nodes w ∙ ap (λ (ns : List ℕ). is_among ns w) kept_are ∙ is_among-filter (is_kept (store_of image) held_rule nodes) nodes w
+      ∙ ap (λ (b : Bool). is_kept (store_of image) held_rule nodes w && b) among ∙ and-true (is_kept (store_of image) held_rule nodes w))
+      ∙ ap (filter (is_bare_node image)) (sym kept_are)
+
+  pub bare_exact : (before after nodes words : List ℕ) → nodes ≡ completed_walk image → words ≡ entries → before ≡ filter (is_kept_bare_node keep image) nodes → after ≡ before ++ filter (is_bare_record image) words → after ≡ bare_of_kept image
+  bare_exact before after nodes words nodes_are words_are before_is after_is =
+      after_is
+      ∙ ap₂ (λ (xs ys : List ℕ). xs ++ ys) (before_is ∙ ap (filter (is_kept_bare_node keep image)) nodes_are ∙ bare_nodes_are)
+      (ap (filter (is_bare_record image)) (words_are ∙ all_entries_told image (kept image) said are))
+
+  pub bare_are : (before after nodes words : List ℕ) → nodes ≡ completed_walk image → words ≡ entries → before ≡ filter (is_kept_bare_node keep image) nodes → after ≡ before ++ filter (is_bare_record image) words → AreBare image after
   bare_are before after nodes words nodes_are words_are before_is after_is =
       subst (AreBare image)
-      (sym (after_is ∙ ap₂ (λ (xs ys : List ℕ). xs ++ ys) (before_is ∙ ap (filter (is_bare_node keep image)) nodes_are) (ap (filter (is_bare_record image)) words_are)))
+      (sym (after_is ∙ ap₂ (λ (xs ys : List ℕ). xs ++ ys) (before_is ∙ ap (filter (is_kept_bare_node keep image)) nodes_are) (ap (filter (is_bare_record image)) words_are)))
       bare_told

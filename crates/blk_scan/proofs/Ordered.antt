@@ -78,6 +78,9 @@ module _ (image : Image) where
   pub all_nodes_told : (kept : List shown.Loaded) (said : List Loaded) → AreShown image kept said → map (λ (s : Loaded). s.node) said ≡ map (λ (k : shown.Loaded). k.node) kept
   all_nodes_told kept said are = maps_same (IsLoadedFrom image) (λ (k : shown.Loaded). k.node) (λ (s : Loaded). s.node) (λ k s is. is.is.node) kept said are
 
+  pub all_entries_told : (kept : List shown.Loaded) (said : List Loaded) → AreShown image kept said → map (λ (s : Loaded). s.entry) said ≡ map (λ (k : shown.Loaded). k.contents) kept
+  all_entries_told kept said are = maps_same (IsLoadedFrom image) (λ (k : shown.Loaded). k.contents) (λ (s : Loaded). s.entry) (λ k s is. is.is.entry) kept said are
+
   pub all_charged : (kept : List shown.Loaded) (said : List Loaded) → AreShown image kept said → sum_by charge_said said ≡ sum_by charge_of kept
   all_charged [] [] are = refl
   all_charged [] (s ∷ said) are = absurd are

@@ -2,7 +2,7 @@
 use Rattle.std.proofs.Common.{◌≡◌, ◌≢◌, ◌<◌, ◌≤◌, ◌+◌, ◌-◌, ℕ, zero, suc, Bool, true, false, ◌&&◌, List, [], ◌∷◌, ◌++◌, map, take, drop, length, min, refl, sym, ap, ap₂, subst, ◌∙◌, ⊎_elim, arith}
 use Rattle.std.specs.Prelude.{All, slice_index, slice_index_or, ◌==◌, ◌||◌}
 use Rattle.std.specs.List.{filter, list_all}
-use Rattle.std.proofs.lemmas.Bool.{and_parts, cases_Bool, eqb-true}
+use Rattle.std.proofs.lemmas.Bool.{and_parts, cases_Bool, eq-eqb, eqb-true}
 use Rattle.std.proofs.lemmas.Bool.Decides.{eqb_tells}
 use Rattle.std.proofs.Math.Dec.{eqb}
 use Rattle.std.proofs.lemmas.List.{drop-append-le, drop-take, drop_at, get_or_append_left, get_or_push, length-append, length-drop, length-take, length_push, take-append-drop, take-append-le, take-take, take_all}
@@ -14,6 +14,8 @@ use Rattle.blk_volume.specs.Found.{kept}
 use Rattle.blk_volume.specs.Loads as shown
 use Rattle.blk_volume.specs.View.{store_of}
 use Rattle.blk_laws.proofs.chains.ChainEnds.{chain-back}
+use Rattle.blk_laws.proofs.chains.Chains.{chain-is}
+use Rattle.blk_laws.proofs.states.Bare.{no-record}
 use Rattle.blk_audit.specs.BucketEnds.{AreEnds, begin_of, records_of}
 use Rattle.blk_audit.specs.Chaining.{AreBucketsOf}
 use Rattle.blk_audit.specs.declared.reaching.Reached.{Reached}
@@ -21,7 +23,7 @@ use Rattle.blk_repair_laws.specs.ChainRepair.{is_kept_record, kept_records}
 use Rattle.blk_verdict.specs.Kept.{AreShown}
 use Rattle.blk_verdict.specs.declared.loading.Loaded.{Loaded}
 use Rattle.blk_scan.specs.Packing.{ArePacked}
-use Rattle.blk_scan.specs.Scans.{AreChainsWhole, AreKeptChains}
+use Rattle.blk_scan.specs.Scans.{AreChainsWhole, AreKeptChains, AreChainsToMend}
 use Rattle.blk_scan.specs.declared.chains.KeptChains.{KeptChains}
 
 -- Lists.
@@ -106,6 +108,7 @@ module _ (keep : ℕ → Bool) (records ends : List ℕ) (closed : List Bool) wh
     are = λ b below. absurd (omega (arith, below));
     were_closed = λ b below. absurd (omega (arith, below));
     all_kept = λ b below. absurd (omega (arith, below));
+    were_whole = λ b below. absurd (omega (arith, below));
   }
 
   -- the chains with one bucket more
@@ -189,6 +192,9 @@ module _ (keep : ℕ → Bool) (records ends : List ℕ) (closed : List Bool) wh
           (λ is.
           let same : length new.records.items ≡ length old.records.items + length chunk = eqb-true (length new.records.items) (length old.records.items + length chunk) (and_parts next.is_closed (length new.records.items == length old.records.items + length chunk) (sym last_whole ∙ is)).1 in
           let l = longer in full keep chunk (omega (arith, same, l)));
+      were_whole = by_bucket (λ b. slice_index_or closed b false ≡ true → filter keep (records_of records ends b) ≡ records_of records ends b → slice_index_or new.whole.items b false ≡ true)
+          (λ b below was all. stay_whole b below ∙ packed.were_whole b below was all)
+          (λ was all. last_whole ∙ ap₂ (λ (a b : Bool). a && b) (next.was_closed ∙ was) (eq-eqb (length new.records.items) (length old.records.items + length chunk) (longer ∙ ap (λ (xs : List ℕ). length old.records.items + length xs) all)));
     }
 
     pub packed_next : ArePacked keep records ends closed (n + 1) new
@@ -202,6 +208,18 @@ same_entries image [] [] w are = refl
 same_entries image [] (s ∷ said) w are = absurd are
 same_entries image (k ∷ ks) [] w are = absurd are
 same_entries image (k ∷ ks) (s ∷ said) w are = ap₂ (λ (a b : Bool). a || b) (ap (λ (e : ℕ). e == w) are.0.is.entry) (same_entries image ks said w are.1)
+
+-- a place that tells false
+record IsOpenAt (ws : List Bool) : Type 0 where
+  place : ℕ
+  inside : place < length ws
+  is : slice_index_or ws place false ≡ false
+
+-- there is one where not all are true
+open_at : (ws : List Bool) → list_all (λ whole. whole) ws ≡ false → IsOpenAt ws
+open_at [] all = absurd (let c : true ≡ false = all in cc)
+open_at (true ∷ ws) all = let more = open_at ws all in record { place = suc more.place; inside = (let i = more.inside in omega (arith, i)); is = more.is }
+open_at (false ∷ ws) all = record { place = 0; inside = omega arith; is = refl }
 
 module _ (image : Image) (reached : Reached) (chains : KeptChains) (keep : ℕ → Bool) (are_ends : AreEnds reached.words.items reached.ends.items)
     (of : AreBucketsOf (store_of image) reached) (same : (w : ℕ) → keep w ≡ is_kept_record (kept image) w)
@@ -232,6 +250,23 @@ module _ (image : Image) (reached : Reached) (chains : KeptChains) (keep : ℕ �
       each [] i inside all = absurd (omega (arith, inside))
       each (w ∷ ws) zero inside all = (and_parts w (list_all (λ whole. whole) ws) all).0
       each (w ∷ ws) (suc i) inside all = each ws i (omega (arith, inside)) (and_parts w (list_all (λ whole. whole) ws) all).1
+
+  -- a bucket that is the chain of its kept records is told whole
+  told_whole : (b : ℕ) → b < 65536 → IsChain (store_of image) b (kept_records image b) → slice_index_or chains.whole.items b false ≡ true
+  told_whole b below is =
+      let e : chain (store_of image) b ≡ record { reached = kept_records image b; end = 0 } = chain-is (store_of image) b (kept_records image b) (no-record image) is in
+      packed.were_whole b below (of.closed b below ∙ eq-eqb (chain (store_of image) b).end 0 (ap (λ (c : Chain). c.end) e))
+      (kept_of_bucket b below ∙ sym (ap (λ (c : Chain). c.reached) e) ∙ sym (of.chains b below))
+
+  pub chains_exact : list_all (λ whole. whole) chains.whole.items ≡ false → AreChainsToMend image chains.whole.items
+  chains_exact one =
+      let open_one = open_at chains.whole.items one in
+      let below : open_one.place < 65536 = let t = packed.told in let i = open_one.inside in omega (arith, t, i) in
+      record {
+        one = open_one.place;
+        is_one = record { below = below; isnt = λ is. let c : true ≡ false = sym (told_whole open_one.place below is) ∙ open_one.is in cc };
+        are_whole = told_whole;
+      }
 
 -- packed records are some of the others
 pub packed_among : (P : ℕ → Type 0) (keep : ℕ → Bool) (records ends : List ℕ) (closed : List Bool) (n : ℕ) (chains : KeptChains) → ArePacked keep records ends closed n chains → All P records → All P chains.records.items

@@ -4,7 +4,7 @@ use Rattle.std.specs.List.{filter}
 use Rattle.blk_audit.specs.BucketEnds.{begin_of, records_of}
 use Rattle.blk_scan.specs.declared.chains.KeptChains.{KeptChains}
 
--- of the first n buckets the records that are to be kept are packed behind one another; a bucket that is told whole was closed, and all its records are kept
+-- of the first n buckets the records that are to be kept are packed behind one another; a bucket is told whole exactly where it was closed and all its records are kept
 pub record ArePacked (keep : ℕ → Bool) (records ends : List ℕ) (closed : List Bool) (n : ℕ) (chains : KeptChains) : Type 0 where
   pub many : length chains.ends.items ≡ n
   pub told : length chains.whole.items ≡ n
@@ -15,3 +15,4 @@ pub record ArePacked (keep : ℕ → Bool) (records ends : List ℕ) (closed : L
   pub are : (b : ℕ) → b < n → records_of chains.records.items chains.ends.items b ≡ filter keep (records_of records ends b)
   pub were_closed : (b : ℕ) → b < n → slice_index_or chains.whole.items b false ≡ true → slice_index_or closed b false ≡ true
   pub all_kept : (b : ℕ) → b < n → slice_index_or chains.whole.items b false ≡ true → filter keep (records_of records ends b) ≡ records_of records ends b
+  pub were_whole : (b : ℕ) → b < n → slice_index_or closed b false ≡ true → filter keep (records_of records ends b) ≡ records_of records ends b → slice_index_or chains.whole.items b false ≡ true

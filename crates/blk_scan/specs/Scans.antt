@@ -22,6 +22,7 @@ use Rattle.blk_repair_laws.specs.ChainRepair.{kept_records}
 use Rattle.blk_repair_laws.specs.KeptSeals.{AreOthersSealed, IsOfKept}
 use Rattle.blk_verdict.specs.Reasons.{reason_of}
 use Rattle.blk_verdict.specs.declared.reason.Reason.TheVariants.{Unlisted}
+use Rattle.blk_scan.specs.Bare.{bare_of_kept}
 use Rattle.blk_scan.specs.declared.chains.KeptChains.{KeptChains}
 use Rattle.blk_scan.specs.declared.scan.Dropped.{Dropped}
 use Rattle.blk_scan.specs.declared.scan.Kept.{Kept}
@@ -72,6 +73,29 @@ pub record IsScanOf (image : Image) (scan : Scan) : Type 0 where
   pub bytes : scan.bytes ≡ sum_by charge_of (kept image)
   pub chains : AreChainsTold image scan.chains
   pub bare : AreBare image scan.bare.items
+
+-- What is told to be mended is all that is to be, and no more.
+
+-- a chain is to be mended: that of a bucket isn't the chain of its kept records
+pub record IsChainToMend (image : Image) (bucket : ℕ) : Type 0 where
+  pub below : bucket < table_length
+  pub isnt : IsChain (store_of image) bucket (kept_records image bucket) → ⊥
+
+-- some chain is to be mended, and each bucket that is the chain of its kept records is told whole
+pub record AreChainsToMend (image : Image) (whole : List Bool) : Type 0 where
+  pub one : ℕ
+  pub is_one : IsChainToMend image one
+  pub are_whole : (bucket : ℕ) → bucket < table_length → IsChain (store_of image) bucket (kept_records image bucket) → slice_index_or whole bucket false ≡ true
+
+-- no chains are told exactly where each bucket is the chain of its kept records
+abbrev pub AreChainsExact : Image → Option KeptChains → Type 0
+AreChainsExact image None = AreChainsWhole image
+AreChainsExact image (Some chains) = AreChainsToMend image chains.whole.items
+
+-- a scan tells whole each bucket that is, and bare exactly the nodes and the records of what is kept whose seal is 0
+pub record IsExactScan (image : Image) (scan : Scan) : Type 0 where
+  pub chains : AreChainsExact image scan.chains
+  pub bare : scan.bare.items ≡ bare_of_kept image
 
 -- What is told of any folder.
 

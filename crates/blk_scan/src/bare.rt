@@ -14,7 +14,7 @@ ghost use Rattle.blk_audit.specs.ReadLists.{AreListsOf};
 ghost use Rattle.blk_audit.specs.Sealable.{CanBeSealed};
 ghost use Rattle.blk_audit.specs.Walking.{NodesStand, nodes_walked};
 ghost use Rattle.blk_verdict.specs.Kept.{AreShown};
-ghost use Rattle.blk_scan.specs.Bare.{is_bare_node, is_bare_record};
+ghost use Rattle.blk_scan.specs.Bare.{bare_of_kept, is_bare_record, is_kept_bare_node};
 ghost use Rattle.blk_scan.specs.Scans.{AreBare};
 
 use crate::sets::{entries_of, set_of};
@@ -39,6 +39,7 @@ pub(crate) fn bare_of<F: Folder>(
 ) -> Result<Vec<Addr>, ScanFault>
     requires nodes { NodesStand files.now (nodes_walked lists.now.walked) }
     ensures bare { IfOk result (λ bare. ForSome (F.told f.old).files (λ image. Agrees files.now image → AreListsOf image lists.now → AreShown image (kept image) records.now → AreBare image bare.items)) }
+    ensures exact { IfOk result (λ bare. ForSome (F.told f.old).files (λ image. Agrees files.now image → AreListsOf image lists.now → AreShown image (kept image) records.now → bare.items ≡ bare_of_kept image)) }
     ensures stand { IfOk result (λ bare. All (CanBeSealed files.now) bare.items) }
     ensures stays { Stays (F.told f.old) (F.told f.new) }
     ensures damaged { IfScanDamaged result (IsRecordDamage files.now (F.told f.new)) }
@@ -56,7 +57,7 @@ pub(crate) fn bare_of<F: Folder>(
 
 // Those of the walked nodes that are kept and have 0 as their seal.
 fn bare_nodes(alloc: Global, lists: &Lists, kept: &BTreeSet<u32>) -> Result<Vec<Addr>, NoMemory>
-    ensures bare { IfOk result (λ bare. (image : Image) → AreListsOf image lists.now → bare.items ≡ filter (is_bare_node (contains nat_cmp kept.now) image) (nodes_walked lists.now.walked)) }
+    ensures bare { IfOk result (λ bare. (image : Image) → AreListsOf image lists.now → bare.items ≡ filter (is_kept_bare_node (contains nat_cmp kept.now) image) (nodes_walked lists.now.walked)) }
     ensures stand { IfOk result (λ bare. (files : Files) → NodesStand files (nodes_walked lists.now.walked) → All (CanBeSealed files) bare.items) }
 {
     let mut bare = Vec::new(alloc);
@@ -73,7 +74,7 @@ fn add_node(
     i: usize,
     bare: &mut Vec<Addr>,
 ) -> Result<(), NoMemory>
-    ensures added { OnOk result ((image : Image) (w : ℕ) → AreListsOf image lists.now → slice_get (nodes_walked lists.now.walked) i ≡ Some w → bare.new.items ≡ bare.old.items ++ filter (is_bare_node (contains nat_cmp kept.now) image) (w ∷ [])) }
+    ensures added { OnOk result ((image : Image) (w : ℕ) → AreListsOf image lists.now → slice_get (nodes_walked lists.now.walked) i ≡ Some w → bare.new.items ≡ bare.old.items ++ filter (is_kept_bare_node (contains nat_cmp kept.now) image) (w ∷ [])) }
     ensures stand { OnOk result ((files : Files) → NodesStand files (nodes_walked lists.now.walked) → All (CanBeSealed files) bare.old.items → All (CanBeSealed files) bare.new.items) }
 {
     let Some(node) = lists.walked.at(i) else {

@@ -12,7 +12,7 @@ ghost use Rattle.blk_audit.specs.BucketEnds.{AreEnds};
 ghost use Rattle.blk_audit.specs.Chaining.{AreBucketsOf, HasBuckets, RecordsStand, words_reached};
 ghost use Rattle.blk_verdict.specs.Kept.{AreShown};
 ghost use Rattle.blk_scan.specs.Packing.{ArePacked};
-ghost use Rattle.blk_scan.specs.Scans.{AreChainsTold, ChainsStandIf};
+ghost use Rattle.blk_scan.specs.Scans.{AreChainsExact, AreChainsTold, ChainsStandIf};
 
 use crate::sets::{entries_of, set_of};
 use blk_addr::{Addr, NoMemory};
@@ -133,6 +133,7 @@ pub(crate) fn kept_chains(
 ) -> Result<Option<KeptChains>, NoMemory>
     requires buckets { HasBuckets reached.now }
     ensures told { IfOk result (λ chains. (image : Image) → AreBucketsOf (store_of image) reached.now → AreShown image (found.kept image) records.now → AreChainsTold image chains) }
+    ensures exact { IfOk result (λ chains. (image : Image) → AreBucketsOf (store_of image) reached.now → AreShown image (found.kept image) records.now → AreChainsExact image chains) }
     ensures stand { IfOk result (λ chains. (files : BlockFiles) → RecordsStand files (words_reached reached.now) → ChainsStandIf files chains) }
 {
     let entries = entries_of(alloc, records)?;

@@ -124,7 +124,8 @@ impl Scan {
         &self.kept_nodes
     }
 
-    /// The nodes and the records of what is kept that have 0 as their seal.
+    /// The nodes of what is kept that have 0 as their seal, and then the records that have, both in the order of the use
+    /// list.
     pub fn bare(&self) -> &[Addr]
         ensures { result.now ≡ self.now.bare.items }
     {

@@ -13,9 +13,10 @@ ghost use Rattle.blk_disk.specs.Tables.{Agrees};
 ghost use Rattle.blk_audit.specs.Chaining.{HasBuckets};
 ghost use Rattle.blk_audit.specs.Faults.{IfScanDamaged, IfScanDevice};
 ghost use Rattle.blk_audit.specs.ReadLists.{AreListsAmong};
+ghost use Rattle.blk_scan.specs.Bare.{bare_of_kept};
 ghost use Rattle.blk_scan.specs.Faults.{IsBlocksDamage, IsFolderDamage, IsScanDamage};
 ghost use Rattle.blk_scan.specs.Ordering.{IsToldBy};
-ghost use Rattle.blk_scan.specs.Scans.{AreBare, ChainsStandIf, IsEmptyScan, IsScanOf, StandAmong};
+ghost use Rattle.blk_scan.specs.Scans.{AreBare, ChainsStandIf, IsEmptyScan, IsExactScan, IsScanOf, StandAmong};
 
 use crate::bare::bare_of;
 use crate::chains::kept_chains;
@@ -42,6 +43,7 @@ use std::alloc::Global;
 /// gives no other damage. `Device` where the folder failed in this call, and `Memory` where there was too little of it.
 pub fn scan_folder<F: Folder>(alloc: Global, f: &mut F) -> Result<Scan, ScanFault>
     ensures scanned { IfOk result (λ scan. ForSome (F.told f.old).files (λ image. IsWellFormed image → IsScanOf image scan)) }
+    ensures exact { IfOk result (λ scan. ForSome (F.told f.old).files (λ image. IsWellFormed image → IsExactScan image scan)) }
     ensures empty { IfOk result (λ scan. ForSome (F.told f.old).files (λ image. IsUnfinished image → IsEmptyScan scan)) }
     ensures few { IfOk result (λ scan. length scan.walked.items ≤ most_nodes) }
     ensures checked { IfOk result (λ _. ForSome (F.told f.old).files (λ image. IsUnfinished image ⊎ IsWellFormed image)) }
@@ -65,6 +67,7 @@ pub fn scan_folder<F: Folder>(alloc: Global, f: &mut F) -> Result<Scan, ScanFaul
 // Tells what a folder holds whose index is finished.
 fn scan_finished<F: Folder>(alloc: Global, f: &mut F) -> Result<Scan, ScanFault>
     ensures scanned { IfOk result (λ scan. ForSome (F.told f.old).files (λ image. IsScanOf image scan)) }
+    ensures exact { IfOk result (λ scan. ForSome (F.told f.old).files (λ image. IsExactScan image scan)) }
     ensures few { IfOk result (λ scan. length scan.walked.items ≤ most_nodes) }
     ensures checked { IfOk result (λ _. ForSome (F.told f.old).files (λ image. first_block_damage image ≡ None)) }
     ensures stays { Stays (F.told f.old) (F.told f.new) }
@@ -89,6 +92,7 @@ pub fn scan_files<F: Folder>(
     files: &BlockFiles,
 ) -> Result<Scan, ScanFault>
     ensures scanned { IfOk result (λ scan. ForSome (F.told f.old).files (λ image. Agrees files.now image → IsScanOf image scan)) }
+    ensures exact { IfOk result (λ scan. ForSome (F.told f.old).files (λ image. Agrees files.now image → IsExactScan image scan)) }
     ensures stand { IfOk result (StandAmong files.now) }
     ensures few { IfOk result (λ scan. length scan.walked.items ≤ most_nodes) }
     ensures stays { Stays (F.told f.old) (F.told f.new) }
@@ -121,6 +125,7 @@ fn tell(
     requires buckets { HasBuckets lists.now.reached }
     requires few { length ordered.records.items ≤ most_nodes }
     ensures told { IfOk result (λ scan. (image : Image) → IsToldBy image lists.now judged ordered unlisted.now → AreBare image bare.items → IsScanOf image scan) }
+    ensures exact { IfOk result (λ scan. (image : Image) → IsToldBy image lists.now judged ordered unlisted.now → bare.items ≡ bare_of_kept image → IsExactScan image scan) }
     ensures walked { IfOk result (λ scan. scan.walked.items ≡ ordered.walked.items) }
     ensures bare { IfOk result (λ scan. scan.bare.items ≡ bare.items) }
     ensures chains { IfOk result (λ scan. (files : Files) → AreListsAmong files lists.now → ChainsStandIf files scan.chains) }

@@ -7,7 +7,7 @@ use Rattle.blk_disk.specs.Tables.{is_record_among}
 use Rattle.blk_audit.specs.BucketEnds.{AreEnds}
 use Rattle.blk_repair_laws.specs.ChainRepair.{is_kept_record}
 use Rattle.blk_scan.specs.Packing.{ArePacked}
-use Rattle.blk_scan.proofs.Packed.{chains_kept, chains_whole, kept_by_set, packed_among, packed_of}
+use Rattle.blk_scan.proofs.Packed.{chains_exact, chains_kept, chains_whole, kept_by_set, packed_among, packed_of}
 use Rattle.blk_scan.proofs.chains.kept_chains.Goals as goal
 
 pub pack-requires : goal.pack-requires
@@ -31,6 +31,22 @@ returns-clause-told c image of are =
     let same : (w : ℕ) → contains nat_cmp c.in_ok-kept.kept w ≡ is_kept_record (kept image) w =
     kept_by_set image c.args.records.now c.deref.result.now (contains nat_cmp c.in_ok-kept.kept) are (c.deref.ensures.value ∙ c.in_ok-entries.ensures) (λ w. c.in_ok-kept.ensures w) in
     chains_kept image c.args.reached.now c.in_ok-chains.chains (contains nat_cmp c.in_ok-kept.kept) c.requires.buckets.ends of same packed
+
+pub returns-then-are_whole-clause-exact : goal.returns-then-are_whole-clause-exact
+returns-then-are_whole-clause-exact c image of are =
+    let packed : ArePacked (contains nat_cmp c.in_ok-kept.kept) c.args.reached.now.words.items c.args.reached.now.ends.items c.args.reached.now.closed.items 65536 c.in_ok-chains.chains =
+    packed_of (contains nat_cmp c.in_ok-kept.kept) c.args.reached.now c.as_slice.result.now c.bucket_ends.result.now c.closed_buckets.result.now c.in_ok-chains.chains c.as_slice.ensures c.bucket_ends.ensures c.closed_buckets.ensures c.in_ok-chains.ensures in
+    let same : (w : ℕ) → contains nat_cmp c.in_ok-kept.kept w ≡ is_kept_record (kept image) w =
+    kept_by_set image c.args.records.now c.deref.result.now (contains nat_cmp c.in_ok-kept.kept) are (c.deref.ensures.value ∙ c.in_ok-entries.ensures) (λ w. c.in_ok-kept.ensures w) in
+    chains_whole image c.args.reached.now c.in_ok-chains.chains (contains nat_cmp c.in_ok-kept.kept) c.requires.buckets.ends of same packed (sym c.are_whole.ensures ∙ c.if-are_whole.true)
+
+pub returns-clause-exact : goal.returns-clause-exact
+returns-clause-exact c image of are =
+    let packed : ArePacked (contains nat_cmp c.in_ok-kept.kept) c.args.reached.now.words.items c.args.reached.now.ends.items c.args.reached.now.closed.items 65536 c.in_ok-chains.chains =
+    packed_of (contains nat_cmp c.in_ok-kept.kept) c.args.reached.now c.as_slice.result.now c.bucket_ends.result.now c.closed_buckets.result.now c.in_ok-chains.chains c.as_slice.ensures c.bucket_ends.ensures c.closed_buckets.ensures c.in_ok-chains.ensures in
+    let same : (w : ℕ) → contains nat_cmp c.in_ok-kept.kept w ≡ is_kept_record (kept image) w =
+    kept_by_set image c.args.records.now c.deref.result.now (contains nat_cmp c.in_ok-kept.kept) are (c.deref.ensures.value ∙ c.in_ok-entries.ensures) (λ w. c.in_ok-kept.ensures w) in
+    chains_exact image c.args.reached.now c.in_ok-chains.chains (contains nat_cmp c.in_ok-kept.kept) c.requires.buckets.ends of same packed (sym c.are_whole.ensures ∙ c.if-are_whole.false)
 
 pub returns-clause-stand : goal.returns-clause-stand
 returns-clause-stand c files stand =

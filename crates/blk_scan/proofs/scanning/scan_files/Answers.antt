@@ -40,6 +40,24 @@ returns-clause-scanned g c image there agrees =
     })
     (c.in_ok-bare.ensures.bare image third agrees lists (subst (λ (ss : List Loaded). AreShown image (kept image) ss) (sym c.deref.ensures.value) order.records))
 
+pub returns-clause-exact : goal.returns-clause-exact
+returns-clause-exact g c image there agrees =
+    let lists = c.in_ok-lists.ensures.lists image there agrees in
+    let first = told_now image c.in_ok-lists.ensures.stays there in
+    let second = told_now image c.in_ok-judged.ensures.stays first in
+    let third = told_now image c.in_ok-unlisted.ensures.stays second in
+    let judged = c.in_ok-judged.ensures.judged image first agrees lists in
+    let order = c.in_ok-ordered.ensures.ordered image lists judged in
+    c.in_ok-scan.ensures.exact image
+    (record {
+      lists_are = lists;
+      judged_are = judged;
+      order_is = order;
+      claims_are = c.in_ok-judged.ensures.order.indexed.claims;
+      unlisted_are = ap (map (λ (contents : ℕ). (contents, reason.Unlisted))) c.deref-2.ensures.value ∙ c.in_ok-unlisted.ensures.unlisted image second agrees lists;
+    })
+    (c.in_ok-bare.ensures.exact image third agrees lists (subst (λ (ss : List Loaded). AreShown image (kept image) ss) (sym c.deref.ensures.value) order.records))
+
 pub returns-clause-stand : goal.returns-clause-stand
 returns-clause-stand g c = record {
   walked = subst (All (λ w. is_node_among c.args.files.now w ≡ true)) (sym (c.in_ok-scan.ensures.walked ∙ c.in_ok-ordered.ensures.walked))

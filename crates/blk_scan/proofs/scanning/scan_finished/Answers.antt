@@ -13,6 +13,11 @@ returns-clause-scanned g c =
     let agrees = loaded_agrees c.in_ok-files.files (g.F.Folder.told c.args.f.now) (g.F.Folder.told c.load.new.f) c.in_ok-files.ensures.stays c.in_ok-files.ensures.loaded in
     IfOk-weaker c.scan_files.result _ _ (λ scan tells image there. let now = told_now image c.in_ok-files.ensures.stays there in tells image now (agrees image now)) c.scan_files.ensures.scanned
 
+pub returns-clause-exact : goal.returns-clause-exact
+returns-clause-exact g c =
+    let agrees = loaded_agrees c.in_ok-files.files (g.F.Folder.told c.args.f.now) (g.F.Folder.told c.load.new.f) c.in_ok-files.ensures.stays c.in_ok-files.ensures.loaded in
+    IfOk-weaker c.scan_files.result _ _ (λ scan tells image there. let now = told_now image c.in_ok-files.ensures.stays there in tells image now (agrees image now)) c.scan_files.ensures.exact
+
 pub returns-clause-cause : goal.returns-clause-cause
 returns-clause-cause g c =
     scanning_cause c.scan_files.result c.in_ok-files.files (g.F.Folder.told c.args.f.now) (g.F.Folder.told c.load.new.f) (g.F.Folder.told c.scan_files.new.f) c.in_ok-files.ensures.stays c.scan_files.ensures.stays

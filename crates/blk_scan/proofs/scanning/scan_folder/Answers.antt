@@ -17,11 +17,17 @@ returns-in_err-look-clause-damaged g c = converted c.look.result c.from_residual
 pub returns-in-Unfinished-clause-scanned : goal.returns-in-Unfinished-clause-scanned
 returns-in-Unfinished-clause-scanned g c image there well = absurd ((finished_whole image well).finished (looked-as _ _ image c.in-Unfinished.is (c.in_ok-look.ensures.looked image there)))
 
+pub returns-in-Unfinished-clause-exact : goal.returns-in-Unfinished-clause-exact
+returns-in-Unfinished-clause-exact g c image there well = absurd ((finished_whole image well).finished (looked-as _ _ image c.in-Unfinished.is (c.in_ok-look.ensures.looked image there)))
+
 pub returns-in-Unfinished-clause-checked : goal.returns-in-Unfinished-clause-checked
 returns-in-Unfinished-clause-checked g c image there = inl (looked-as _ _ image c.in-Unfinished.is (c.in_ok-look.ensures.looked image there))
 
 pub returns-in-Finished-clause-scanned : goal.returns-in-Finished-clause-scanned
 returns-in-Finished-clause-scanned g c = IfOk-weaker c.scan_finished.result _ _ (λ scan tells image there well. tells image (told_now image c.in_ok-look.ensures.stays there)) c.scan_finished.ensures.scanned
+
+pub returns-in-Finished-clause-exact : goal.returns-in-Finished-clause-exact
+returns-in-Finished-clause-exact g c = IfOk-weaker c.scan_finished.result _ _ (λ scan tells image there well. tells image (told_now image c.in_ok-look.ensures.stays there)) c.scan_finished.ensures.exact
 
 pub returns-in-Finished-clause-empty : goal.returns-in-Finished-clause-empty
 returns-in-Finished-clause-empty g c =

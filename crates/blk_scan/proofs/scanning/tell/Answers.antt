@@ -26,3 +26,9 @@ returns-clause-told c image told bare =
     (c.in_ok-kept_nodes.ensures ∙ ap (map (λ (s : Loaded). s.node)) c.deref-2.ensures.value)
     c.in_ok-add_unlisted.ensures c.into_claims.ensures (c.charge_of_all-bytes.ensures ∙ ap (sum_by charge_said) c.deref-4.ensures.value)
     (c.in_ok-chains.ensures.told image told.lists_are.buckets (subst (λ (ss : List Loaded). AreShown image (kept image) ss) (sym c.deref-3.ensures.value) told.order_is.records)) bare
+
+pub returns-clause-exact : goal.returns-clause-exact
+returns-clause-exact c image told bare = record {
+  chains = c.in_ok-chains.ensures.exact image told.lists_are.buckets (subst (λ (ss : List Loaded). AreShown image (kept image) ss) (sym c.deref-3.ensures.value) told.order_is.records);
+  bare = bare;
+}
