@@ -28,10 +28,10 @@ fn said(window: &[u8]) -> Node
     };
     Node {
         checks: view.checks(),
-        next: view.word(16),
-        prev: view.word(20),
-        contents: view.word(24),
-        dirty: view.word(28),
+        next: view.word(NodeView::NEXT as usize),
+        prev: view.word(NodeView::PREV as usize),
+        contents: view.word(NodeView::CONTENTS as usize),
+        dirty: view.word(NodeView::DIRTY as usize),
         seal: view.word(NodeView::SEAL),
     }
 }

@@ -9,6 +9,7 @@ ghost use Rattle.blk_audit.specs.Nodes.{AreNodesOf, HasNodes};
 
 use crate::fault::ScanFault;
 use crate::nodes::Nodes;
+use blk_addr::BLOCK_FILES;
 use blk_disk::BlockFiles;
 use blk_io::Folder;
 use std::alloc::Global;
@@ -29,7 +30,7 @@ pub(crate) fn read_nodes<F: Folder>(
     ensures device { IfScanDevice result (Rises (F.faults f.old) (F.faults f.new)) }
 {
     let mut nodes = Nodes::none(alloc);
-    for n in 0..256u32 {
+    for n in 0..BLOCK_FILES as u32 {
         nodes.add_file(f, files, n as u8)?;
     }
     Ok(nodes)

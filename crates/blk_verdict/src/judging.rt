@@ -1,11 +1,12 @@
 // The verdict on a node, against the records that are kept so far.
-ghost use Rattle.std.specs.Prelude.{◌≡◌, ◌≤◌, ◌<◌, List, IfOk, None, OnOk};
+ghost use Rattle.std.specs.Prelude.{◌≡◌, ◌≤◌, ◌<◌, List, IfOk, None, OnOk, length};
 ghost use Rattle.std.specs.Option.{ForSome};
 ghost use Rattle.blk_image.specs.Told.{Rises, Stays};
 ghost use Rattle.blk_volume.specs.Audit as audit;
 ghost use Rattle.blk_volume.specs.Loads as shown;
 ghost use Rattle.blk_volume.specs.View.{store_of};
 ghost use Rattle.blk_disk.specs.Tables.{Agrees};
+ghost use Rattle.blk_entry.specs.Keys.{most_key};
 ghost use Rattle.blk_audit.specs.Faults.{IfScanDamaged, IfScanDevice};
 ghost use Rattle.blk_audit.specs.ReadLists.{AreListsOf, IsSaidAt};
 ghost use Rattle.blk_verdict.specs.Kept.{AreShown, HaveKeys, IsSameAnswer, IsKeptInOrder, KeepsAtMostOne};
@@ -17,11 +18,10 @@ use crate::reason::Reason;
 use crate::walked_nodes::load_walked;
 use blk_audit::{Lists, ScanFault, WalkedNode};
 use blk_disk::BlockFiles;
-use blk_entry::LONGEST_NAME;
 use blk_io::Folder;
 
 // Judges a walked node by the reasons from `Contents` to `Parent` in their order, and keeps its record at the end of those
-// that are kept where none of them holds.
+// that are kept where none of them holds. Of a part the key is read into the front of `name`.
 //
 // The folder calls are those of `load_walked` and, where it finds no reason, those of `KeptSoFar::admit`.
 pub(crate) fn judge_walked<F: Folder>(
@@ -30,8 +30,10 @@ pub(crate) fn judge_walked<F: Folder>(
     lists: &Lists,
     kept: &mut KeptSoFar,
     node: &WalkedNode,
+    name: &mut [u8],
 ) -> Result<Option<Reason>, ScanFault>
     requires order { IsKeptInOrder files.now kept.old }
+    requires room { length name.old ≡ most_key }
     ensures answer { IfOk result (λ reason. ForSome (F.told f.old).files (λ image. Agrees files.now image → AreListsOf image lists.now → IsSaidAt image node.now → (so_far : List shown.Loaded) → AreShown image so_far kept.old.kept.items → IsSameAnswer (audit.verdict (store_of image) shown.held_rule so_far node.now.addr) reason)) }
     ensures shown { OnOk result (ForSome (F.told f.old).files (λ image. Agrees files.now image → AreListsOf image lists.now → IsSaidAt image node.now → (so_far : List shown.Loaded) → AreShown image so_far kept.old.kept.items → AreShown image (audit.with_verdict so_far (audit.verdict (store_of image) shown.held_rule so_far node.now.addr)) kept.new.kept.items)) }
     ensures keys { OnOk result (ForSome (F.told f.old).files (λ image. Agrees files.now image → AreListsOf image lists.now → IsSaidAt image node.now → HaveKeys image kept.old.kept.items → HaveKeys image kept.new.kept.items)) }
@@ -43,8 +45,7 @@ pub(crate) fn judge_walked<F: Folder>(
     ensures later { F.faults f.old ≤ F.faults f.new }
     ensures device { IfScanDevice result (Rises (F.faults f.old) (F.faults f.new)) }
 {
-    let mut name = [0u8; LONGEST_NAME as usize];
-    match load_walked(f, files, lists, node, &mut name)? {
+    match load_walked(f, files, lists, node, name)? {
         Verdict::Loaded(loaded) => {
             let key = &name[..loaded.key_len as usize];
             kept.admit(f, files, loaded, key)

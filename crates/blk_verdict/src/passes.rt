@@ -1,5 +1,5 @@
 // The two passes over the walked nodes.
-ghost use Rattle.std.specs.Prelude.{◌≡◌, ◌≤◌, ◌++◌, ◌∷◌, [], ℕ, List, IfOk, None, OnOk, Some, slice_get, true};
+ghost use Rattle.std.specs.Prelude.{◌≡◌, ◌≤◌, ◌++◌, ◌∷◌, [], ℕ, List, IfOk, None, OnOk, Some, length, slice_get, true};
 ghost use Rattle.std.specs.Option.{ForSome};
 ghost use Rattle.blk_image.specs.Told.{Rises, Stays};
 ghost use Rattle.blk_volume.specs.Audit as audit;
@@ -8,6 +8,7 @@ ghost use Rattle.blk_volume.specs.Loads.{held_rule};
 ghost use Rattle.blk_volume.specs.ListImages.{completed_walk};
 ghost use Rattle.blk_volume.specs.View.{store_of};
 ghost use Rattle.blk_disk.specs.Tables.{Agrees};
+ghost use Rattle.blk_entry.specs.Keys.{most_key};
 ghost use Rattle.blk_audit.specs.Faults.{IfScanDamaged, IfScanDevice};
 ghost use Rattle.blk_audit.specs.ReadLists.{AreListsOf};
 ghost use Rattle.blk_audit.specs.Walking.{nodes_walked};
@@ -23,6 +24,7 @@ use crate::walked_nodes::is_child;
 use blk_addr::NoMemory;
 use blk_audit::{Lists, ScanFault};
 use blk_disk::BlockFiles;
+use blk_entry::LONGEST_NAME;
 use blk_io::Folder;
 use std::alloc::Global;
 
@@ -71,8 +73,9 @@ pub fn judge_nodes<F: Folder>(
 {
     let mut kept = KeptSoFar::none(alloc);
     let mut tried = Vec::new(alloc);
-    try_pass(f, files, lists, false, &mut kept, &mut tried)?;
-    try_pass(f, files, lists, true, &mut kept, &mut tried)?;
+    let mut name = [0u8; LONGEST_NAME as usize];
+    try_pass(f, files, lists, false, &mut kept, &mut tried, &mut name)?;
+    try_pass(f, files, lists, true, &mut kept, &mut tried, &mut name)?;
     Ok(Judged { kept, tried })
 }
 
@@ -87,8 +90,10 @@ pub(crate) fn try_pass<F: Folder>(
     children: bool,
     kept: &mut KeptSoFar,
     tried: &mut Vec<Tried>,
+    name: &mut [u8],
 ) -> Result<(), ScanFault>
     requires order { IsKeptInOrder files.now kept.old }
+    requires room { length name.old ≡ most_key }
     ensures tried { OnOk result (ForSome (F.told f.old).files (λ image. Agrees files.now image → AreListsOf image lists.now → (before : List ℕ) → AreTried image (nodes_walked lists.now.walked) before kept.old.kept.items tried.old.items → AreTried image (nodes_walked lists.now.walked) (before ++ of_pass (store_of image) children (nodes_walked lists.now.walked)) kept.new.kept.items tried.new.items)) }
     ensures keys { OnOk result (ForSome (F.told f.old).files (λ image. CanBeTried files.now lists.now kept.old.kept.items image → HaveKeys image kept.new.kept.items)) }
     ensures order { OnOk result (IsKeptInOrder files.now kept.new) }
@@ -99,7 +104,7 @@ pub(crate) fn try_pass<F: Folder>(
     ensures device { IfScanDevice result (Rises (F.faults f.old) (F.faults f.new)) }
 {
     for i in 0..lists.walked.count() {
-        try_at(f, files, lists, i, children, kept, tried)?;
+        try_at(f, files, lists, i, children, kept, tried, name)?;
     }
     Ok(())
 }
@@ -113,8 +118,10 @@ fn try_at<F: Folder>(
     children: bool,
     kept: &mut KeptSoFar,
     tried: &mut Vec<Tried>,
+    name: &mut [u8],
 ) -> Result<(), ScanFault>
     requires order { IsKeptInOrder files.now kept.old }
+    requires room { length name.old ≡ most_key }
     ensures tried { OnOk result (ForSome (F.told f.old).files (λ image. Agrees files.now image → AreListsOf image lists.now → (before : List ℕ) (w : ℕ) → slice_get (nodes_walked lists.now.walked) i ≡ Some w → AreTried image (nodes_walked lists.now.walked) before kept.old.kept.items tried.old.items → AreTried image (nodes_walked lists.now.walked) (before ++ of_pass (store_of image) children (w ∷ [])) kept.new.kept.items tried.new.items)) }
     ensures keys { OnOk result (ForSome (F.told f.old).files (λ image. CanBeTried files.now lists.now kept.old.kept.items image → HaveKeys image kept.new.kept.items)) }
     ensures order { OnOk result (IsKeptInOrder files.now kept.new) }
@@ -129,7 +136,7 @@ fn try_at<F: Folder>(
     };
     let child = is_child(f, files, lists, &here)?;
     if is_of_pass(children, child) {
-        let reason = judge_walked(f, files, lists, kept, &here)?;
+        let reason = judge_walked(f, files, lists, kept, &here, name)?;
         push(tried, Tried { place: i, reason })?;
     }
     Ok(())

@@ -44,17 +44,17 @@ returns-in-Loaded-clause-untold g c agrees walked keys =
     let one = judged image [] c.args.node.now.addr c.in-Loaded.loaded loaded in
     all_of (HasItsKey image) c.in-Loaded.loaded c.args.kept.now.kept.items (has_key image one.loaded c.in-Loaded.loaded one.known) (keys image there))))
 
-pub slice_bounds-name-end : goal.slice_bounds-name-end
-slice_bounds-name-end g c =
-    let readable = subst (IsReadableIf c.args.files.now) c.in-Loaded.is c.in_ok-loaded.ensures.readable in
-    let few = (may_have_parts c.in-Loaded.loaded.entry c.in-Loaded.loaded.key_len readable.placed.has).1 in
-    omega (arith, few, c.load_walked.auto.name)
-
 pub slice_bounds-key-end : goal.slice_bounds-key-end
 slice_bounds-key-end g c =
     let readable = subst (IsReadableIf c.args.files.now) c.in-Loaded.is c.in_ok-loaded.ensures.readable in
     let few = (may_have_parts c.in-Loaded.loaded.entry c.in-Loaded.loaded.key_len readable.placed.has).1 in
-    sym (length-take-le c.in-Loaded.loaded.key_len c.load_walked.new.name (omega (arith, few, c.load_walked.auto.name)))
+    omega (arith, few, c.load_walked.auto.name, c.requires.room)
+
+pub slice_bounds-key-end-in-Loaded : goal.slice_bounds-key-end-in-Loaded
+slice_bounds-key-end-in-Loaded g c =
+    let readable = subst (IsReadableIf c.args.files.now) c.in-Loaded.is c.in_ok-loaded.ensures.readable in
+    let few = (may_have_parts c.in-Loaded.loaded.entry c.in-Loaded.loaded.key_len readable.placed.has).1 in
+    sym (length-take-le c.in-Loaded.loaded.key_len c.load_walked.new.name (omega (arith, few, c.load_walked.auto.name, c.requires.room)))
 
 pub returns-in-Loaded-clause-answer : goal.returns-in-Loaded-clause-answer
 returns-in-Loaded-clause-answer g c =

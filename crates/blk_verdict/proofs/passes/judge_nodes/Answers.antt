@@ -9,8 +9,8 @@ use Rattle.blk_verdict.specs.Passes.{AreTried, CanBeTried, of_pass}
 use Rattle.blk_verdict.proofs.PassFacts.{no_keys, none_tried, walked_answered}
 use Rattle.blk_verdict.proofs.passes.judge_nodes.Goals as goal
 
-pub try_pass-requires : goal.try_pass-requires
-try_pass-requires g c = record { order = c.none-kept.ensures.order c.args.files.now }
+pub try_pass-requires-clause-order : goal.try_pass-requires-clause-order
+try_pass-requires-clause-order g c = c.none-kept.ensures.order c.args.files.now
 
 pub returns-in_err-try_pass-clause-untold : goal.returns-in_err-try_pass-clause-untold
 returns-in_err-try_pass-clause-untold g c agrees are =

@@ -17,6 +17,7 @@ loop-i-init g c = record {
       subst (λ (ns : List ℕ). AreTried image (nodes_walked c.args.lists.now.walked) ns c.args.kept.now.kept.items c.args.tried.now.items) (sym (append-nil before)) is;
   keys = λ image there can. can.has_keys;
   order = c.requires.order;
+  room = c.requires.room;
   stays = refl;
   later = omega arith;
 }
@@ -33,6 +34,7 @@ loop-i-preserved g c = record {
   keys = λ image there can.
       c.in_ok-try_at.ensures.keys image (told_now image c.loop-i.invariant.stays there) (record { agrees = can.agrees; are = can.are; has_keys = c.loop-i.invariant.keys image there can });
   order = c.in_ok-try_at.ensures.order;
+  room = c.try_at.auto.name ∙ c.loop-i.invariant.room;
   stays = c.in_ok-try_at.ensures.stays ∙ c.loop-i.invariant.stays;
   later = omega (arith, c.in_ok-try_at.ensures.later, c.loop-i.invariant.later);
 }

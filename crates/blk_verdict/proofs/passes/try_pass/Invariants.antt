@@ -1,8 +1,9 @@
-use Rattle.std.proofs.Common.{◌≤◌, ℕ, List, ◌++◌, take}
+use Rattle.std.proofs.Common.{◌≡◌, ◌≤◌, ℕ, List, ◌++◌, take, length}
 use Rattle.std.specs.Option.{ForSome}
 use Rattle.blk_image.specs.Told.{Stays}
 use Rattle.blk_volume.specs.View.{store_of}
 use Rattle.blk_disk.specs.Tables.{Agrees}
+use Rattle.blk_entry.specs.Keys.{most_key}
 use Rattle.blk_audit.specs.ReadLists.{AreListsOf}
 use Rattle.blk_audit.specs.Walking.{nodes_walked}
 use Rattle.blk_verdict.specs.Kept.{HaveKeys, IsKeptInOrder}
@@ -14,6 +15,7 @@ invariant-loop-i g l = record {
   tried : ForSome (g.F.Folder.told l.fn.f).files (λ image. Agrees l.files image → AreListsOf image l.lists → (before : List ℕ) → AreTried image (nodes_walked l.lists.walked) before l.fn.kept.kept.items l.fn.tried.items → AreTried image (nodes_walked l.lists.walked) (before ++ of_pass (store_of image) l.children (take l.i (nodes_walked l.lists.walked))) l.kept.kept.items l.tried.items);
   keys : ForSome (g.F.Folder.told l.fn.f).files (λ image. CanBeTried l.files l.lists l.fn.kept.kept.items image → HaveKeys image l.kept.kept.items);
   order : IsKeptInOrder l.files l.kept;
+  room : length l.name ≡ most_key;
   stays : Stays (g.F.Folder.told l.fn.f) (g.F.Folder.told l.f);
   later : g.F.Folder.faults l.fn.f ≤ g.F.Folder.faults l.f;
 }
