@@ -1,6 +1,9 @@
 // The word `count` on an empty folder, on folders of three entries that are hostile or damaged, and where a call fails.
 use crate::folders::Change::{Gone, Index, Length, Word};
-use crate::folders::{ADDRS, Change, Entry, Mem, NEXT, PREV, SIZES, add, change_all, give_blocks};
+use crate::folders::{
+    ADDRS, Change, Entry, Mem, NEXT, OPERATION, PREV, SIZES, TRANSACTION, add, change_all,
+    give_blocks,
+};
 use blk_index::make;
 use blk_io::{
     Failed, FileId, Folder, ListClock, MemFolder, MemSink, MemSource, SilentFolder, read_word,
@@ -29,8 +32,8 @@ const EMPTY: &[u8] = b"items 0 bytes 0\n";
 
 // Changes to the folder of these entries, with the status of a count, and what it prints: as it is; a record whose next is
 // itself; a node with a wrong prev; two records that claim one block; block files of which the first record alone is there;
-// another magic word; and a block file that isn't there.
-const COUNTS: [(&[Change], Status, &[u8]); 7] = [
+// an operation whose node is beyond the file; another magic word; and a block file that isn't there.
+const COUNTS: [(&[Change], Status, &[u8]); 8] = [
     (&[], Status::Ok, b"items 3 bytes 7\n"),
     (&[Word(C, NEXT, C)], Status::Ok, b"items 3 bytes 7\n"),
     (
@@ -52,6 +55,11 @@ const COUNTS: [(&[Change], Status, &[u8]); 7] = [
         &[Length(FileId::Block(1), 8448)],
         Status::Ok,
         b"items 1 bytes 4\n",
+    ),
+    (
+        &[Index(TRANSACTION, 0x9000_0400), Index(OPERATION, 1)],
+        Status::Ok,
+        b"items 3 bytes 7\n",
     ),
     (
         &[Index(0, 0xC103_CAC4)],
@@ -167,20 +175,24 @@ fn fail_one_call(alloc: Global, call: u64) -> Result<(Status, usize, bool), Fail
     Ok((status, out.written().len(), counts))
 }
 
+// The number of calls of a first count that none of them fails, on the folder inside; or 0 where it doesn't count.
+fn calls_of_a_count(alloc: Global) -> Result<u64, Fail> {
+    let mut f = empty(alloc, u64::MAX)?;
+    let counts = answers(alloc, &mut f, "count", Status::Ok, EMPTY)?;
+    let calls = f.into_inner().calls();
+    Ok(if counts { calls } else { 0 })
+}
+
 #[test]
 fn each_failing_call_ends_the_run_and_the_next_run_counts(rt: HostRuntime) -> Result<(), Fail> {
-    let mut calls: u64 = 61;
-    for call in 1..=61 {
+    let calls = calls_of_a_count(rt.alloc())?;
+    assert!(rt; calls >= 61, "{calls} calls");
+    for call in 1..=calls {
         let (status, printed, counts) = fail_one_call(rt.alloc(), call)?;
-        if status == Status::Ok {
-            calls = calls.min(call);
-        } else {
-            // The last call ends the session, when the line is printed.
-            assert!(rt; status == Status::Device && counts, "call {call}");
-            assert!(rt; printed == 0 || printed == EMPTY.len(), "call {call}");
-        }
+        // The last calls end the session, when the line is printed.
+        let whole = printed == 0 || printed == EMPTY.len();
+        assert!(rt; status == Status::Device && counts && whole, "call {call}");
     }
-    assert!(rt; calls > 20);
     Ok(())
 }
 

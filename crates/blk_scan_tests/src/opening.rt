@@ -2,8 +2,10 @@
 use crate::calls::{ENTRIES, Sort, many};
 use crate::cases::STOPPED;
 use crate::folders::{Change, audited};
+use crate::found::found;
 use crate::repairs::{Mem, again, changed};
-use blk_cache::Cache;
+use blk_audit::ScanFault;
+use blk_cache::{Cache, OpenFault};
 use blk_io::{FileId, Folder, MemFolder, SilentFolder, read_word};
 use blk_model::{Limits, MOST_BYTES, MOST_ITEMS};
 use blk_record::IndexHead;
@@ -19,7 +21,7 @@ const LIMITS: Limits = Limits {
 const MOMENT: u64 = 7;
 
 // More steps than the opening of any of these folders takes.
-const MOST_STEPS: u64 = 100;
+const MOST_STEPS: u64 = 50;
 
 // An opening that follows on a stopped one is stopped after so many steps.
 const NEXT_STEPS: [u64; 8] = [0, 1, 2, 3, 10, 20, 30, 40];
@@ -66,20 +68,41 @@ fn a_clean_folder_of_4000_entries_is_opened_by_few_calls(rt: HostRuntime) -> Res
     Ok(())
 }
 
-// Whether an opening shows these items and bytes, in the session with the next number; or none where it is stopped.
-fn shows(alloc: Global, f: &mut Mem, totals: (u64, u64)) -> Option<bool> {
-    let before = read_word(f, FileId::Index, IndexHead::THIS_ID).ok()?;
-    let cache = Cache::start(alloc, f, LIMITS, MOMENT).ok()?;
-    let number = read_word(f, FileId::Index, IndexHead::THIS_ID).ok()?;
-    Some(cache.totals() == totals && number == before.wrapping_add(1))
+// What is found in a folder: how many items with how many bytes, and the hash of their keys and data in the order of the list.
+type Found = ((u64, u64), u64);
+
+// Audits the folder. Gives what is found in it.
+fn found_now(alloc: Global, f: &mut Mem) -> Result<Found, ScanFault> {
+    let scan = audited(alloc, f)?;
+    Ok(((scan.items(), scan.bytes()), found(f, &scan)?))
 }
 
-// Whether an opening of what a stopped one left shows these, or is stopped after so many steps and a third one shows them.
-fn shows_in_the_end(alloc: Global, f: Mem, steps: u64, totals: (u64, u64)) -> bool {
+// Opens the folder. Gives the items and bytes of the session, and whether it has the next number.
+fn opened(alloc: Global, f: &mut Mem) -> Result<((u64, u64), bool), OpenFault> {
+    let before = read_word(f, FileId::Index, IndexHead::THIS_ID)?;
+    let cache = Cache::start(alloc, f, LIMITS, MOMENT)?;
+    let number = read_word(f, FileId::Index, IndexHead::THIS_ID)?;
+    Ok((cache.totals(), number == before.wrapping_add(1)))
+}
+
+// Whether an opening shows these items and bytes, in the session with the next number; or none where it is stopped.
+fn shows(alloc: Global, f: &mut Mem, totals: (u64, u64)) -> Option<bool> {
+    match opened(alloc, f) {
+        Ok((shown, is_next)) => Some(shown == totals && is_next),
+        Err(OpenFault::Device) => None,
+        Err(_) => Some(false),
+    }
+}
+
+// Whether an opening of what a stopped one left shows what was found before, or is stopped after so many steps, and a third one
+// shows it, after which the same is found.
+fn shows_in_the_end(alloc: Global, f: Mem, steps: u64, before: Found) -> Result<bool, ScanFault> {
     let mut f = again(f, steps);
-    let second = shows(alloc, &mut f, totals);
+    let second = shows(alloc, &mut f, before.0);
     let mut f = again(f, u64::MAX);
-    second != Some(false) && shows(alloc, &mut f, totals) == Some(true)
+    let third = shows(alloc, &mut f, before.0);
+    let after = found_now(alloc, &mut f)?;
+    Ok(second != Some(false) && third == Some(true) && after == before)
 }
 
 // Whether all ends well where the first opening is stopped after so many steps, wherever the second one is; and whether the first
@@ -88,13 +111,13 @@ fn is_opened_again(
     alloc: Global,
     changes: &[Change],
     steps: u64,
-    totals: (u64, u64),
+    before: Found,
 ) -> Result<(bool, bool), Fail> {
     let mut ended = false;
     for next in NEXT_STEPS {
         let mut f = changed(alloc, true, changes, steps)?;
-        let first = shows(alloc, &mut f, totals);
-        if first == Some(false) || !shows_in_the_end(alloc, f, next, totals) {
+        let first = shows(alloc, &mut f, before.0);
+        if first == Some(false) || !shows_in_the_end(alloc, f, next, before)? {
             return Ok((false, ended));
         }
         ended = first.is_some();
@@ -106,10 +129,9 @@ fn is_opened_again(
 // more than so many.
 fn steps_of(alloc: Global, changes: &[Change]) -> Result<Option<u64>, Fail> {
     let mut f = changed(alloc, true, changes, u64::MAX)?;
-    let before = audited(alloc, &mut f)?;
-    let totals = (before.items(), before.bytes());
+    let before = found_now(alloc, &mut f)?;
     for steps in 0..MOST_STEPS {
-        let (same, ended) = is_opened_again(alloc, changes, steps, totals)?;
+        let (same, ended) = is_opened_again(alloc, changes, steps, before)?;
         if ended || !same {
             return Ok(if same { Some(steps) } else { None });
         }
@@ -118,7 +140,7 @@ fn steps_of(alloc: Global, changes: &[Change]) -> Result<Option<u64>, Fail> {
 }
 
 #[test]
-fn an_opening_may_be_stopped_at_each_word_twice(rt: HostRuntime) -> Result<(), Fail> {
+fn an_opening_may_be_stopped_and_the_next_one_too(rt: HostRuntime) -> Result<(), Fail> {
     for changes in [STOPPED[0], STOPPED[2]] {
         let steps = steps_of(rt.alloc(), changes)?;
         assert!(rt; steps.is_some());
