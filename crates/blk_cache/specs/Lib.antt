@@ -1,4 +1,5 @@
 pub mod BoundNames
+pub mod NameRoom
 pub mod CacheKeeping
 pub mod Opening
 pub mod Opened

@@ -35,11 +35,12 @@ pub record EndsSession (image : Image) : Type 0 where
 
 -- Answers.
 
--- a fault of a call on a folder, and one of a scan, as one of an opening
+-- a fault of a call on a folder as one of an opening
 abbrev pub of_fault : Fault → OpenFault
 of_fault fault.Device = Device
 of_fault (fault.Damaged damage) = Damaged damage
 
+-- a fault of a scan as one of an opening
 abbrev pub of_scan_fault : ScanFault → OpenFault
 of_scan_fault scan.Device = Device
 of_scan_fault (scan.Damaged damage) = Damaged damage

@@ -12,6 +12,7 @@ use Rattle.blk_kept.specs.Keeping.{KeepsSome}
 use Rattle.blk_disk.specs.Open.{IsOpen}
 use Rattle.blk_scan.specs.declared.scan.Scan.{Scan}
 use Rattle.blk_scan.specs.Scans.{IsEmptyScan, IsScanOf}
+use Rattle.blk_repair.specs.Counters.{crash_place}
 use Rattle.blk_repair.specs.Repair.{IsRepairable, IsRepaired}
 use Rattle.blk_cache.specs.declared.cache.Cache.{Cache}
 use Rattle.blk_cache.specs.BoundNames.{AreAllFree}
@@ -28,11 +29,12 @@ MadeFoldersAreRepairable = (moment : ℕ) (image : Image) (scan : Scan) → IsMa
 abbrev pub RepairedFoldersKeepTheirState : Type 0
 RepairedFoldersKeepTheirState = (entry image : Image) (limits : Bounds) → IsRepaired entry image → AreBytes image → KeepsSome (open_state (found entry) limits) image
 
--- and its items and bytes are those that were told at the entry
+-- what a scan told are the items and the bytes of what is found at the entry, opened
 pub record AreTotalsTold (scan : Scan) (entry : Image) (limits : Bounds) : Type 0 where
   pub items_told : length scan.kept.items ≡ items (open_state (found entry) limits)
   pub bytes_told : scan.bytes ≡ total (open_state (found entry) limits)
 
+-- and its items and bytes are those that were told at the entry
 abbrev pub RepairedFoldersHaveTheToldTotals : Type 0
 RepairedFoldersHaveTheToldTotals = (scan : Scan) (entry image : Image) (limits : Bounds) → IsScanOf entry scan → IsRepaired entry image → AreBytes image → AreTotalsTold scan entry limits
 
@@ -44,8 +46,8 @@ KeptFoldersAreOpen = (cache : Cache) (state : State) (image : Image) → KeepsSt
 
 -- and where it has no name bound, the same is found while the crash word changes
 abbrev pub FreeCachesHoldStill : Type 0
-FreeCachesHoldStill = (cache : Cache) (state : State) (from image : Image) → KeepsState cache state from → AreAllFree cache.handles → SameOutside (one_word Index 32) from image → HoldsStill from image
+FreeCachesHoldStill = (cache : Cache) (state : State) (from image : Image) → KeepsState cache state from → AreAllFree cache.handles → SameOutside (one_word Index crash_place) from image → HoldsStill from image
 
 -- and the folder is sound then
 abbrev pub FreeCachesEndSound : Type 0
-FreeCachesEndSound = (cache : Cache) (state : State) (from image : Image) → KeepsState cache state from → AreAllFree cache.handles → SameOutside (one_word Index 32) from image → AreBytes image → IsSound image
+FreeCachesEndSound = (cache : Cache) (state : State) (from image : Image) → KeepsState cache state from → AreAllFree cache.handles → SameOutside (one_word Index crash_place) from image → AreBytes image → IsSound image

@@ -1,6 +1,7 @@
 // What a cache keeps.
 ghost use Rattle.std.specs.Prelude.{◌≡◌, length};
 ghost use Rattle.blk_cache.specs.BoundNames.{AreBoundAmong};
+ghost use Rattle.blk_cache.specs.NameRoom.{name_room};
 
 use blk_disk::BlockFiles;
 use blk_handles::Handles;
@@ -24,5 +25,5 @@ pub struct Cache {
     // Room for the key of a parent and the name of a part.
     pub(crate) name: Vec<u8>,
     ghost stand: { AreBoundAmong files handles },
-    ghost room: { length name.items ≡ 65564 },
+    ghost room: { length name.items ≡ name_room },
 }

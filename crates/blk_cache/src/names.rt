@@ -1,13 +1,16 @@
 // The memory that a session has for names.
 ghost use Rattle.std.specs.Prelude.{◌≡◌, IfOk, length};
 ghost use Rattle.blk_handles.specs.Bindings.{all_free};
+ghost use Rattle.blk_cache.specs.NameRoom.{name_room};
 
 use blk_addr::NoMemory;
+use blk_entry::LONGEST_NAME;
 use blk_handles::Handles;
+use blk_ranges::LONGEST_KEY;
 use std::alloc::Global;
 
-// How many bytes there are for names: of a parent's key, at most 32768, and of a part's name, at most 32796.
-const NAME_ROOM: usize = 65564;
+// How many bytes there are for names: for the key of a parent, and for the name of a part.
+const NAME_ROOM: usize = LONGEST_KEY as usize + LONGEST_NAME as usize;
 
 // The handle names, and room for names of objects.
 #[derive(Drop)]
@@ -19,7 +22,7 @@ pub(crate) struct Names {
 // Takes the memory for the names of a session: all handle names are free.
 pub(crate) fn take_memory(alloc: Global) -> Result<Names, NoMemory>
     ensures free { IfOk result (λ names. names.handles ≡ all_free) }
-    ensures room { IfOk result (λ names. length names.room.items ≡ 65564) }
+    ensures room { IfOk result (λ names. length names.room.items ≡ name_room) }
 {
     let handles = Handles::new(alloc)?;
     let mut room = Vec::new(alloc);

@@ -22,17 +22,17 @@ use blk_model::Limits;
 use std::alloc::Global;
 
 impl Cache {
-    /// Opens the folder for a session. An unfinished one is made, at this moment in microseconds since 1970 UTC; any
-    /// other is checked and repaired, so that it keeps what was found in it. No handle name is bound.
+    /// Opens the folder for a session. An unfinished one is made, and the moment, in microseconds since 1970 UTC, is kept
+    /// in it; any other is checked and repaired, so that it keeps what was found in it. No handle name is bound.
     ///
     /// The last step makes the crash word 1, in a session with the next number; the first where the folder was made. It
     /// may be stopped anywhere and begun again.
     ///
     /// # Errors
     ///
-    /// `Damaged` with the first check of the index and of the block files that fails; then nothing was written. `Memory`
-    /// where there was too little of it, before anything was written: a session takes no more later. `Device` where the
-    /// folder failed in this call.
+    /// `Damaged` with the first check of the index and of the block files that fails; where the folder tells its files
+    /// nothing was written then. `Memory` where there was too little of it, before anything was written: a session takes
+    /// no more later. `Device` where the folder failed in this call.
     pub fn start<F: Folder>(
         alloc: Global,
         f: &mut F,

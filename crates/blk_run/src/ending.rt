@@ -20,7 +20,8 @@ pub enum Status {
     Sink = 5,
     /// There was no memory. Nothing was done.
     Memory = 6,
-    /// A check of the folder failed at the start. What it found was printed, and nothing was written.
+    /// A check of the folder failed at the start. What it found was printed. Where the folder tells its files nothing was
+    /// written.
     Damaged = 7,
     /// The input is longer than it may be.
     TooLong = 8,

@@ -1,0 +1,8 @@
+-- The room that a session has for names.
+use Rattle.std.specs.Prelude.{ℕ, ◌+◌}
+use Rattle.blk_model.specs.Sizes.{longest_key}
+use Rattle.blk_entry.specs.Keys.{most_key}
+
+-- the bytes for the key of a parent and for the name of a part
+abbrev pub name_room : ℕ
+name_room = longest_key + most_key
