@@ -1,9 +1,9 @@
 -- The steps of a repair that write the crash word: the last one alone.
 use Rattle.std.proofs.Common.{◌≡◌, ℕ, zero, suc, ◌+◌, ◌≤◌, ◌%◌, ◌^◌, Bool, true, false, ◌&&◌, ◌==◌, List, [], ◌∷◌, ◌++◌, length, Option, Some, refl, sym, ◌∙◌, ap, subst, arith, append_assoc}
-use Rattle.std.specs.Prelude.{All, filter, if◌then◌else◌}
+use Rattle.std.specs.Prelude.{All, filter, nat_le, ◌<◌, if◌then◌else◌}
 use Rattle.std.specs.List.{sum_by}
 use Rattle.std.specs.Option.{ForSome, option_map, unwrap_or}
-use Rattle.std.proofs.lemmas.Bool.{eqb-true, ne_eqb}
+use Rattle.std.proofs.lemmas.Bool.Decides.{nat_tests}
 use Rattle.std.proofs.lemmas.List.Elements.{All-append, All-cons, All-head, All-nil, All-tail}
 use Rattle.blk_image.specs.Bytes.{content, spliced, word_bytes}
 use Rattle.blk_image.specs.Image.{File, Image, Index, Block, bytes_of, byte, length_of, same_file, word}
@@ -37,7 +37,7 @@ use Rattle.blk_repair_laws.specs.LinkRepair.{link_repair_steps}
 use Rattle.blk_repair_laws.specs.ListRepair.{HoldsTheSame, completed_image, dropped_nodes, end_steps, ended_image, list_repair_steps, removal_steps}
 use Rattle.blk_repair_laws.proofs.LinkRepair.{links-repaired}
 use Rattle.blk_scan.specs.declared.scan.Scan.{Scan}
-use Rattle.blk_repair.specs.Counters.{counted_words, crash_place, index_steps, index_word_steps, index_words_steps, writes_crash_word}
+use Rattle.blk_repair.specs.Counters.{counted_words, crash_place, index_steps, index_word_steps, index_words_steps, is_in_crash_word, writes_crash_word}
 use Rattle.blk_repair.specs.Deletions.{Deletes, is_unclaimed, is_unlinked, last_block_file, last_first_file}
 use Rattle.blk_repair.specs.Repair.{EndsWithCrashWord, MendsFiles, MendsLinks, MendsRest, RepairsInOrder, counting_steps}
 use Rattle.blk_repair.specs.Seals.{seals_steps}
@@ -63,19 +63,19 @@ spare-block : (n at x : ℕ) → SpareIt (word_step (Block n) at x)
 unfolding word_step
 spare-block n at x = All-cons IsOther (Word (Block n) at (word_bytes x)) [] refl (All-nil IsOther)
 
-spare-place : (at x : ℕ) → (at == crash_place) ≡ false → SpareIt (word_step Index at x)
+spare-place : (at x : ℕ) → is_in_crash_word at 4 ≡ false → SpareIt (word_step Index at x)
 unfolding word_step
-spare-place at x other = All-cons IsOther (Word Index at (word_bytes x)) [] (ap (λ (b : Bool). b && true) other) (All-nil IsOther)
+spare-place at x other = All-cons IsOther (Word Index at (word_bytes x)) [] other (All-nil IsOther)
 
 pub spare-blocks : (n : ℕ) (words : List (ℕ × ℕ)) → SpareIt (word_steps (Block n) words)
 spare-blocks n [] = All-nil IsOther
 spare-blocks n (w ∷ words) = spare-append (word_step (Block n) w.0 w.1) (word_steps (Block n) words) (spare-block n w.0 w.1) (spare-blocks n words)
 
 -- words of the index at other places
-pub spare-places : (words : List (ℕ × ℕ)) → All (λ (w : ℕ × ℕ). (w.0 == crash_place) ≡ false) words → SpareIt (word_steps Index words)
+pub spare-places : (words : List (ℕ × ℕ)) → All (λ (w : ℕ × ℕ). is_in_crash_word w.0 4 ≡ false) words → SpareIt (word_steps Index words)
 spare-places [] others = All-nil IsOther
 spare-places (w ∷ words) others =
-    let O : ℕ × ℕ → Type 0 = (λ (w : ℕ × ℕ). (w.0 == crash_place) ≡ false) in
+    let O : ℕ × ℕ → Type 0 = (λ (w : ℕ × ℕ). is_in_crash_word w.0 4 ≡ false) in
     spare-append (word_step Index w.0 w.1) (word_steps Index words) (spare-place w.0 w.1 (All-head O w words others)) (spare-places words (All-tail O w words others))
 
 spare-sealed : (image : Image) (w : ℕ) (changes : List (ℕ × ℕ)) → SpareIt (sealed_steps image w changes)
@@ -114,8 +114,18 @@ spare-list image =
 
 -- ---- the chains
 
-bucket-elsewhere : (bucket : ℕ) → (place_of_bucket bucket == crash_place) ≡ false
-bucket-elsewhere bucket = ne_eqb (place_of_bucket bucket) crash_place (λ e. absurd (omega (arith, e)))
+apart : (a b : Bool) → b ≡ false → (a && b) ≡ false
+apart true b e = e
+apart false b e = refl
+
+above : (a b : ℕ) → b < a → nat_le a b ≡ false
+above a b less = grind (arith, nat_tests)
+
+at-most : (a b : ℕ) → nat_le a b ≡ true → a ≤ b
+at-most a b e = grind (arith, nat_tests)
+
+bucket-elsewhere : (bucket : ℕ) → is_in_crash_word (place_of_bucket bucket) 4 ≡ false
+bucket-elsewhere bucket = apart (nat_le 32 (place_of_bucket bucket)) (nat_le (place_of_bucket bucket + 4) 36) (above (place_of_bucket bucket + 4) 36 (omega arith))
 
 spare-links : (words : List ℕ) (image : Image) → SpareIt (next_words_steps words image)
 spare-links [] image = All-nil IsOther
@@ -172,14 +182,14 @@ along-now P (step ∷ steps) image all = all.0
 
 module _ (claims : Claims) (numbers : List ℕ) (from : Image) (long : header_length ≤ length_of from Index) where
   -- a step that is needed writes something else, and rebuilding leaves the index as it was
-  other-bytes : (image : Image) (bytes : List ℕ) → length bytes ≡ 4 → IsRebuilding claims numbers from image → IsRebuilding claims numbers from (applied (Word Index 32 bytes) image) → IsNeeded image (Word Index 32 bytes) → ⊥
-  other-bytes image bytes four was is needed =
-      let same : spliced 32 bytes (bytes_of image Index) ≡ bytes_of image Index =
-      sym (bytes_of-written image Index 32 bytes) ∙ same-bytes (applied (Word Index 32 bytes) image) is ∙ sym (same-bytes image was) in
+  other-bytes : (image : Image) (at : ℕ) (bytes : List ℕ) → at + length bytes ≤ 36 → IsRebuilding claims numbers from image → IsRebuilding claims numbers from (applied (Word Index at bytes) image) → IsNeeded image (Word Index at bytes) → ⊥
+  other-bytes image at bytes inside was is needed =
+      let same : spliced at bytes (bytes_of image Index) ≡ bytes_of image Index =
+      sym (bytes_of-written image Index at bytes) ∙ same-bytes (applied (Word Index at bytes) image) is ∙ sym (same-bytes image was) in
       let room : header_length ≤ length_of image Index = subst (λ (n : ℕ). header_length ≤ n) (sym (ap length (same-bytes image was))) long in
       needed
-      (range_content (length bytes) 32 (byte image Index) bytes refl
-      (λ k small. sym (content-spliced_inside 32 bytes (bytes_of image Index) k (32 + k) refl small (omega (arith, small, four, room))) ∙ ap (λ (l : List ℕ). content l (32 + k)) same))
+      (range_content (length bytes) at (byte image Index) bytes refl
+      (λ k small. sym (content-spliced_inside at bytes (bytes_of image Index) k (at + k) refl small (omega (arith, small, inside, room))) ∙ ap (λ (l : List ℕ). content l (at + k)) same))
     where
       same-bytes : (i : Image) → IsRebuilding claims numbers from i → bytes_of i Index ≡ bytes_of from Index
       same-bytes i moment = ap (λ (o : Option (List ℕ)). unwrap_or o []) (index-same claims numbers from i moment)
@@ -193,11 +203,11 @@ module _ (claims : Claims) (numbers : List ℕ) (from : Image) (long : header_le
       by_test : (t : Bool) → writes_crash_word (Word file at bytes) ≡ t → t ≡ false
       by_test false e = refl
       by_test true e =
-          let parts = both-parts (same_file file Index) (at == 32 && (length bytes == 4)) e in
-          let inner = both-parts (at == 32) (length bytes == 4) parts.1 in
-          let P : File → ℕ → Type 0 = (λ (f : File) (p : ℕ). IsRebuilding claims numbers from (applied (Word f p bytes) image) → IsNeeded image (Word f p bytes) → ⊥) in
-          let there : P Index 32 = other-bytes image bytes (eqb-true (length bytes) 4 inner.1) was in
-          let here : P file at = subst (λ (f : File). P f at) (sym (same_file-true file Index parts.0)) (subst (P Index) (sym (eqb-true at 32 inner.0)) there) in
+          let parts = both-parts (same_file file Index) (is_in_crash_word at (length bytes)) e in
+          let inner = both-parts (nat_le 32 at) (nat_le (at + length bytes) 36) parts.1 in
+          let P : File → Type 0 = (λ (f : File). IsRebuilding claims numbers from (applied (Word f at bytes) image) → IsNeeded image (Word f at bytes) → ⊥) in
+          let there : P Index = other-bytes image at bytes (at-most (at + length bytes) 36 inner.1) was in
+          let here : P file = subst P (sym (same_file-true file Index parts.0)) there in
           absurd (here is needed)
 
   spare-all : (steps : List TrailStep) (image : Image) → Along (IsRebuilding claims numbers from) image steps → AreNeeded image steps → SpareIt steps
@@ -228,21 +238,21 @@ spare-seals (w ∷ words) image =
     let first : List TrailStep = seal_steps image w in
     spare-append first (seals_steps words (after first image)) (spare-seal image w) (spare-seals words (after first image))
 
-spare-words : (words : List (ℕ × ℕ)) (image : Image) → All (λ (w : ℕ × ℕ). (w.0 == crash_place) ≡ false) words → SpareIt (index_words_steps words image)
+spare-words : (words : List (ℕ × ℕ)) (image : Image) → All (λ (w : ℕ × ℕ). is_in_crash_word w.0 4 ≡ false) words → SpareIt (index_words_steps words image)
 spare-words [] image others = All-nil IsOther
 spare-words (w ∷ words) image others =
-    let O : ℕ × ℕ → Type 0 = (λ (w : ℕ × ℕ). (w.0 == crash_place) ≡ false) in
+    let O : ℕ × ℕ → Type 0 = (λ (w : ℕ × ℕ). is_in_crash_word w.0 4 ≡ false) in
     let first : List TrailStep = index_word_steps w.0 w.1 image in
     spare-append first (index_words_steps words (after first image)) (spare-choice (word image Index w.0 == w.1) (word_step Index w.0 w.1) (spare-place w.0 w.1 (All-head O w words others))) (spare-words words (after first image) (All-tail O w words others))
 
-counted-elsewhere : (items bytes id : ℕ) → All (λ (w : ℕ × ℕ). (w.0 == crash_place) ≡ false) (counted_words items bytes id)
+counted-elsewhere : (items bytes id : ℕ) → All (λ (w : ℕ × ℕ). is_in_crash_word w.0 4 ≡ false) (counted_words items bytes id)
 counted-elsewhere items bytes id =
-    let O : ℕ × ℕ → Type 0 = (λ (w : ℕ × ℕ). (w.0 == crash_place) ≡ false) in
+    let O : ℕ × ℕ → Type 0 = (λ (w : ℕ × ℕ). is_in_crash_word w.0 4 ≡ false) in
     All-cons O (268, items) ((8, items) ∷ (12, bytes) ∷ (20, id) ∷ []) refl (All-cons O (8, items) ((12, bytes) ∷ (20, id) ∷ []) refl (All-cons O (12, bytes) ((20, id) ∷ []) refl (All-cons O (20, id) [] refl (All-nil O))))
 
 -- ---- all of it
 
--- the last of some steps makes the crash word 1, and none before it writes that word
+-- the last of some steps makes the crash word 1, and none before it writes inside that word
 pub record EndsSo (steps : List TrailStep) : Type 0 where
   pub before : List TrailStep
   pub are : steps ≡ before ++ word_step Index crash_place 1

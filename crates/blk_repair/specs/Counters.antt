@@ -1,5 +1,5 @@
 -- The words of the index that are mended last: the counters, the number of the session, and the crash word.
-use Rattle.std.specs.Prelude.{ℕ, ◌≡◌, ◌<◌, ◌%◌, ◌^◌, ◌==◌, ◌&&◌, if◌then◌else◌, Bool, List, [], ◌∷◌, ◌++◌, length, false}
+use Rattle.std.specs.Prelude.{ℕ, ◌≡◌, ◌+◌, ◌<◌, ◌%◌, ◌^◌, ◌==◌, ◌&&◌, if◌then◌else◌, nat_le, Bool, List, [], ◌∷◌, ◌++◌, length, false}
 use Rattle.std.specs.List.{sum_by}
 use Rattle.blk_image.specs.Image.{Image, Index, byte, same_file, word}
 use Rattle.blk_image.specs.Steps.{TrailStep, Word, SetLength, Delete, Note, after, word_step}
@@ -21,9 +21,13 @@ this_id_place = 20
 abbrev pub crash_place : ℕ
 crash_place = 32
 
--- whether a step writes a word at the place of the crash word
+-- whether so many bytes from a place on lie inside the crash word
+abbrev pub is_in_crash_word : (place count : ℕ) → Bool
+is_in_crash_word place count = nat_le crash_place place && nat_le (place + count) (crash_place + 4)
+
+-- whether a step writes inside the crash word: the bytes of a step lie in one word, so each that writes a byte of this word does. A new length and a deletion write no word
 abbrev pub writes_crash_word : TrailStep → Bool
-writes_crash_word (Word file place bytes) = same_file file Index && (place == crash_place && (length bytes == 4))
+writes_crash_word (Word file place bytes) = same_file file Index && is_in_crash_word place (length bytes)
 writes_crash_word (SetLength file n) = false
 writes_crash_word (Delete file) = false
 writes_crash_word (Note number) = false

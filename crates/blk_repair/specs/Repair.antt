@@ -54,7 +54,7 @@ pub record IsRepairedFor (id : ℕ) (entry image : Image) : Type 0 where
 abbrev pub IsRepaired : Image → Image → Type 0
 IsRepaired entry image = IsRepairedFor (next_id (this_id_of (byte entry Index))) entry image
 
--- the last step made the crash word 1, and no step before it wrote that word
+-- the last step made the crash word 1, and no step before it wrote inside that word
 pub record EndsWithCrashWord (old new : Told) : Type 0 where
   pub before : List TrailStep
   pub applies : Applies old new (before ++ word_step Index crash_place 1)

@@ -7,7 +7,7 @@ ghost use Rattle.blk_io.specs.Faults.{IfDamaged, IfDevice};
 ghost use Rattle.blk_disk.specs.Open.{IsOpen};
 ghost use Rattle.blk_disk.specs.Tables.{all_files, files_of};
 ghost use Rattle.blk_alloc.specs.Extending.{KeepsStanding};
-ghost use Rattle.blk_alloc.specs.Rebuilding.{AreRight, IsShortReadOf};
+ghost use Rattle.blk_alloc.specs.Rebuilding.{AreFitted, AreRight, IsShortReadOf};
 ghost use Rattle.blk_repair_laws.specs.MendedChanges.{KeepsMendedLinks};
 ghost use Rattle.blk_repair.specs.Maps.{AreFilesMended, IsNextRebuilt, Rebuilds};
 ghost use Rattle.blk_repair.specs.Parts.{AppliesOf};
@@ -31,6 +31,9 @@ pub fn mend_files<F: Folder>(
     // In any case the same files are linked, and what stood still does.
     ensures all { (kind : ℕ) → files_of files.new kind ≡ files_of files.old kind }
     ensures keeps { KeepsStanding files.old files.new }
+
+    // In the end each linked file has its length, or exactly that of its header and blocks where this is greater.
+    ensures fitted { OnOk result (AreFitted files.old files.new) }
 
     // A step is made only where it is needed, and none but on lengths, maps, counters and updating.
     ensures rebuilds { ForSome (F.told f.old).files (λ from. AppliesOf (Rebuilds files.old claims.now) from (F.told f.old) (F.told f.new)) }

@@ -8,7 +8,7 @@ ghost use Rattle.blk_io.specs.Faults.{IfDamaged, IfDevice};
 ghost use Rattle.blk_disk.specs.Open.{IsOpen};
 ghost use Rattle.blk_disk.specs.Tables.{all_files, files_of};
 ghost use Rattle.blk_alloc.specs.Extending.{KeepsStanding};
-ghost use Rattle.blk_alloc.specs.Rebuilding.{IsShortReadOf};
+ghost use Rattle.blk_alloc.specs.Rebuilding.{AreFitted, IsShortReadOf};
 ghost use Rattle.blk_audit.specs.Sealable.{CanBeSealed};
 ghost use Rattle.blk_repair_laws.specs.ChainRepair.{AreChainsMended, chain_repair_steps};
 ghost use Rattle.blk_repair_laws.specs.ListRepair.{HoldsTheSame};
@@ -48,11 +48,14 @@ pub fn repair<F: Folder>(f: &mut F, files: &mut BlockFiles, scan: &Scan) -> Resu
     ensures all { (kind : ℕ) → files_of files.new kind ≡ files_of files.old kind }
     ensures keeps { KeepsStanding files.old files.new }
 
+    // In the end each linked file has its length, or exactly that of its header and blocks where this is greater.
+    ensures fitted { OnOk result (AreFitted files.old files.new) }
+
     // With the scan of a well-formed folder nothing is left to mend in the end, and at each word the same is kept and found.
     ensures mended { OnOk result (ForSome (F.told f.old).files (λ from. IsRepairable scan.now from → ForSome (F.told f.new).files (IsRepaired from))) }
     ensures stops { ForSome (F.told f.old).files (λ from. IsRepairable scan.now from → Passes (F.told f.old) (F.told f.new) (IsMidRepair from)) }
 
-    // The steps are those of the parts, in their order; so the last makes the crash word 1, and no other writes it.
+    // The steps are those of the parts, in their order; so the last makes the crash word 1, and no other writes inside it.
     ensures steps { OnOk result (ForSome (F.told f.old).files (λ from. IsRepairable scan.now from → AppliesOf (RepairsInOrder files.old scan.now from (id_after (this_id_of (byte from index)))) from (F.told f.old) (F.told f.new))) }
     ensures last { OnOk result (ForSome (F.told f.old).files (λ from. IsRepairable scan.now from → EndsWithCrashWord (F.told f.old) (F.told f.new))) }
 
@@ -94,6 +97,7 @@ fn mend_all<F: Folder>(
     requires is_open { ForSome (F.told f.old).files (IsOpen files.old) }
     ensures all { (kind : ℕ) → files_of files.new kind ≡ files_of files.old kind }
     ensures keeps { KeepsStanding files.old files.new }
+    ensures fitted { OnOk result (AreFitted files.old files.new) }
     ensures mended { OnOk result (ForSome (F.told f.old).files (λ from. IsRepairable scan.now from → ForSome (F.told f.new).files (IsRepairedFor this_id from))) }
     ensures stops { ForSome (F.told f.old).files (λ from. IsRepairable scan.now from → Passes (F.told f.old) (F.told f.new) (IsMidRepair from)) }
     ensures steps { OnOk result (ForSome (F.told f.old).files (λ from. IsRepairable scan.now from → AppliesOf (RepairsInOrder files.old scan.now from this_id) from (F.told f.old) (F.told f.new))) }
@@ -120,6 +124,7 @@ fn mend_behind<F: Folder>(
     requires is_open { ForSome (F.told f.old).files (IsOpen files.old) }
     ensures all { (kind : ℕ) → files_of files.new kind ≡ files_of files.old kind }
     ensures keeps { KeepsStanding files.old files.new }
+    ensures fitted { OnOk result (AreFitted files.old files.new) }
     ensures mended { OnOk result (ForSome (F.told f.old).files (λ from. (entry : Image) → AreLinksMended scan.now entry from → ForSome (F.told f.new).files (IsRepairedFor this_id entry))) }
     ensures stops { ForSome (F.told f.old).files (λ from. (entry : Image) → AreLinksMended scan.now entry from → Passes (F.told f.old) (F.told f.new) (IsMidRepair entry)) }
     ensures steps { OnOk result (ForSome (F.told f.old).files (λ from. (entry : Image) → AreLinksMended scan.now entry from → AppliesOf (InTurn (MendsFiles files.old scan.now.claims) (MendsRest scan.now entry this_id)) from (F.told f.old) (F.told f.new))) }
@@ -140,6 +145,7 @@ fn mend_store<F: Folder>(f: &mut F, files: &mut BlockFiles, claims: &Claims) -> 
     requires is_open { ForSome (F.told f.old).files (IsOpen files.old) }
     ensures all { (kind : ℕ) → files_of files.new kind ≡ files_of files.old kind }
     ensures keeps { KeepsStanding files.old files.new }
+    ensures fitted { OnOk result (AreFitted files.old files.new) }
     ensures mended { OnOk result (ForSome (F.told f.old).files (λ from. (entry : Image) → IsNextRebuilt entry claims.now from → ForSome (F.told f.new).files (AreOnlyKeptLeft entry from))) }
     ensures stops { ForSome (F.told f.old).files (λ from. (entry : Image) → IsNextRebuilt entry claims.now from → Passes (F.told f.old) (F.told f.new) (IsMidRepair entry)) }
     ensures steps { OnOk result (ForSome (F.told f.old).files (λ from. AppliesOf (MendsFiles files.old claims.now) from (F.told f.old) (F.told f.new))) }
