@@ -333,8 +333,8 @@ const SHAPES: [Case; 15] = [
     ),
 ];
 
-// Operations in flight: those that count, and six that don't.
-const OPERATIONS: [Case; 14] = [
+// Operations in flight: those that count, and seven that don't.
+const OPERATIONS: [Case; 15] = [
     (
         &[Index(TRANSACTION, N[0]), Index(OPERATION, 2)],
         11,
@@ -429,22 +429,40 @@ const OPERATIONS: [Case; 14] = [
         11,
         &[(OUTSIDE, 16)],
     ),
+    (
+        &[
+            Index(TRANSACTION, N[11]),
+            Index(OPERATION, 3),
+            Word(N[11], PREV, 0x9000_0400),
+        ],
+        11,
+        &[(OUTSIDE, 16)],
+    ),
 ];
 
-// Changes for which eleven of the twelve are dropped, each for a reason of its own.
-const MOST_REASONS: [Change; 12] = [
+// Changes for which eleven of the twelve are dropped, each for a reason of its own. What is changed has no seal then.
+const MOST_REASONS: [Change; 21] = [
     Word(N[0], DIRTY, 1),
+    Word(N[0], NODE_SEAL, 0),
     Word(JIO, STATE, 2),
+    Word(JIO, SEAL, 0),
     Word(NAB, FLAGS, 4),
+    Word(NAB, SEAL, 0),
     Word(LNIW, KEY_LEN, 0),
+    Word(LNIW, SEAL, 0),
     Word(ZRTI, LONG_KEY, 1),
+    Word(ZRTI, SEAL, 0),
     Word(PARENT_INDEX, 64, 0),
     Word(STREAMS, 0, 0x029D_191A),
+    Word(STREAMS, SEAL, 0),
     Word(TWIN, SIZES, 100),
     Word(TWIN, ADDRS, 0xA001_0010),
+    Word(TWIN, SEAL, 0),
     Bucket(OF_LONGER, 0),
     Word(BLOCKS, SIZES, 5),
+    Word(BLOCKS, SEAL, 0),
     Word(N[11], CONTENTS, 0),
+    Word(N[11], NODE_SEAL, 0),
 ];
 
 // Several reasons for one node, of which the first counts, and all sixteen in two folders.
@@ -516,12 +534,14 @@ pub(crate) const STOPPED: [&[Change]; 10] = [
         Index(TRANSACTION, N[1]),
         Index(OPERATION, 2),
         Word(N[11], NODE_NEXT, N[5]),
+        Word(N[11], NODE_SEAL, 0),
     ],
     &[
         Index(TRANSACTION, N[7]),
         Index(OPERATION, 3),
         Word(JIO, SEAL, 1),
         Word(N[6], DIRTY, 1),
+        Word(N[6], NODE_SEAL, 0),
     ],
     &[
         Word(JIO, NEXT, STREAMS),

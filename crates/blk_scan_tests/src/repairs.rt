@@ -1,13 +1,15 @@
 // The repair of the same folders, and a stop at each of its words.
 use crate::cases::{Case, STOPPED, TABLES};
-use crate::folders::Change::{Index, Length};
-use crate::folders::{Change, OPERATION, TRANSACTION, audited, change_all, dropped_at};
+use crate::folders::Change::{Index, Length, Word};
+use crate::folders::{
+    Change, NEXT, OPERATION, SEAL, TRANSACTION, audited, change_all, dropped_at, place_of,
+};
 use crate::found::found;
-use crate::worked::make_all;
+use crate::worked::{IEV, NAB, make_all};
 use blk_audit::ScanFault;
 use blk_disk::BlockFiles;
 use blk_index::make;
-use blk_io::{Fault, FileId, Folder, MemFolder, SilentFolder, StopFolder, read_word};
+use blk_io::{Damage, Fault, FileId, Folder, MemFolder, SilentFolder, StopFolder, read_word};
 use blk_repair::repair;
 use blk_scan::{Scan, scan_files};
 use std::alloc::Global;
@@ -208,5 +210,33 @@ fn repair_deletes_what_nothing_names_and_ends_what_does_not_count(
     )?;
     let mended = mended_words(rt.alloc(), &mut f)?;
     assert_eq!(rt; mended, (0, [None; 3]));
+    Ok(())
+}
+
+// What a repair answers where some changes were made after the audit, or where the folder fails after so many steps; or none,
+// where the next one doesn't end well with what was held.
+fn answer_of(alloc: Global, changes: &[Change], steps: u64) -> Result<Option<Fault>, Fail> {
+    let mut f = changed(alloc, false, &[Word(IEV, NEXT, NAB)], u64::MAX)?;
+    let mut files = BlockFiles::load(&mut f)?;
+    let scan = scan_files(alloc, &mut f, &files)?;
+    change_all(&mut f, changes)?;
+    let before = held_now(alloc, &mut f)?;
+    let mut f = again(f, steps);
+    let answer = repair(&mut f, &mut files, &scan).err();
+    let well = is_ended_well(alloc, f, before)?;
+    Ok(answer.filter(|_| well))
+}
+
+#[test]
+fn repair_answers_a_damage_and_a_failure(rt: HostRuntime) -> Result<(), Fail> {
+    let (file, place) = place_of(IEV);
+    let at = place.wrapping_add(SEAL);
+    let damage = Damage { file, at, found: 1 };
+    let spoiled = answer_of(rt.alloc(), &[Word(IEV, SEAL, 1)], u64::MAX)?;
+    let failed = answer_of(rt.alloc(), &[], 0)?;
+    assert_eq!(rt;
+        [spoiled, failed],
+        [Some(Fault::Damaged(damage)), Some(Fault::Device)]
+    );
     Ok(())
 }
