@@ -370,7 +370,15 @@ const OPERATIONS: [Case; 15] = [
             (TWO, 16),
         ],
     ),
-    (&[Index(TRANSACTION, N[7]), Index(OPERATION, 3)], 12, &[]),
+    (
+        &[
+            Index(TRANSACTION, N[7]),
+            Index(OPERATION, 3),
+            Word(N[6], NODE_NEXT, N[6]),
+        ],
+        12,
+        &[],
+    ),
     (&[Index(TRANSACTION, N[0]), Index(OPERATION, 1)], 12, &[]),
     (
         &[
