@@ -78,13 +78,18 @@ patch() {
     printf "$3" | dd of="$1" bs=1 seek="$2" conv=notrunc status=none
 }
 
-# Prints all that a folder has, but for the number of the session, which each run that opens it raises.
-held() {
-    local copy=$room/held
+# Prints all that a folder has, with these bytes from a place of its index on.
+picture_with() {
+    local copy=$room/pictured
     rm -rf "$copy"
     cp -a "$1" "$copy"
-    [ ! -f "$copy/index" ] || patch "$copy/index" 20 '\0\0\0\0'
+    [ ! -f "$copy/index" ] || patch "$copy/index" "$2" "$3"
     picture "$copy"
+}
+
+# Prints all that a folder has, but for the number of the session, which each run that opens it raises.
+held() {
+    picture_with "$1" 20 '\0\0\0\0'
 }
 
 # Makes a folder of a kind: empty, finished (made, and without entries), damaged (its version is wrong), or entries (it has one).

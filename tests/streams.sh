@@ -12,11 +12,7 @@ count_closed() {
 
 # All that a folder has, but for the moment of its making.
 untimed() {
-    local copy=$room/untimed
-    rm -rf "$copy"
-    cp -r "$1" "$copy"
-    [ ! -f "$copy/index" ] || patch "$copy/index" 40 '\0\0\0\0\0\0\0\0'
-    picture "$copy"
+    picture_with "$1" 40 '\0\0\0\0\0\0\0\0'
 }
 
 new=$(untimed "$room/made")
