@@ -4,6 +4,7 @@ use Rattle.blk_image.specs.Told.{Told}
 use Rattle.blk_format.specs.Address.{blocks_256, file_selector, header_size, kind_of, place}
 use Rattle.blk_format.specs.Headers.{place_of_bucket}
 use Rattle.blk_format.specs.Records.{entry_size, node_size}
+use Rattle.blk_index.specs.Table.{table_piece_length}
 use Rattle.blk_record.specs.declared.index_head.TheConstants.IndexHead as IndexHead
 use Rattle.blk_io.specs.declared.folder.FileId.TheVariants as names
 use Rattle.blk_io.specs.declared.fault.Damage.{Damage}
@@ -67,7 +68,7 @@ pub record IsRecordsDamage (told : Told) (damage : Damage) : Type 0 where
 -- the words of neighbouring buckets were read, from one on, and their bytes are too few
 pub record IsTableDamage (told : Told) (damage : Damage) : Type 0 where
   pub first : ℕ
-  pub short : IsShort told names.Index (place_of_bucket first) 4096 damage
+  pub short : IsShort told names.Index (place_of_bucket first) table_piece_length damage
 
 -- the chains were damaged at blocks of records, at words of the table, or at a record
 abbrev pub IsChainsDamage : BlockFiles → Told → Damage → Type 0

@@ -10,7 +10,7 @@ ghost use Rattle.blk_volume.specs.View.{store_of};
 ghost use Rattle.blk_volume.specs.Chains.{chain_from, most_records};
 ghost use Rattle.blk_disk.specs.Open.{IsOpen};
 ghost use Rattle.blk_disk.specs.Tables.{Agrees};
-ghost use Rattle.blk_index.specs.Table.{AreBuckets};
+ghost use Rattle.blk_index.specs.Table.{AreBuckets, buckets_of_piece, table_piece_length};
 ghost use Rattle.blk_audit.specs.Faults.{IfScanDamaged, IfScanDevice, IsChainsDamage, IsRecordDamage};
 ghost use Rattle.blk_audit.specs.Records.{AreRecordsOf};
 ghost use Rattle.blk_audit.specs.Chaining.{AreBucketsOf, AreFirstReached, AreOfFirst, AreReached, AreReachedThere, AreChainsThere, HasBuckets, HasEntry, HasFirst, HasRecords, IsLookedAt, IsReach, IsStepTaken, KeepsEnds, RecordsStand, is_met, reached_by, words_reached};
@@ -20,7 +20,7 @@ use crate::record_files::{Records, read_records, record_of};
 use crate::records::first_of_record;
 use blk_addr::{Addr, Claims, NoMemory};
 use blk_disk::BlockFiles;
-use blk_index::buckets;
+use blk_index::{BUCKETS_OF_PIECE, buckets};
 use blk_io::Folder;
 use blk_record::IndexHead;
 use std::alloc::Global;
@@ -29,10 +29,8 @@ use std::collections::BTreeSet;
 // The most records of a chain.
 const MOST_RECORDS: u32 = 16_777_216;
 
-// The words of the table that one call reads, and the number of such calls.
-const PIECE: usize = 1024;
-
-const PIECES: u16 = 64;
+// The calls that read the table.
+const PIECES: u16 = 4;
 
 /// The records that the chains of a table reach, bucket after bucket and each chain in its order. No two of them begin
 /// with the same block. Of each bucket it is kept where its records end among them, and whether its chain is closed: it
@@ -149,7 +147,7 @@ impl Reached {
 
 /// Follows the chain of each bucket, bucket after bucket. Nothing is written, and every chain ends.
 ///
-/// One call reads 1024 words of the table. Of the records, those whose first block has a claim in `named` are read 128
+/// One call reads 16384 words of the table. Of the records, those whose first block has a claim in `named` are read 128
 /// blocks by one call, and each other one by a call of its own, so `named` changes the cost and not the result. A
 /// damage is a read that gave too few bytes; a folder whose files are those of `files` gives none. `Device` comes only where the
 /// folder failed in this call.
@@ -200,13 +198,13 @@ pub(crate) fn chains_over<F: Folder>(
 {
     let mut reached = Reached::none(alloc);
     for piece in 0..PIECES {
-        let first = piece * PIECE as u16;
+        let first = piece * BUCKETS_OF_PIECE as u16;
         follow_piece(f, files, records, first, &mut reached)?;
     }
     Ok(reached)
 }
 
-// Follows the chains of 1024 buckets from one on, where those before it were followed.
+// Follows the chains of a piece of the table, from a bucket one on, where those before it were followed.
 fn follow_piece<F: Folder>(
     f: &mut F,
     files: &BlockFiles,
@@ -214,7 +212,7 @@ fn follow_piece<F: Folder>(
     first: u16,
     reached: &mut Reached,
 ) -> Result<(), ScanFault>
-    requires inside { first + 1024 ≤ table_length }
+    requires inside { first + buckets_of_piece ≤ table_length }
     requires records { ForSome (F.told f.old).files (λ image. AreRecordsOf image records.now) }
     requires met { AreReached reached.old }
     requires there { ForSome (F.told f.old).files (λ image. HasFirst files.now image (words_reached reached.old) first) }
@@ -222,18 +220,18 @@ fn follow_piece<F: Folder>(
     requires stand { RecordsStand files.now (words_reached reached.old) }
     requires many { length reached.old.ends.items ≡ first }
     ensures met { OnOk result (AreReached reached.new) }
-    ensures checked { OnOk result (ForSome (F.told f.old).files (λ image. HasFirst files.now image (words_reached reached.new) (first + 1024))) }
-    ensures table { OnOk result (ForSome (F.told f.old).files (λ image. HasRange image index (place_of_bucket first) 4096)) }
-    ensures reached { OnOk result (ForSome (F.told f.old).files (λ image. Agrees files.now image → AreFirstReached (store_of image) (first + 1024) reached.new)) }
+    ensures checked { OnOk result (ForSome (F.told f.old).files (λ image. HasFirst files.now image (words_reached reached.new) (first + buckets_of_piece))) }
+    ensures table { OnOk result (ForSome (F.told f.old).files (λ image. HasRange image index (place_of_bucket first) table_piece_length)) }
+    ensures reached { OnOk result (ForSome (F.told f.old).files (λ image. Agrees files.now image → AreFirstReached (store_of image) (first + buckets_of_piece) reached.new)) }
     ensures stand { OnOk result (RecordsStand files.now (words_reached reached.new)) }
-    ensures many { OnOk result (length reached.new.ends.items ≡ first + 1024) }
+    ensures many { OnOk result (length reached.new.ends.items ≡ first + buckets_of_piece) }
     ensures stays { Stays (F.told f.old) (F.told f.new) }
     ensures damaged { IfScanDamaged result (IsChainsDamage files.now (F.told f.new)) }
     ensures untold { ForSome (F.told f.new).files (IsOpen files.now) → IfScanDamaged result (λ _. (F.told f.new).files ≡ None) }
     ensures later { F.faults f.old ≤ F.faults f.new }
     ensures device { IfScanDevice result (Rises (F.faults f.old) (F.faults f.new)) }
 {
-    let mut table = [0u32; PIECE];
+    let mut table = [0u32; BUCKETS_OF_PIECE];
     buckets(f, first, &mut table)?;
     follow_all(f, files, records, first, &table, reached)?;
     Ok(())

@@ -149,9 +149,9 @@ fn read(alloc: Global, f: &mut Silent) -> Result<(usize, usize, [bool; 2], u64),
 #[test]
 fn a_chain_ends_before_another_bucket_and_before_a_met_record(rt: HostRuntime) -> Result<(), Fail> {
     let mut f = chained(rt.alloc())?;
-    let chain = (2, Some(RECORDS[1]), 67);
+    let chain = (2, Some(RECORDS[1]), 7);
     assert!(rt; reached(rt.alloc(), &mut f) == Ok(chain));
-    let lists = (3, 3, [true, false], 68);
+    let lists = (3, 3, [true, false], 8);
     assert!(rt; read(rt.alloc(), &mut f) == Ok(lists));
     Ok(())
 }

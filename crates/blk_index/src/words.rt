@@ -7,14 +7,17 @@ ghost use Rattle.blk_image.specs.Steps.{word_step};
 ghost use Rattle.blk_image.specs.Told.{Applies, AppliesPrefix, Passes, Stays, Rises};
 ghost use Rattle.blk_format.specs.Headers.{HasWholeIndex, bucket_of, place_of_bucket, header_length, table_length};
 ghost use Rattle.blk_io.specs.Faults.{IfDamaged, IfDevice, IsShort};
-ghost use Rattle.blk_index.specs.Table.{AreBuckets};
+ghost use Rattle.blk_index.specs.Table.{AreBuckets, buckets_of_piece};
 
 use blk_io::{Failed, Fault, FileId, Folder, read_exact, read_word, write_word};
 use blk_record::IndexHead;
 use byteorder::{ByteOrder, LittleEndian};
 
-// The bytes of the table that one call reads.
-const PIECE: usize = 4096;
+/// The most buckets that one call of [`buckets`] reads.
+pub const BUCKETS_OF_PIECE: usize = 16_384;
+
+// The bytes of their words.
+const PIECE: usize = 65_536;
 
 /// Reads the word of the header at a place in bytes.
 ///
@@ -54,12 +57,12 @@ pub fn bucket<F: Folder>(f: &mut F, number: u16) -> Result<u32, Fault>
     read_word(f, FileId::Index, IndexHead::TABLE + 4 * u64::from(number))
 }
 
-/// Reads the words of neighbouring buckets from one on into `out`, at most 1024 of them, by one folder call. So
-/// 64 calls read the whole table.
+/// Reads the words of neighbouring buckets from one on into `out`, at most 16384 of them, by one folder call. So
+/// 4 calls read the whole table.
 ///
 /// Too few bytes are a damage. `Device` comes only where the folder failed in this call.
 pub fn buckets<F: Folder>(f: &mut F, first: u16, out: &mut [u32]) -> Result<(), Fault>
-    requires few { length out.old ≤ 1024 }
+    requires few { length out.old ≤ buckets_of_piece }
     requires inside { first + length out.old ≤ table_length }
     ensures words { OnOk result (ForSome (F.told f.old).files (λ image. AreBuckets image first out.new)) }
     ensures checked { OnOk result (ForSome (F.told f.old).files (λ image. HasRange image index (place_of_bucket first) (4 * length out.old) ⊎ (length out.old ≡ 0))) }
@@ -84,7 +87,7 @@ fn read_piece<F: Folder>(
     bytes: &mut [u8],
     out: &mut [u32],
 ) -> Result<(), Fault>
-    requires few { length out.old ≤ 1024 }
+    requires few { length out.old ≤ buckets_of_piece }
     requires inside { first + length out.old ≤ table_length }
     requires size { length bytes.old ≡ 4 * length out.old }
     ensures words { OnOk result (ForSome (F.told f.old).files (λ image. AreBuckets image first out.new)) }

@@ -60,11 +60,11 @@ others-kept a b bucket words all from there =
 
 -- ---- the words that were read
 
-pub fronts-read : (words : List ℕ) (first bucket last : ℕ) (image : Image) → AreBuckets image first words → length words ≡ 1024 → first % 1024 ≡ 0 → first ≤ bucket → last ≡ first + 1024 → AreFronts words bucket last image
+pub fronts-read : (words : List ℕ) (first bucket last : ℕ) (image : Image) → AreBuckets image first words → length words ≡ 16384 → first % 16384 ≡ 0 → first ≤ bucket → last ≡ first + 16384 → AreFronts words bucket last image
 fronts-read words first bucket last image are long aligned low_first is = λ other low high.
-    let at : first + other % 1024 ≡ other = omega (arith, low, high, aligned, low_first, is) in
-    let small : other % 1024 < length words = omega (arith, long) in
-    are (other % 1024) small ∙ ap (bucket_of (byte image Index)) at
+    let at : first + other % 16384 ≡ other = omega (arith, low, high, aligned, low_first, is) in
+    let small : other % 16384 < length words = omega (arith, long) in
+    are (other % 16384) small ∙ ap (bucket_of (byte image Index)) at
 
 -- once a bucket is mended, those behind it are read still
 pub fronts-on : (a b : Told) (words : List ℕ) (bucket last : ℕ) → ForSome a.files (AreFronts words bucket last) → ForSome a.files (λ from. ForSome b.files (KeepsOtherBuckets bucket from)) → (a.files ≡ None → b.files ≡ None) → ForSome b.files (AreFronts words (bucket + 1) last)

@@ -6,6 +6,7 @@ use Rattle.blk_format.specs.Headers.{bucket_of, table_length}
 use Rattle.blk_volume.specs.Chains.{IsChain}
 use Rattle.blk_volume.specs.ListImages.{IsWritable}
 use Rattle.blk_volume.specs.View.{store_of}
+use Rattle.blk_index.specs.Table.{buckets_of_piece}
 use Rattle.blk_audit.specs.BucketEnds.{records_of}
 use Rattle.blk_repair_laws.specs.ChainRepair.{HasChainsUpTo, KeepsAllWalked, kept_records}
 
@@ -27,7 +28,7 @@ KeepsOtherBuckets bucket from image = (other : ℕ) → other ≢ bucket → buc
 
 -- the words of the buckets from one on, up to another, were read: each stands at the place that its bucket has in its piece of the table
 abbrev pub AreFronts : (words : List ℕ) (bucket last : ℕ) → Image → Type 0
-AreFronts words bucket last image = (other : ℕ) → bucket ≤ other → other < last → slice_index words (other % 1024) ≡ bucket_of (byte image Index) other
+AreFronts words bucket last image = (other : ℕ) → bucket ≤ other → other < last → slice_index words (other % buckets_of_piece) ≡ bucket_of (byte image Index) other
 
 -- the list was mended, and these are the kept records of all buckets; each bucket that is told whole is the chain of its records
 pub record AreChainsScanned (records ends : List ℕ) (whole : List Bool) (image : Image) : Type 0 where

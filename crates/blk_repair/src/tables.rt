@@ -9,6 +9,7 @@ ghost use Rattle.blk_disk.specs.Open.{IsOpen};
 ghost use Rattle.blk_disk.specs.Tables.{is_record_among};
 ghost use Rattle.blk_repair_laws.specs.ChainRepair.{AreChainsMended, chain_repair_steps, chain_steps};
 ghost use Rattle.blk_repair_laws.specs.ListRepair.{HoldsTheSame};
+ghost use Rattle.blk_index.specs.Table.{buckets_of_piece}
 ghost use Rattle.blk_audit.specs.BucketEnds.{AreEnds, records_of as records_among};
 ghost use Rattle.blk_audit.specs.Faults.{IsTableDamage};
 ghost use Rattle.blk_repair.specs.Chains.{AreChainsScanned, AreFronts, IsNextBucket, KeepsOtherBuckets};
@@ -17,18 +18,15 @@ ghost use Rattle.blk_repair.specs.Damages.{IsChainsRepairDamage, IsFailedLink};
 use crate::chains::mend_chain;
 use blk_addr::Addr;
 use blk_disk::BlockFiles;
-use blk_index::buckets;
+use blk_index::{BUCKETS_OF_PIECE, buckets};
 use blk_io::{Fault, Folder};
-
-// The words of the table that one call reads.
-const PIECE: usize = 1024;
 
 /// Makes each bucket the chain of its kept records, in rising order of the buckets.
 ///
 /// `records` are the kept records of all buckets, bucket after bucket and each chain in its order. `ends` tells for each
 /// of the 65536 buckets where its records end among them, so they begin where those of the bucket before end. A bucket
-/// for which `whole` is true is the chain of its records already. The words of 1024 buckets are read by one call, and only
-/// where one of them isn't told whole: so the table takes at most 64 calls beside its writes. A record that is to be
+/// for which `whole` is true is the chain of its records already. The words of 16384 buckets are read by one call, and only
+/// where one of them isn't told whole: so the table takes at most 4 calls beside its writes. A record that is to be
 /// written and doesn't check is a damage, and so are too few bytes.
 pub fn mend_chains<F: Folder>(
     f: &mut F,
@@ -59,12 +57,12 @@ pub fn mend_chains<F: Folder>(
     ensures later { F.faults f.old ≤ F.faults f.new }
     ensures device { IfDevice result (Rises (F.faults f.old) (F.faults f.new)) }
 {
-    let mut table = [0u32; PIECE];
+    let mut table = [0u32; BUCKETS_OF_PIECE];
     let mut read = 0;
     for i in 0..ends.len() {
         read = read_piece(f, whole[i], i as u16, read, &mut table)?;
         let own = records_of(records, ends, i);
-        mend_bucket(f, files, i as u16, table[i % PIECE], own, whole[i])?;
+        mend_bucket(f, files, i as u16, table[i % BUCKETS_OF_PIECE], own, whole[i])?;
     }
     Ok(())
 }
@@ -78,9 +76,9 @@ fn read_piece<F: Folder>(
     read: u32,
     table: &mut [u32],
 ) -> Result<u32, Fault>
-    requires size { length table.old ≡ 1024 }
+    requires size { length table.old ≡ buckets_of_piece }
     requires fronts { ForSome (F.told f.old).files (AreFronts table.old bucket read) }
-    ensures size { length table.new ≡ 1024 }
+    ensures size { length table.new ≡ buckets_of_piece }
     ensures fronts { IfOk result (λ now. ForSome (F.told f.old).files (AreFronts table.new bucket now)) }
     ensures reached { IfOk result (λ now. whole ≡ false → bucket < now) }
     ensures stays { Stays (F.told f.old) (F.told f.new) }
@@ -92,9 +90,9 @@ fn read_piece<F: Folder>(
     if whole || u32::from(bucket) < read {
         return Ok(read);
     }
-    let first = bucket - bucket % PIECE as u16;
+    let first = bucket - bucket % BUCKETS_OF_PIECE as u16;
     buckets(f, first, table)?;
-    Ok(u32::from(first) + PIECE as u32)
+    Ok(u32::from(first) + BUCKETS_OF_PIECE as u32)
 }
 
 // Makes a bucket the chain of its kept records, unless it is told whole.

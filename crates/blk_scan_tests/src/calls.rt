@@ -151,7 +151,7 @@ fn repair_calls(alloc: Global, sort: Sort, entries: u32) -> Result<u64, Fail> {
     Ok(calls_of_repair(alloc, &mut f)?)
 }
 
-// The buckets that are wrong: 16 in each piece of the table that one call reads.
+// The buckets that are wrong: 256 in each piece of the table that one call reads.
 const WRONG: u64 = 1024;
 
 // The folder calls of a repair of an empty folder in which each 64th bucket names nothing, but for those that write these buckets.
@@ -185,6 +185,6 @@ fn a_repair_of_what_is_repaired_takes_few_calls(rt: HostRuntime) -> Result<(), F
 #[test]
 fn the_table_is_read_in_pieces(rt: HostRuntime) -> Result<(), Fail> {
     let calls = table_calls(rt.alloc())?;
-    assert!(rt; calls <= 60 + 64, "{calls} calls");
+    assert!(rt; calls <= 60 + 4, "{calls} calls");
     Ok(())
 }

@@ -149,7 +149,7 @@ fn lengths_of(f: &mut Mem) -> Result<[Option<u64>; 6], Failed> {
 #[test]
 fn an_empty_folder_is_made_and_counted_by_few_calls(rt: HostRuntime) -> Result<(), Fail> {
     let mut f = empty(rt.alloc(), u64::MAX)?;
-    for most in [61, 135] {
+    for most in [61, 75] {
         let start = f.calls();
         assert!(rt; answers(rt.alloc(), &mut f, "count", Status::Ok, EMPTY)?);
         let calls = f.calls().wrapping_sub(start);

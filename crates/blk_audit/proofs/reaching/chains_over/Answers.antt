@@ -25,7 +25,7 @@ loop-piece-init g c = record {
 
 pub loop-piece-preserved : goal.loop-piece-preserved
 loop-piece-preserved g c =
-    let next : c.loop-piece.piece * 1024 + 1024 ≡ (c.loop-piece.piece + 1) * 1024 = omega arith in
+    let next : c.loop-piece.piece * 16384 + 16384 ≡ (c.loop-piece.piece + 1) * 16384 = omega arith in
     record {
       met = c.in_ok-follow_piece.ensures.met;
       reached = λ image there agrees. subst (λ (n : ℕ). AreFirstReached (store_of image) n c.follow_piece.new.reached) next (c.in_ok-follow_piece.ensures.reached image (told_now image c.loop-piece.invariant.stays there) agrees);
@@ -41,13 +41,13 @@ pub follow_piece-requires-clause-records : goal.follow_piece-requires-clause-rec
 follow_piece-requires-clause-records g c = told_stays (λ (image : Image). AreRecordsOf image c.args.records.now) c.loop-piece.invariant.stays c.requires.records
 
 pub follow_piece-requires-clause-there : goal.follow_piece-requires-clause-there
-follow_piece-requires-clause-there g c = told_stays (λ (image : Image). HasFirst c.args.files.now image (words_reached c.loop-piece.reached) (c.loop-piece.piece * 1024)) c.loop-piece.invariant.stays c.loop-piece.invariant.way
+follow_piece-requires-clause-there g c = told_stays (λ (image : Image). HasFirst c.args.files.now image (words_reached c.loop-piece.reached) (c.loop-piece.piece * 16384)) c.loop-piece.invariant.stays c.loop-piece.invariant.way
 
 pub returns-clause-checked : goal.returns-clause-checked
 returns-clause-checked g c image there =
-    let e : c.loop-piece.piece ≡ 64 = omega (arith, c.loop-piece-test.false) in
+    let e : c.loop-piece.piece ≡ 4 = omega (arith, c.loop-piece-test.false) in
     let table = c.loop-piece.invariant.table image there (omega (arith, e)) in
-    let all : c.loop-piece.piece * 1024 ≡ 65536 = omega (arith, e) in
+    let all : c.loop-piece.piece * 16384 ≡ 65536 = omega (arith, e) in
     record {
       table = omega (arith, table, e);
       chains = subst (HasFirst c.args.files.now image (words_reached c.loop-piece.reached)) all (c.loop-piece.invariant.way image there);
@@ -58,19 +58,19 @@ returns-in_err-follow_piece-clause-untold g c =
     untold_on c.follow_piece.result c.from_residual.result c.in_err-follow_piece.field-0.0 {a = g.F.Folder.told c.args.f.now} (IsOpen c.args.files.now) (IsOpen c.args.files.now) (λ image is. is) (c.follow_piece.ensures.stays ∙ c.loop-piece.invariant.stays) c.follow_piece.ensures.untold c.in_err-follow_piece.was c.from_residual.ensures.1
 
 pub follow_piece-requires-clause-before : goal.follow_piece-requires-clause-before
-follow_piece-requires-clause-before g c = told_stays (λ (image : Image). Agrees c.args.files.now image → AreFirstReached (store_of image) (c.loop-piece.piece * 1024) c.loop-piece.reached) c.loop-piece.invariant.stays c.loop-piece.invariant.reached
+follow_piece-requires-clause-before g c = told_stays (λ (image : Image). Agrees c.args.files.now image → AreFirstReached (store_of image) (c.loop-piece.piece * 16384) c.loop-piece.reached) c.loop-piece.invariant.stays c.loop-piece.invariant.reached
 
 pub returns-clause-reached : goal.returns-clause-reached
 returns-clause-reached g c image there agrees =
-    let e : c.loop-piece.piece * 1024 ≡ 65536 = omega (arith, c.loop-piece-test.false) in
+    let e : c.loop-piece.piece * 16384 ≡ 65536 = omega (arith, c.loop-piece-test.false) in
     (subst (λ (n : ℕ). AreFirstReached (store_of image) n c.loop-piece.reached) e (c.loop-piece.invariant.reached image there agrees)).words
 
 pub returns-clause-buckets : goal.returns-clause-buckets
 returns-clause-buckets g c image there agrees =
-    let e : c.loop-piece.piece * 1024 ≡ 65536 = omega (arith, c.loop-piece-test.false) in
+    let e : c.loop-piece.piece * 16384 ≡ 65536 = omega (arith, c.loop-piece-test.false) in
     are_buckets (store_of image) c.loop-piece.reached (subst (λ (n : ℕ). AreFirstReached (store_of image) n c.loop-piece.reached) e (c.loop-piece.invariant.reached image there agrees))
 
 pub returns-clause-ends : goal.returns-clause-ends
 returns-clause-ends g c =
-    let e : c.loop-piece.piece * 1024 ≡ 65536 = omega (arith, c.loop-piece-test.false) in
+    let e : c.loop-piece.piece * 16384 ≡ 65536 = omega (arith, c.loop-piece-test.false) in
     has_buckets c.loop-piece.reached c.loop-piece.invariant.met (c.loop-piece.invariant.many ∙ e)

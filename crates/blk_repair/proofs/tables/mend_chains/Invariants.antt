@@ -9,7 +9,7 @@ abbrev pub invariant-loop-i : goal.invariant-loop-i
 invariant-loop-i g l = record {
   are : AreMendedTo (g.F.Folder.told l.fn.f) (g.F.Folder.told l.f) l.records l.ends l.whole l.i;
   is_open : ForSome (g.F.Folder.told l.f).files (IsOpen l.files);
-  size : length l.table ≡ 1024;
+  size : length l.table ≡ 16384;
   fronts : ForSome (g.F.Folder.told l.f).files (AreFronts l.table l.i l.read);
   later : g.F.Folder.faults l.fn.f ≤ g.F.Folder.faults l.f;
 }
