@@ -9,7 +9,7 @@ ghost use Rattle.blk_disk.specs.Open.{IsOpen};
 ghost use Rattle.blk_disk.specs.Tables.{is_record_among};
 ghost use Rattle.blk_repair_laws.specs.ChainRepair.{AreChainsMended, chain_repair_steps, chain_steps};
 ghost use Rattle.blk_repair_laws.specs.ListRepair.{HoldsTheSame};
-ghost use Rattle.blk_index.specs.Table.{buckets_of_piece}
+ghost use Rattle.blk_index.specs.Table.{buckets_of_piece};
 ghost use Rattle.blk_audit.specs.BucketEnds.{AreEnds, records_of as records_among};
 ghost use Rattle.blk_audit.specs.Faults.{IsTableDamage};
 ghost use Rattle.blk_repair.specs.Chains.{AreChainsScanned, AreFronts, IsNextBucket, KeepsOtherBuckets};
@@ -62,7 +62,14 @@ pub fn mend_chains<F: Folder>(
     for i in 0..ends.len() {
         read = read_piece(f, whole[i], i as u16, read, &mut table)?;
         let own = records_of(records, ends, i);
-        mend_bucket(f, files, i as u16, table[i % BUCKETS_OF_PIECE], own, whole[i])?;
+        mend_bucket(
+            f,
+            files,
+            i as u16,
+            table[i % BUCKETS_OF_PIECE],
+            own,
+            whole[i],
+        )?;
     }
     Ok(())
 }
