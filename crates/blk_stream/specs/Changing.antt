@@ -3,7 +3,7 @@ use Rattle.std.specs.Prelude.{ℕ, ◌≡◌, ◌+◌, List, [], ◌∷◌}
 use Rattle.blk_image.specs.Image.{Block, Image}
 use Rattle.blk_image.specs.Footprint.{Footprint, SameOutside, either, one_word}
 use Rattle.blk_format.specs.Address.{file_selector, place}
-use Rattle.blk_format.specs.Sealed.{RecordChecks}
+use Rattle.blk_format.specs.Sealed.{RecordChecks, record_at}
 use Rattle.blk_stream.specs.Streams.{address_place, address_word, size_place, size_word}
 
 -- a word of a record
@@ -22,6 +22,11 @@ place_changes i size word = (size_place i, size) ∷ (address_place i, word) ∷
 pub record HasWords (entry i size word : ℕ) (image : Image) : Type 0 where
   pub size_is : size_word image entry i ≡ size
   pub word_is : address_word image entry i ≡ word
+
+-- these are the bytes of the record, and it has these words for a stream
+pub record IsStreamRead (bytes : List ℕ) (entry i size word : ℕ) (image : Image) : Type 0 where
+  pub read : bytes ≡ record_at image entry
+  pub words : HasWords entry i size word image
 
 -- while a stream gets other words nothing else differs, and the record checks
 pub record NamesInProgress (entry i : ℕ) (from image : Image) : Type 0 where

@@ -63,15 +63,13 @@ fn drop_stream<F: Folder>(
     requires stands { IsTrue (stands_among files.now entry) }
     requires long { length bytes.old ≡ entry_size }
     requires agrees { ForSome (F.told f.old).files (Agrees files.now) }
-    requires read { ForSome (F.told f.old).files (λ image. bytes.old ≡ record_at image entry) }
-    requires checks { ForSome (F.told f.old).files (RecordChecks entry) }
-    ensures dropped { OnOk result (ForSome (F.told f.old).files (λ from. ForSome (F.told f.new).files (DropsStream entry stream from))) }
-    ensures read { OnOk result (ForSome (F.told f.new).files (λ image. bytes.new ≡ record_at image entry)) }
+    ensures dropped { OnOk result (ForSome (F.told f.old).files (λ from. bytes.old ≡ record_at from entry → RecordChecks entry from → ForSome (F.told f.new).files (DropsStream entry stream from))) }
+    ensures read { OnOk result (ForSome (F.told f.old).files (λ from. bytes.old ≡ record_at from entry → ForSome (F.told f.new).files (λ image. bytes.new ≡ record_at image entry))) }
     ensures long { length bytes.new ≡ entry_size }
-    ensures stops { ForSome (F.told f.old).files (λ from. Passes (F.told f.old) (F.told f.new) (DropsStreamInProgress entry stream from)) }
+    ensures stops { ForSome (F.told f.old).files (λ from. bytes.old ≡ record_at from entry → RecordChecks entry from → Passes (F.told f.old) (F.told f.new) (DropsStreamInProgress entry stream from)) }
     ensures agrees { ForSome (F.told f.new).files (Agrees files.now) }
     ensures damaged { IfDamaged result (IsStreamDropDamage files.now (F.told f.new) entry stream) }
-    ensures untold { ForSome (F.told f.old).files (StreamCanBeDropped files.now entry stream) → IfDamaged result (λ _. (F.told f.old).files ≡ None) }
+    ensures untold { ForSome (F.told f.old).files (λ from. bytes.old ≡ record_at from entry × RecordChecks entry from × StreamCanBeDropped files.now entry stream from) → IfDamaged result (λ _. (F.told f.old).files ≡ None) }
     ensures silent { (F.told f.old).files ≡ None → (F.told f.new).files ≡ None }
     ensures later { F.faults f.old ≤ F.faults f.new }
     ensures device { IfDevice result (Rises (F.faults f.old) (F.faults f.new)) }

@@ -40,13 +40,11 @@ pub(crate) fn write_inside<F: Folder>(
     requires inside { IsInside files.now addr 0 size }
     requires few { offset + length bytes.now ≤ size }
     requires agrees { ForSome (F.told f.old).files (Agrees files.now) }
-    requires read { ForSome (F.told f.old).files (λ image. record_bytes.old ≡ record_at image entry) }
-    requires checks { ForSome (F.told f.old).files (RecordChecks entry) }
     requires external { ForSome (F.told f.old).files (IsInFile addr 0 old) }
     ensures steps { OnOk result (Applies (F.told f.old) (F.told f.new) (inside_steps record_bytes.old entry stream addr old size offset bytes.now)) }
     ensures prefix { AppliesPrefix (F.told f.old) (F.told f.new) (inside_steps record_bytes.old entry stream addr old size offset bytes.now) }
-    ensures written { OnOk result (ForSome (F.told f.old).files (λ from. HasStreamLength addr old from → (kind_of addr ≢ external → ShareNoBlock entry addr) → ForSome (F.told f.new).files (WritesInside entry stream addr old size offset bytes.now from))) }
-    ensures stops { ForSome (F.told f.old).files (λ from. (kind_of addr ≢ external → ShareNoBlock entry addr) → Passes (F.told f.old) (F.told f.new) (WritesInProgress entry stream addr from)) }
+    ensures written { OnOk result (ForSome (F.told f.old).files (λ from. record_bytes.old ≡ record_at from entry → RecordChecks entry from → HasStreamLength addr old from → (kind_of addr ≢ external → ShareNoBlock entry addr) → ForSome (F.told f.new).files (WritesInside entry stream addr old size offset bytes.now from))) }
+    ensures stops { ForSome (F.told f.old).files (λ from. record_bytes.old ≡ record_at from entry → RecordChecks entry from → (kind_of addr ≢ external → ShareNoBlock entry addr) → Passes (F.told f.old) (F.told f.new) (WritesInProgress entry stream addr from)) }
     ensures agrees { ForSome (F.told f.new).files (Agrees files.now) }
     ensures later { F.faults f.old ≤ F.faults f.new }
     ensures failed { OnErr result (Rises (F.faults f.old) (F.faults f.new)) }

@@ -12,7 +12,7 @@ ghost use Rattle.blk_disk.specs.Tables.{Agrees, stands_among};
 ghost use Rattle.blk_alloc.specs.Extending.{KeepsStanding};
 ghost use Rattle.blk_alloc.specs.Owning.{IsCause};
 ghost use Rattle.blk_stream.specs.Streams.{may_keep};
-ghost use Rattle.blk_stream.specs.Changing.{HasWords};
+ghost use Rattle.blk_stream.specs.Changing.{IsStreamRead};
 ghost use Rattle.blk_stream.specs.Copying.{HasOldPlace};
 ghost use Rattle.blk_stream.specs.Freeing.{MayBeFreed};
 ghost use Rattle.blk_stream.specs.Moving.{CanBeFilled, FillsInProgress, IsFillDamage, IsPlaceFilled, LeavesPlace, LeavesPlaceInProgress};
@@ -116,14 +116,12 @@ pub(crate) fn write_moved<F: Folder>(
     requires other { have_one_storage old.size size ≡ false }
     requires agrees { ForSome (F.told f.old).files (Agrees files.old) }
     requires complete { ForSome (F.told f.old).files HasWholeIndex }
-    requires read { ForSome (F.told f.old).files (λ image. record_bytes.old ≡ record_at image entry) }
-    requires words { ForSome (F.told f.old).files (HasWords entry stream old.size (unwrap_or old.addr 0)) }
-    ensures written { OnOk result (ForSome (F.told f.old).files (λ from. CanBeWritten files.old entry stream size from → (cut : Bool) → size ≡ size_after cut old.size offset (length bytes.now) → ForSome (F.told f.new).files (StreamIsWritten files.old files.new entry stream offset cut bytes.now from))) }
+    ensures written { OnOk result (ForSome (F.told f.old).files (λ from. IsStreamRead record_bytes.old entry stream old.size (unwrap_or old.addr 0) from → CanBeWritten files.old entry stream size from → (cut : Bool) → size ≡ size_after cut old.size offset (length bytes.now) → ForSome (F.told f.new).files (StreamIsWritten files.old files.new entry stream offset cut bytes.now from))) }
     ensures keeps { KeepsStanding files.old files.new }
     ensures agrees { OnOk result (ForSome (F.told f.new).files (Agrees files.new)) }
-    ensures stops { ForSome (F.told f.old).files (λ from. CanBeWritten files.old entry stream size from → (cut : Bool) → size ≡ size_after cut old.size offset (length bytes.now) → Passes (F.told f.old) (F.told f.new) (WritesStream files.old entry stream size offset cut bytes.now from)) }
+    ensures stops { ForSome (F.told f.old).files (λ from. IsStreamRead record_bytes.old entry stream old.size (unwrap_or old.addr 0) from → CanBeWritten files.old entry stream size from → (cut : Bool) → size ≡ size_after cut old.size offset (length bytes.now) → Passes (F.told f.old) (F.told f.new) (WritesStream files.old entry stream size offset cut bytes.now from)) }
     ensures damaged { IfDamaged result (IsWriteDamage files.old files.new (F.told f.old) (F.told f.new) entry stream) }
-    ensures untold { ForSome (F.told f.old).files (CanBeWritten files.old entry stream size) → IfDamaged result (λ _. (F.told f.old).files ≡ None) }
+    ensures untold { ForSome (F.told f.old).files (λ from. IsStreamRead record_bytes.old entry stream old.size (unwrap_or old.addr 0) from × CanBeWritten files.old entry stream size from) → IfDamaged result (λ _. (F.told f.old).files ≡ None) }
     ensures silent { (F.told f.old).files ≡ None → (F.told f.new).files ≡ None }
     ensures later { F.faults f.old ≤ F.faults f.new }
     ensures device { IfDevice result (Rises (F.faults f.old) (F.faults f.new)) }

@@ -5,14 +5,14 @@ ghost use Rattle.blk_image.specs.Told.{Passes, Rises};
 ghost use Rattle.blk_format.specs.Address.{blocks_256, kind_of};
 ghost use Rattle.blk_format.specs.Headers.{HasWholeIndex};
 ghost use Rattle.blk_format.specs.Records.{entry_size};
-ghost use Rattle.blk_format.specs.Sealed.{RecordChecks, record_at};
+ghost use Rattle.blk_format.specs.Sealed.{RecordChecks};
 ghost use Rattle.blk_volume.specs.Entries.{most_stream_bytes};
 ghost use Rattle.blk_io.specs.Faults.{IfDamaged, IfDevice};
 ghost use Rattle.blk_disk.specs.Tables.{Agrees, stands_among};
 ghost use Rattle.blk_entry.specs.Keys.{IsInFile};
 ghost use Rattle.blk_alloc.specs.Extending.{KeepsStanding};
 ghost use Rattle.blk_stream.specs.Streams.{HasStreamPlace, address_word, may_keep, size_word};
-ghost use Rattle.blk_stream.specs.Changing.{HasWords};
+ghost use Rattle.blk_stream.specs.Changing.{IsStreamRead};
 ghost use Rattle.blk_stream.specs.Writing as writes;
 ghost use Rattle.blk_stream.specs.Written.{CanBeWritten, IsWriteDamage, StreamIsWritten, WritesStream};
 
@@ -106,15 +106,12 @@ fn write_stored<F: Folder>(
     requires agrees { ForSome (F.told f.old).files (Agrees files.old) }
     requires complete { ForSome (F.told f.old).files HasWholeIndex }
     requires there { ForSome (F.told f.old).files (IsInFile (unwrap_or old.addr 0) 0 old.size) }
-    requires read { ForSome (F.told f.old).files (λ image. record_bytes.old ≡ record_at image entry) }
-    requires checks { ForSome (F.told f.old).files (RecordChecks entry) }
-    requires words { ForSome (F.told f.old).files (HasWords entry stream old.size (unwrap_or old.addr 0)) }
-    ensures written { OnOk result (ForSome (F.told f.old).files (λ from. CanBeWritten files.old entry stream (writes.size_after cut old.size offset (length bytes.now)) from → ForSome (F.told f.new).files (StreamIsWritten files.old files.new entry stream offset cut bytes.now from))) }
+    ensures written { OnOk result (ForSome (F.told f.old).files (λ from. IsStreamRead record_bytes.old entry stream old.size (unwrap_or old.addr 0) from → CanBeWritten files.old entry stream (writes.size_after cut old.size offset (length bytes.now)) from → ForSome (F.told f.new).files (StreamIsWritten files.old files.new entry stream offset cut bytes.now from))) }
     ensures keeps { KeepsStanding files.old files.new }
     ensures agrees { OnOk result (ForSome (F.told f.new).files (Agrees files.new)) }
-    ensures stops { ForSome (F.told f.old).files (λ from. CanBeWritten files.old entry stream (writes.size_after cut old.size offset (length bytes.now)) from → Passes (F.told f.old) (F.told f.new) (WritesStream files.old entry stream (writes.size_after cut old.size offset (length bytes.now)) offset cut bytes.now from)) }
+    ensures stops { ForSome (F.told f.old).files (λ from. IsStreamRead record_bytes.old entry stream old.size (unwrap_or old.addr 0) from → CanBeWritten files.old entry stream (writes.size_after cut old.size offset (length bytes.now)) from → Passes (F.told f.old) (F.told f.new) (WritesStream files.old entry stream (writes.size_after cut old.size offset (length bytes.now)) offset cut bytes.now from)) }
     ensures damaged { IfDamaged result (IsWriteDamage files.old files.new (F.told f.old) (F.told f.new) entry stream) }
-    ensures untold { ForSome (F.told f.old).files (CanBeWritten files.old entry stream (writes.size_after cut old.size offset (length bytes.now))) → IfDamaged result (λ _. (F.told f.old).files ≡ None) }
+    ensures untold { ForSome (F.told f.old).files (λ from. IsStreamRead record_bytes.old entry stream old.size (unwrap_or old.addr 0) from × CanBeWritten files.old entry stream (writes.size_after cut old.size offset (length bytes.now)) from) → IfDamaged result (λ _. (F.told f.old).files ≡ None) }
     ensures silent { (F.told f.old).files ≡ None → (F.told f.new).files ≡ None }
     ensures later { F.faults f.old ≤ F.faults f.new }
     ensures device { IfDevice result (Rises (F.faults f.old) (F.faults f.new)) }

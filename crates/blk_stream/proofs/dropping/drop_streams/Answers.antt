@@ -7,7 +7,7 @@ use Rattle.blk_format.specs.Sealed.{RecordChecks, record_at}
 use Rattle.blk_format.proofs.SealedRecords.{entry_bytes}
 use Rattle.blk_io.specs.declared.folder.FileId.TheVariants as FileId
 use Rattle.blk_io.specs.Faults.{IsShort}
-use Rattle.blk_io.proofs.Carried.{carried, if_damaged_weaker}
+use Rattle.blk_io.proofs.Carried.{carried, if_damaged_weaker, told_at_end}
 use Rattle.blk_disk.specs.Tables.{Agrees}
 use Rattle.blk_disk.specs.Unsealed.{IsUnsealed}
 use Rattle.blk_stream.specs.Dropping.{AreDropped, DropsInProgress, IsDropDamage, StreamsCanBeDropped}
@@ -45,7 +45,7 @@ pub returns-in_err-drop_stream-clause-stops : goal.returns-in_err-drop_stream-cl
 returns-in_err-drop_stream-clause-stops g c from there good =
     passes_stayed c.in_ok-read_record.ensures.stays
     (next_passes (g.F.Folder.told c.read_record.new.f) (g.F.Folder.told c.loop-stream.f) (g.F.Folder.told c.drop_stream.new.f) c.args.files.now c.args.entry c.loop-stream.stream c.loop-stream.bytes c.loop-stream.bytes c.loop-stream-test.true c.loop-stream.invariant.has
-    c.drop_stream.ensures.stops from (ap (λ (t : Told). t.files) c.in_ok-read_record.ensures.stays ∙ there))
+    (λ mid at. c.drop_stream.ensures.stops mid at (c.loop-stream.invariant.has.read mid at) (c.loop-stream.invariant.has.checks mid at)) from (ap (λ (t : Told). t.files) c.in_ok-read_record.ensures.stays ∙ there))
 
 pub returns-in_err-drop_stream-clause-untold : goal.returns-in_err-drop_stream-clause-untold
 returns-in_err-drop_stream-clause-untold g c can =
@@ -53,14 +53,21 @@ returns-in_err-drop_stream-clause-untold g c can =
     carried c.drop_stream.result c.from_residual-in_err-drop_stream.result c.in_err-drop_stream.field-0.0 (λ _. (g.F.Folder.told c.args.f.now).files ≡ None) c.in_err-drop_stream.was c.from_residual-in_err-drop_stream.ensures.1
     (if_damaged_weaker c.drop_stream.result _ _ (λ damage none. ap (λ (t : Told). t.files) (sym c.in_ok-read_record.ensures.stays) ∙ has.back none)
     (c.drop_stream.ensures.untold
-    (can_next (g.F.Folder.told c.read_record.new.f) (g.F.Folder.told c.loop-stream.f) (g.F.Folder.told c.drop_stream.new.f) c.args.files.now c.args.entry c.loop-stream.stream c.loop-stream.bytes c.loop-stream.bytes c.loop-stream-test.true has
-    (subst (λ (t : Told). ForSome t.files (Agrees c.args.files.now)) (sym c.in_ok-read_record.ensures.stays) c.requires.agrees)
-    (subst (λ (t : Told). ForSome t.files (StreamsCanBeDropped c.args.entry)) (sym c.in_ok-read_record.ensures.stays) can))))
+    (λ mid at. (
+      has.read mid at,
+      has.checks mid at,
+      can_next (g.F.Folder.told c.read_record.new.f) (g.F.Folder.told c.loop-stream.f) (g.F.Folder.told c.drop_stream.new.f) c.args.files.now c.args.entry c.loop-stream.stream c.loop-stream.bytes c.loop-stream.bytes c.loop-stream-test.true has
+          (subst (λ (t : Told). ForSome t.files (Agrees c.args.files.now)) (sym c.in_ok-read_record.ensures.stays) c.requires.agrees)
+          (subst (λ (t : Told). ForSome t.files (StreamsCanBeDropped c.args.entry)) (sym c.in_ok-read_record.ensures.stays) can) mid at,
+    ))))
 
 pub loop-stream-preserved : goal.loop-stream-preserved
 loop-stream-preserved g c = record {
   has = next_has (g.F.Folder.told c.read_record.new.f) (g.F.Folder.told c.loop-stream.f) (g.F.Folder.told c.drop_stream.new.f) c.args.files.now c.args.entry c.loop-stream.stream c.loop-stream.bytes c.drop_stream.new.bytes c.loop-stream-test.true c.loop-stream.invariant.has
-      c.drop_stream.ensures.stops c.in_ok-drop_stream.ensures.dropped c.in_ok-drop_stream.ensures.read c.drop_stream.ensures.agrees c.drop_stream.ensures.silent c.drop_stream.ensures.long;
+      (λ mid at. c.drop_stream.ensures.stops mid at (c.loop-stream.invariant.has.read mid at) (c.loop-stream.invariant.has.checks mid at))
+      (λ mid at. c.in_ok-drop_stream.ensures.dropped mid at (c.loop-stream.invariant.has.read mid at) (c.loop-stream.invariant.has.checks mid at))
+      (told_at_end (g.F.Folder.told c.loop-stream.f).files (g.F.Folder.told c.drop_stream.new.f).files (λ image. c.drop_stream.new.bytes ≡ record_at image c.args.entry) c.drop_stream.ensures.silent (λ mid at. c.in_ok-drop_stream.ensures.read mid at (c.loop-stream.invariant.has.read mid at)))
+      c.drop_stream.ensures.agrees c.drop_stream.ensures.silent c.drop_stream.ensures.long;
   later = let one = c.loop-stream.invariant.later in let other = c.drop_stream.ensures.later in omega (arith, one, other);
 }
 

@@ -11,10 +11,10 @@ use Rattle.blk_stream.proofs.inside.write_inside.Given as given
 use Rattle.blk_stream.proofs.inside.write_inside.Goals as goal
 
 pub returns-in_err-write_here-clause-stops : goal.returns-in_err-write_here-clause-stops
-returns-in_err-write_here-clause-stops g c from there apart =
+returns-in_err-write_here-clause-stops g c from there read checks apart =
     passes_part (WritesInProgress c.args.entry c.args.stream c.args.addr from) (WritesInProgress c.args.entry c.args.stream c.args.addr from) c.in_err-write_here.ensures.prefix (quiet_here c.args.addr c.args.old c.args.size c.args.offset c.args.bytes.now) (λ image h. h)
     (λ image now. subst (λ (i : Image). Along (WritesInProgress c.args.entry c.args.stream c.args.addr from) i (here_steps c.args.addr c.args.old c.args.size c.args.offset c.args.bytes.now)) (some_inj (sym there ∙ now))
-    (here_moments c.args.files.now c.args.entry c.args.stream c.args.addr c.args.old c.args.size c.args.offset c.args.bytes.now c.requires.kind c.requires.stands c.requires.stream c.requires.inside c.requires.few apart from (c.requires.agrees from there) (c.requires.checks from there)))
+    (here_moments c.args.files.now c.args.entry c.args.stream c.args.addr c.args.old c.args.size c.args.offset c.args.bytes.now c.requires.kind c.requires.stands c.requires.stream c.requires.inside c.requires.few apart from (c.requires.agrees from there) checks))
 
 part : (g : given.Over) (c : goal.After-slice_known-2-1 g) → AppliesPrefix (g.F.Folder.told c.args.f.now) (g.F.Folder.told c.write_size.new.f) (inside_steps c.args.record_bytes.now c.args.entry c.args.stream c.args.addr c.args.old c.args.size c.args.offset c.args.bytes.now)
 part g c = part_then c.in_ok-write_here.ensures.steps c.write_size.ensures.prefix
@@ -26,16 +26,16 @@ pub returns-clause-prefix : goal.returns-clause-prefix
 returns-clause-prefix g c = part g c
 
 pub returns-clause-stops : goal.returns-clause-stops
-returns-clause-stops g c from there apart =
+returns-clause-stops g c from there read checks apart =
     passes_part (WritesInProgress c.args.entry c.args.stream c.args.addr from) (WritesInProgress c.args.entry c.args.stream c.args.addr from) (part g c) (quiet_inside c.args.record_bytes.now c.args.entry c.args.stream c.args.addr c.args.old c.args.size c.args.offset c.args.bytes.now) (λ image h. h)
     (λ image now. subst (λ (i : Image). Along (WritesInProgress c.args.entry c.args.stream c.args.addr from) i (inside_steps c.args.record_bytes.now c.args.entry c.args.stream c.args.addr c.args.old c.args.size c.args.offset c.args.bytes.now)) (some_inj (sym there ∙ now))
-    (inside_moments c.args.files.now c.args.entry c.args.stream c.args.addr c.args.old c.args.size c.args.offset c.args.bytes.now c.requires.kind c.requires.stands c.requires.stream c.requires.inside c.requires.few apart from (c.requires.agrees from there) (c.requires.checks from there) c.args.record_bytes.now (c.requires.read from there)))
+    (inside_moments c.args.files.now c.args.entry c.args.stream c.args.addr c.args.old c.args.size c.args.offset c.args.bytes.now c.requires.kind c.requires.stands c.requires.stream c.requires.inside c.requires.few apart from (c.requires.agrees from there) checks c.args.record_bytes.now read))
 
 pub returns-clause-written : goal.returns-clause-written
 returns-clause-written g c =
     on_ok_weaker c.write_size.result
-    (λ grown from there full apart.
+    (λ grown from there read checks full apart.
     told_whole (WritesInside c.args.entry c.args.stream c.args.addr c.args.old c.args.size c.args.offset c.args.bytes.now from) (grows_then c.in_ok-write_here.ensures.steps grown)
     (λ image now. subst (λ (i : Image). WritesInside c.args.entry c.args.stream c.args.addr c.args.old c.args.size c.args.offset c.args.bytes.now from (after (inside_steps c.args.record_bytes.now c.args.entry c.args.stream c.args.addr c.args.old c.args.size c.args.offset c.args.bytes.now) i)) (some_inj (sym there ∙ now))
-    (written_inside c.args.files.now c.args.entry c.args.stream c.args.addr c.args.old c.args.size c.args.offset c.args.bytes.now c.requires.kind c.requires.stands c.requires.stream c.requires.inside c.requires.few apart from (c.requires.agrees from there) (c.requires.checks from there) full c.args.record_bytes.now (c.requires.read from there) (omega (arith, c.ranges.size.fits)))))
+    (written_inside c.args.files.now c.args.entry c.args.stream c.args.addr c.args.old c.args.size c.args.offset c.args.bytes.now c.requires.kind c.requires.stands c.requires.stream c.requires.inside c.requires.few apart from (c.requires.agrees from there) checks full c.args.record_bytes.now read (omega (arith, c.ranges.size.fits)))))
     c.write_size.ensures.steps

@@ -15,7 +15,7 @@ use Rattle.blk_disk.specs.Unsealed.{IsUnsealed}
 use Rattle.blk_entry.specs.Keys.{IsInFile}
 use Rattle.blk_entry.proofs.KeyPlaces.{damaged_any}
 use Rattle.blk_stream.specs.Streams.{address_word, may_keep, size_word}
-use Rattle.blk_stream.specs.Changing.{HasWords}
+use Rattle.blk_stream.specs.Changing.{HasWords, IsStreamRead}
 use Rattle.blk_stream.specs.Writing as writes
 use Rattle.blk_stream.specs.Written.{CanBeWritten, IsWriteDamage, WritesStream}
 use Rattle.blk_stream.proofs.PlacesLeft.{read_size, read_word}
@@ -68,9 +68,6 @@ write_stored-requires-clause-there g c image now =
     let has = words g c image now in
     subst (λ (v : ℕ). IsInFile v 0 c.in_ok-old.old.size image) has.word_is (subst (λ (n : ℕ). IsInFile (address_word image c.args.entry c.args.stream) 0 n image) has.size_is (c.requires.there image there))
 
-pub write_stored-requires-clause-words : goal.write_stored-requires-clause-words
-write_stored-requires-clause-words g c = words g c
-
 pub returns-clause-placed : goal.returns-clause-placed
 returns-clause-placed g c =
     on_ok_weaker c.write_stored.result
@@ -80,15 +77,21 @@ returns-clause-placed g c =
     sym (λ j. may_keep c.args.files.now (size j) (word j)) ∙ c.in_ok-old.ensures.keeps)
     c.write_stored.ensures.written
 
--- the size of the stream, as it was read
+-- the record and the words of the stream were read
+stored_is : (g : given.Over) (c : goal.After-record_bytes-5-1 g) (from : Image) → (g.F.Folder.told c.args.f.now).files ≡ Some from → IsStreamRead c.read_record.new.bytes c.args.entry c.args.stream c.in_ok-old.old.size (unwrap_or c.in_ok-old.old.addr 0) from
+stored_is g c from there = record {
+  read = c.in_ok-read_record.ensures.bytes from there;
+  words = read_words from c.args.entry c.args.stream c.read_record.new.bytes c.in_ok-old.old c.requires.kind c.requires.stream (c.in_ok-read_record.ensures.bytes from there) c.in_ok-old.ensures.stored;
+}
+
 size_read : (g : given.Over) (c : goal.After-record_bytes-5-1 g) (from : Image) → (g.F.Folder.told c.args.f.now).files ≡ Some from → size_word from c.args.entry c.args.stream ≡ c.in_ok-old.old.size
-size_read g c from there = (read_words from c.args.entry c.args.stream c.read_record.new.bytes c.in_ok-old.old c.requires.kind c.requires.stream (c.in_ok-read_record.ensures.bytes from there) c.in_ok-old.ensures.stored).size_is
+size_read g c from there = (stored_is g c from there).words.size_is
 
 pub returns-clause-written : goal.returns-clause-written
 returns-clause-written g c =
     on_ok_weaker c.write_stored.result
     (λ done from there can.
-    done from (ap (λ (t : Told). t.files) c.in_ok-read_record.ensures.stays ∙ there)
+    done from (ap (λ (t : Told). t.files) c.in_ok-read_record.ensures.stays ∙ there) (stored_is g c from there)
     (subst (λ (n : ℕ). CanBeWritten c.args.files.now c.args.entry c.args.stream (writes.size_after c.args.cut n c.args.offset (length c.args.bytes.now)) from) (size_read g c from there) can))
     c.write_stored.ensures.written
 
@@ -97,7 +100,7 @@ returns-clause-stops g c from there can =
     let e = size_read g c from there in
     passes_stayed c.in_ok-read_record.ensures.stays
     (subst (λ (n : ℕ). Passes (g.F.Folder.told c.read_record.new.f) (g.F.Folder.told c.write_stored.new.f) (WritesStream c.args.files.now c.args.entry c.args.stream (writes.size_after c.args.cut n c.args.offset (length c.args.bytes.now)) c.args.offset c.args.cut c.args.bytes.now from)) (sym e)
-    (c.write_stored.ensures.stops from (ap (λ (t : Told). t.files) c.in_ok-read_record.ensures.stays ∙ there)
+    (c.write_stored.ensures.stops from (ap (λ (t : Told). t.files) c.in_ok-read_record.ensures.stays ∙ there) (stored_is g c from there)
     (subst (λ (n : ℕ). CanBeWritten c.args.files.now c.args.entry c.args.stream (writes.size_after c.args.cut n c.args.offset (length c.args.bytes.now)) from) e can)))
 
 pub returns-clause-untold : goal.returns-clause-untold
@@ -106,4 +109,4 @@ returns-clause-untold g c can =
     (c.write_stored.ensures.untold
     (λ from now.
     let there : (g.F.Folder.told c.args.f.now).files ≡ Some from = ap (λ (t : Told). t.files) (sym c.in_ok-read_record.ensures.stays) ∙ now in
-    subst (λ (n : ℕ). CanBeWritten c.args.files.now c.args.entry c.args.stream (writes.size_after c.args.cut n c.args.offset (length c.args.bytes.now)) from) (size_read g c from there) (can from there)))
+    (stored_is g c from there, subst (λ (n : ℕ). CanBeWritten c.args.files.now c.args.entry c.args.stream (writes.size_after c.args.cut n c.args.offset (length c.args.bytes.now)) from) (size_read g c from there) (can from there))))

@@ -1,10 +1,13 @@
 use Rattle.std.proofs.Common.{◌≡◌, ◌+◌, ◌≤◌, ℕ, Option, true, refl, sym, ◌∙◌, ap, subst, arith}
 use Rattle.std.specs.Prelude.{length, unwrap_or}
 use Rattle.blk_image.proofs.Runs.{passes_none, some_inj}
+use Rattle.blk_format.specs.Sealed.{RecordChecks, record_at}
 use Rattle.blk_volume.specs.Entries.{most_stream_bytes}
 use Rattle.blk_stream.specs.Streams.{may_keep}
+use Rattle.blk_stream.specs.Changing.{HasWords}
 use Rattle.blk_stream.specs.Writing as writes
 use Rattle.blk_stream.specs.Written.{CanBeWritten, StreamIsWritten, WritesStream}
+use Rattle.blk_stream.proofs.Joined.{told_is}
 use Rattle.blk_stream.proofs.StreamInside.{inside_end, inside_told, nothing_writes, nothing_written, one_none, size_few, size_most, storage_stays}
 use Rattle.blk_stream.proofs.StreamPlaces.{keeps_inside, may_parts}
 use Rattle.blk_stream.proofs.writing.write_stored.Goals as goal
@@ -24,7 +27,7 @@ write_moved-requires-clause-few g c = subst (λ (n : ℕ). c.args.offset + lengt
 
 pub returns-then-not-have_one_storage-clause-untold : goal.returns-then-not-have_one_storage-clause-untold
 returns-then-not-have_one_storage-clause-untold g c can =
-    c.write_moved.ensures.untold (λ from there. subst (λ (n : ℕ). CanBeWritten c.args.files.now c.args.entry c.args.stream n from) (sym c.size_after-size.ensures) (can from there))
+    c.write_moved.ensures.untold (λ from there. ((can from there).0, subst (λ (n : ℕ). CanBeWritten c.args.files.now c.args.entry c.args.stream n from) (sym c.size_after-size.ensures) (can from there).1))
 
 pub write_inside-requires-clause-inside : goal.write_inside-requires-clause-inside
 write_inside-requires-clause-inside g c = keeps_inside c.args.files.now c.size_after-size.result c.in-Some.addr 0 c.size_after-size.result (storage_stays c.args.files.now c.args.old.size c.size_after-size.result c.in-Some.addr (c.requires.some c.in-Some.addr c.in-Some.is) (subst (λ (v : ℕ). may_keep c.args.files.now c.args.old.size v ≡ true) (ap (λ (o : Option ℕ). unwrap_or o 0) c.in-Some.is) c.requires.place) (sym c.have_one_storage.ensures ∙ c.if-not-have_one_storage.false) (subst (λ (n : ℕ). n ≤ most_stream_bytes) (sym c.size_after-size.ensures) (size_most c.args.cut c.args.old.size c.args.offset (length c.args.bytes.now) most_stream_bytes (may_parts c.args.files.now c.args.old.size (unwrap_or c.args.old.addr 0) c.requires.place).0 c.requires.most))) (omega arith)
@@ -33,20 +36,20 @@ pub write_inside-requires-clause-few : goal.write_inside-requires-clause-few
 write_inside-requires-clause-few g c = subst (λ (n : ℕ). c.args.offset + length c.args.bytes.now ≤ n) (sym c.size_after-size.ensures) (size_few c.args.cut c.args.old.size c.args.offset (length c.args.bytes.now))
 
 pub returns-in_err-write_inside-in-Some-clause-stops : goal.returns-in_err-write_inside-in-Some-clause-stops
-returns-in_err-write_inside-in-Some-clause-stops g c = inside_told c.args.files.now c.args.entry c.args.stream c.size_after-size.result c.in-Some.addr c.args.old c.args.offset c.args.cut c.args.bytes.now c.requires.kind c.requires.stands c.requires.stream (c.requires.some c.in-Some.addr c.in-Some.is) (subst (λ (v : ℕ). may_keep c.args.files.now c.args.old.size v ≡ true) (ap (λ (o : Option ℕ). unwrap_or o 0) c.in-Some.is) c.requires.place) (storage_stays c.args.files.now c.args.old.size c.size_after-size.result c.in-Some.addr (c.requires.some c.in-Some.addr c.in-Some.is) (subst (λ (v : ℕ). may_keep c.args.files.now c.args.old.size v ≡ true) (ap (λ (o : Option ℕ). unwrap_or o 0) c.in-Some.is) c.requires.place) (sym c.have_one_storage.ensures ∙ c.if-not-have_one_storage.false) (subst (λ (n : ℕ). n ≤ most_stream_bytes) (sym c.size_after-size.ensures) (size_most c.args.cut c.args.old.size c.args.offset (length c.args.bytes.now) most_stream_bytes (may_parts c.args.files.now c.args.old.size (unwrap_or c.args.old.addr 0) c.requires.place).0 c.requires.most))) c.in-Some.is c.size_after-size.ensures (g.F.Folder.told c.args.f.now) c.requires.agrees c.requires.words (g.F.Folder.told c.write_inside.new.f) c.in_err-write_inside-in-Some.ensures.stops
+returns-in_err-write_inside-in-Some-clause-stops g c from there stored can = inside_told c.args.files.now c.args.entry c.args.stream c.size_after-size.result c.in-Some.addr c.args.old c.args.offset c.args.cut c.args.bytes.now c.requires.kind c.requires.stands c.requires.stream (c.requires.some c.in-Some.addr c.in-Some.is) (subst (λ (v : ℕ). may_keep c.args.files.now c.args.old.size v ≡ true) (ap (λ (o : Option ℕ). unwrap_or o 0) c.in-Some.is) c.requires.place) (storage_stays c.args.files.now c.args.old.size c.size_after-size.result c.in-Some.addr (c.requires.some c.in-Some.addr c.in-Some.is) (subst (λ (v : ℕ). may_keep c.args.files.now c.args.old.size v ≡ true) (ap (λ (o : Option ℕ). unwrap_or o 0) c.in-Some.is) c.requires.place) (sym c.have_one_storage.ensures ∙ c.if-not-have_one_storage.false) (subst (λ (n : ℕ). n ≤ most_stream_bytes) (sym c.size_after-size.ensures) (size_most c.args.cut c.args.old.size c.args.offset (length c.args.bytes.now) most_stream_bytes (may_parts c.args.files.now c.args.old.size (unwrap_or c.args.old.addr 0) c.requires.place).0 c.requires.most))) c.in-Some.is c.size_after-size.ensures (g.F.Folder.told c.args.f.now) c.requires.agrees (told_is (HasWords c.args.entry c.args.stream c.args.old.size (unwrap_or c.args.old.addr 0)) from there stored.words) (g.F.Folder.told c.write_inside.new.f) (λ x at. c.in_err-write_inside-in-Some.ensures.stops x at (told_is (λ image. c.args.record_bytes.now ≡ record_at image c.args.entry) from there stored.read x at) (told_is (RecordChecks c.args.entry) from there can.checks x at)) from there can
 
 pub returns-in_ok-write_inside-in-Some-clause-written : goal.returns-in_ok-write_inside-in-Some-clause-written
-returns-in_ok-write_inside-in-Some-clause-written g c = inside_end c.args.files.now c.args.entry c.args.stream c.size_after-size.result c.in-Some.addr c.args.old c.args.offset c.args.cut c.args.bytes.now c.requires.kind c.requires.stands c.requires.stream (c.requires.some c.in-Some.addr c.in-Some.is) (subst (λ (v : ℕ). may_keep c.args.files.now c.args.old.size v ≡ true) (ap (λ (o : Option ℕ). unwrap_or o 0) c.in-Some.is) c.requires.place) (storage_stays c.args.files.now c.args.old.size c.size_after-size.result c.in-Some.addr (c.requires.some c.in-Some.addr c.in-Some.is) (subst (λ (v : ℕ). may_keep c.args.files.now c.args.old.size v ≡ true) (ap (λ (o : Option ℕ). unwrap_or o 0) c.in-Some.is) c.requires.place) (sym c.have_one_storage.ensures ∙ c.if-not-have_one_storage.false) (subst (λ (n : ℕ). n ≤ most_stream_bytes) (sym c.size_after-size.ensures) (size_most c.args.cut c.args.old.size c.args.offset (length c.args.bytes.now) most_stream_bytes (may_parts c.args.files.now c.args.old.size (unwrap_or c.args.old.addr 0) c.requires.place).0 c.requires.most))) c.in-Some.is c.size_after-size.ensures (g.F.Folder.told c.args.f.now) c.requires.agrees c.requires.words (g.F.Folder.told c.write_inside.new.f) c.in_ok-write_inside-in-Some.ensures.stops c.in_ok-write_inside-in-Some.ensures.written
+returns-in_ok-write_inside-in-Some-clause-written g c from there stored can = inside_end c.args.files.now c.args.entry c.args.stream c.size_after-size.result c.in-Some.addr c.args.old c.args.offset c.args.cut c.args.bytes.now c.requires.kind c.requires.stands c.requires.stream (c.requires.some c.in-Some.addr c.in-Some.is) (subst (λ (v : ℕ). may_keep c.args.files.now c.args.old.size v ≡ true) (ap (λ (o : Option ℕ). unwrap_or o 0) c.in-Some.is) c.requires.place) (storage_stays c.args.files.now c.args.old.size c.size_after-size.result c.in-Some.addr (c.requires.some c.in-Some.addr c.in-Some.is) (subst (λ (v : ℕ). may_keep c.args.files.now c.args.old.size v ≡ true) (ap (λ (o : Option ℕ). unwrap_or o 0) c.in-Some.is) c.requires.place) (sym c.have_one_storage.ensures ∙ c.if-not-have_one_storage.false) (subst (λ (n : ℕ). n ≤ most_stream_bytes) (sym c.size_after-size.ensures) (size_most c.args.cut c.args.old.size c.args.offset (length c.args.bytes.now) most_stream_bytes (may_parts c.args.files.now c.args.old.size (unwrap_or c.args.old.addr 0) c.requires.place).0 c.requires.most))) c.in-Some.is c.size_after-size.ensures (g.F.Folder.told c.args.f.now) c.requires.agrees (told_is (HasWords c.args.entry c.args.stream c.args.old.size (unwrap_or c.args.old.addr 0)) from there stored.words) (g.F.Folder.told c.write_inside.new.f) (λ x at. c.in_ok-write_inside-in-Some.ensures.stops x at (told_is (λ image. c.args.record_bytes.now ≡ record_at image c.args.entry) from there stored.read x at) (told_is (RecordChecks c.args.entry) from there can.checks x at)) (λ x at. c.in_ok-write_inside-in-Some.ensures.written x at (told_is (λ image. c.args.record_bytes.now ≡ record_at image c.args.entry) from there stored.read x at) (told_is (RecordChecks c.args.entry) from there can.checks x at)) from there can
 
 pub returns-in_ok-write_inside-in-Some-clause-stops : goal.returns-in_ok-write_inside-in-Some-clause-stops
-returns-in_ok-write_inside-in-Some-clause-stops g c = inside_told c.args.files.now c.args.entry c.args.stream c.size_after-size.result c.in-Some.addr c.args.old c.args.offset c.args.cut c.args.bytes.now c.requires.kind c.requires.stands c.requires.stream (c.requires.some c.in-Some.addr c.in-Some.is) (subst (λ (v : ℕ). may_keep c.args.files.now c.args.old.size v ≡ true) (ap (λ (o : Option ℕ). unwrap_or o 0) c.in-Some.is) c.requires.place) (storage_stays c.args.files.now c.args.old.size c.size_after-size.result c.in-Some.addr (c.requires.some c.in-Some.addr c.in-Some.is) (subst (λ (v : ℕ). may_keep c.args.files.now c.args.old.size v ≡ true) (ap (λ (o : Option ℕ). unwrap_or o 0) c.in-Some.is) c.requires.place) (sym c.have_one_storage.ensures ∙ c.if-not-have_one_storage.false) (subst (λ (n : ℕ). n ≤ most_stream_bytes) (sym c.size_after-size.ensures) (size_most c.args.cut c.args.old.size c.args.offset (length c.args.bytes.now) most_stream_bytes (may_parts c.args.files.now c.args.old.size (unwrap_or c.args.old.addr 0) c.requires.place).0 c.requires.most))) c.in-Some.is c.size_after-size.ensures (g.F.Folder.told c.args.f.now) c.requires.agrees c.requires.words (g.F.Folder.told c.write_inside.new.f) c.in_ok-write_inside-in-Some.ensures.stops
+returns-in_ok-write_inside-in-Some-clause-stops g c from there stored can = inside_told c.args.files.now c.args.entry c.args.stream c.size_after-size.result c.in-Some.addr c.args.old c.args.offset c.args.cut c.args.bytes.now c.requires.kind c.requires.stands c.requires.stream (c.requires.some c.in-Some.addr c.in-Some.is) (subst (λ (v : ℕ). may_keep c.args.files.now c.args.old.size v ≡ true) (ap (λ (o : Option ℕ). unwrap_or o 0) c.in-Some.is) c.requires.place) (storage_stays c.args.files.now c.args.old.size c.size_after-size.result c.in-Some.addr (c.requires.some c.in-Some.addr c.in-Some.is) (subst (λ (v : ℕ). may_keep c.args.files.now c.args.old.size v ≡ true) (ap (λ (o : Option ℕ). unwrap_or o 0) c.in-Some.is) c.requires.place) (sym c.have_one_storage.ensures ∙ c.if-not-have_one_storage.false) (subst (λ (n : ℕ). n ≤ most_stream_bytes) (sym c.size_after-size.ensures) (size_most c.args.cut c.args.old.size c.args.offset (length c.args.bytes.now) most_stream_bytes (may_parts c.args.files.now c.args.old.size (unwrap_or c.args.old.addr 0) c.requires.place).0 c.requires.most))) c.in-Some.is c.size_after-size.ensures (g.F.Folder.told c.args.f.now) c.requires.agrees (told_is (HasWords c.args.entry c.args.stream c.args.old.size (unwrap_or c.args.old.addr 0)) from there stored.words) (g.F.Folder.told c.write_inside.new.f) (λ x at. c.in_ok-write_inside-in-Some.ensures.stops x at (told_is (λ image. c.args.record_bytes.now ≡ record_at image c.args.entry) from there stored.read x at) (told_is (RecordChecks c.args.entry) from there can.checks x at)) from there can
 
 pub returns-in-None-clause-written : goal.returns-in-None-clause-written
-returns-in-None-clause-written g c from there can image now =
+returns-in-None-clause-written g c from there stored can image now =
     subst (StreamIsWritten c.args.files.now c.args.files.now c.args.entry c.args.stream c.args.offset c.args.cut c.args.bytes.now from) (some_inj (sym there ∙ now))
-    (nothing_written c.args.files.now c.args.entry c.args.stream (writes.size_after c.args.cut c.args.old.size c.args.offset (length c.args.bytes.now)) c.args.offset c.args.cut c.args.bytes.now from ((c.requires.words from there).size_is ∙ (c.requires.none c.in-None.is)) ((c.requires.words from there).word_is ∙ ap (λ (o : Option ℕ). unwrap_or o 0) c.in-None.is) (c.requires.checks from there) (sym c.size_after-size.ensures ∙ one_none c.size_after-size.result (subst (λ (n : ℕ). writes.have_one_storage n c.size_after-size.result ≡ true) (c.requires.none c.in-None.is) (sym c.have_one_storage.ensures ∙ c.if-not-have_one_storage.false))) (ap (λ (n : ℕ). writes.size_after c.args.cut n c.args.offset (length c.args.bytes.now)) (c.requires.none c.in-None.is)) (size_few c.args.cut c.args.old.size c.args.offset (length c.args.bytes.now)) c.requires.stands)
+    (nothing_written c.args.files.now c.args.entry c.args.stream (writes.size_after c.args.cut c.args.old.size c.args.offset (length c.args.bytes.now)) c.args.offset c.args.cut c.args.bytes.now from (stored.words.size_is ∙ (c.requires.none c.in-None.is)) (stored.words.word_is ∙ ap (λ (o : Option ℕ). unwrap_or o 0) c.in-None.is) can.checks (sym c.size_after-size.ensures ∙ one_none c.size_after-size.result (subst (λ (n : ℕ). writes.have_one_storage n c.size_after-size.result ≡ true) (c.requires.none c.in-None.is) (sym c.have_one_storage.ensures ∙ c.if-not-have_one_storage.false))) (ap (λ (n : ℕ). writes.size_after c.args.cut n c.args.offset (length c.args.bytes.now)) (c.requires.none c.in-None.is)) (size_few c.args.cut c.args.old.size c.args.offset (length c.args.bytes.now)) c.requires.stands)
 
 pub returns-in-None-clause-stops : goal.returns-in-None-clause-stops
-returns-in-None-clause-stops g c from there can =
+returns-in-None-clause-stops g c from there stored can =
     let P = WritesStream c.args.files.now c.args.entry c.args.stream (writes.size_after c.args.cut c.args.old.size c.args.offset (length c.args.bytes.now)) c.args.offset c.args.cut c.args.bytes.now from in
-    passes_none P refl (λ image now. subst P (some_inj (sym there ∙ now)) (nothing_writes c.args.files.now c.args.entry c.args.stream (writes.size_after c.args.cut c.args.old.size c.args.offset (length c.args.bytes.now)) c.args.offset c.args.cut c.args.bytes.now from ((c.requires.words from there).size_is ∙ (c.requires.none c.in-None.is)) ((c.requires.words from there).word_is ∙ ap (λ (o : Option ℕ). unwrap_or o 0) c.in-None.is) (c.requires.checks from there) (sym c.size_after-size.ensures ∙ one_none c.size_after-size.result (subst (λ (n : ℕ). writes.have_one_storage n c.size_after-size.result ≡ true) (c.requires.none c.in-None.is) (sym c.have_one_storage.ensures ∙ c.if-not-have_one_storage.false))) (ap (λ (n : ℕ). writes.size_after c.args.cut n c.args.offset (length c.args.bytes.now)) (c.requires.none c.in-None.is)) (size_few c.args.cut c.args.old.size c.args.offset (length c.args.bytes.now)) c.requires.stands))
+    passes_none P refl (λ image now. subst P (some_inj (sym there ∙ now)) (nothing_writes c.args.files.now c.args.entry c.args.stream (writes.size_after c.args.cut c.args.old.size c.args.offset (length c.args.bytes.now)) c.args.offset c.args.cut c.args.bytes.now from (stored.words.size_is ∙ (c.requires.none c.in-None.is)) (stored.words.word_is ∙ ap (λ (o : Option ℕ). unwrap_or o 0) c.in-None.is) can.checks (sym c.size_after-size.ensures ∙ one_none c.size_after-size.result (subst (λ (n : ℕ). writes.have_one_storage n c.size_after-size.result ≡ true) (c.requires.none c.in-None.is) (sym c.have_one_storage.ensures ∙ c.if-not-have_one_storage.false))) (ap (λ (n : ℕ). writes.size_after c.args.cut n c.args.offset (length c.args.bytes.now)) (c.requires.none c.in-None.is)) (size_few c.args.cut c.args.old.size c.args.offset (length c.args.bytes.now)) c.requires.stands))
