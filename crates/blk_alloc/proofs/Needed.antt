@@ -14,7 +14,7 @@ use Rattle.blk_image.proofs.Splices.{content-spliced_inside}
 use Rattle.blk_image.proofs.Footprints.{outside-refl, outside-trans, outside_wider, outside_write, range_within}
 use Rattle.blk_image.proofs.Words.{content-range, range-is}
 use Rattle.blk_image.proofs.Runs.{grows_none, grows_then, passes_end, quiet_front, quiet-append, some_inj, until_front, until-append, until_weaker2}
-use Rattle.blk_alloc.specs.Mending.{AreNeeded, IsFrontWritten, AreBytesWritten, PassesNeeded}
+use Rattle.blk_alloc.specs.Mending.{AreNeeded, IsFrontWritten, AreBytesWritten, KeepsLength, PassesNeeded}
 
 needed_front : (s t : List TrailStep) (image : Image) → AreNeeded image (s ++ t) → AreNeeded image s
 needed_front [] t image all = tt
@@ -174,3 +174,7 @@ told_so_far None new P R Q silent related before leads image is = absurd (no_som
     no_some : None ≡ Some image → ⊥
     no_some e = cc
 told_so_far (Some from) new P R Q silent related before leads image is = leads from image (related from refl image is) (before from refl)
+
+-- a file that keeps its length over one call and over the next has it in the end
+pub long_then : (x y z : Option Image) (f : File) → (y ≡ None → z ≡ None) → ForSome x (λ from. ForSome y (KeepsLength f from)) → ForSome y (λ mid. ForSome z (KeepsLength f mid)) → ForSome x (λ from. ForSome z (KeepsLength f from))
+long_then x y z f silent first second from there = told_so_far y z (KeepsLength f from) (KeepsLength f) (KeepsLength f from) silent second (first from there) (λ mid image more before. more ∙ before)

@@ -1,7 +1,7 @@
 -- Maps and counters are made anew, and are then those of claims.
 use Rattle.std.specs.Prelude.{◌≡◌, ◌⊎◌, ℕ, ◌+◌, ◌<◌, ◌≤◌, List, filter, max, slice_index, Bool, false, true, ◌&&◌, ◌||◌}
 use Rattle.std.specs.List.{All}
-use Rattle.blk_image.specs.Bytes.{range_at}
+use Rattle.blk_image.specs.Bytes.{content, range_at}
 use Rattle.blk_image.specs.Image.{File, Block, Image, byte, length_of}
 use Rattle.blk_image.specs.Footprint.{Footprint, SameOutside, either, one_word, range}
 use Rattle.blk_format.specs.Growth.{StaysWhole}
@@ -22,6 +22,7 @@ use Rattle.blk_disk.specs.Tables.{files_of, all_files, blocks_of, length_in}
 use Rattle.blk_disk.specs.Growth.{whole_length}
 use Rattle.blk_alloc.specs.Changes.{map_length, map_of}
 use Rattle.blk_alloc.specs.Extending.{HasItsBlocks}
+use Rattle.blk_alloc.specs.Mending.{StandAt}
 
 -- whether a block of a file is claimed
 abbrev pub is_block_claimed : Claims → ℕ → ℕ → Bool
@@ -51,6 +52,16 @@ pub record HasTheseCounters (f : ℕ → ℕ) (count : ℕ) (runs : List ℕ) : 
 pub record AreHeaderBytes (image : Image) (n : ℕ) (map fields : List ℕ) : Type 0 where
   pub map_read : map ≡ range_at (byte image (Block n)) map_place map_length
   pub fields_read : fields ≡ range_at (byte image (Block n)) 0 block_fields_length
+
+-- the counters of a file are those of these fields
+abbrev pub HasReadCounters : (n : ℕ) (fields : List ℕ) → Image → Type 0
+HasReadCounters n fields image = (i : ℕ) → 16 ≤ i → i < 40 → content fields i ≡ byte image (Block n) i
+
+-- the map and the counters of a file are these, and so is the number of its groups
+pub record AreCountsRead (n groups : ℕ) (map fields : List ℕ) (image : Image) : Type 0 where
+  pub groups_are : groups ≡ groups_of (max_entries_in image n)
+  pub map_stands : StandAt (Block n) map_place map map_length image
+  pub counters : HasReadCounters n fields image
 
 -- the first so many bits of a map are set just where these blocks of a file are claimed
 abbrev pub AreBitsOf : Claims → ℕ → ℕ → List ℕ → Type 0

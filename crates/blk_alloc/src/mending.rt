@@ -1,19 +1,18 @@
 // Words of a header are written where they differ.
-ghost use Rattle.std.specs.Prelude.{◌≡◌, ◌⊎◌, ℕ, ◌+◌, ◌%◌, ◌<◌, ◌≤◌, ◌^◌, None, length, OnOk, OnErr};
+ghost use Rattle.std.specs.Prelude.{◌≡◌, ◌⊎◌, ◌+◌, ◌%◌, ◌<◌, ◌≤◌, ◌^◌, None, length, OnOk, OnErr};
 ghost use Rattle.std.specs.Option.{ForSome};
-ghost use Rattle.blk_image.specs.Bytes.{content};
 ghost use Rattle.blk_image.specs.Image.{Block as block, HasRange, byte, length_of};
 ghost use Rattle.blk_image.specs.Told.{Rises, Stays};
 ghost use Rattle.blk_format.specs.Address.{header_size};
 ghost use Rattle.blk_format.specs.Headers.{block_fields_length};
-ghost use Rattle.blk_alloc.specs.Mending.{IsFrontWritten, AreBytesWritten, PassesNeeded};
-ghost use Rattle.blk_alloc.specs.Rebuilding.{HasTheseCounters, IsCounting};
+ghost use Rattle.blk_alloc.specs.Mending.{IsFrontWritten, AreBytesWritten, KeepsLength, PassesNeeded, StandAt};
+ghost use Rattle.blk_alloc.specs.Rebuilding.{HasReadCounters, HasTheseCounters, IsCounting};
 
 use crate::layout::{ALLOCATIONS, EMPTY};
 use blk_io::{Failed, FileId, Folder};
 use blk_record::BlockHead;
 
-// Writes a word of a file, where it isn't the old one, which stands there.
+// Writes a word of a file, where it isn't the old one.
 pub(crate) fn mend_word<F: Folder>(
     f: &mut F,
     file: u8,
@@ -25,10 +24,10 @@ pub(crate) fn mend_word<F: Folder>(
     requires old_word { length old.now ≡ 4 }
     requires new_word { length new.now ≡ 4 }
     requires inside { ForSome (F.told f.old).files (λ image. HasRange image (block file) at 4) }
-    requires stands { ForSome (F.told f.old).files (λ image. (i : ℕ) → i < 4 → content old.now i ≡ byte image (block file) (at + i)) }
-    ensures done { OnOk result (ForSome (F.told f.old).files (λ from. ForSome (F.told f.new).files (AreBytesWritten (block file) at new.now 4 from))) }
-    ensures stops { ForSome (F.told f.old).files (λ from. PassesNeeded (F.told f.old) (F.told f.new) (λ image. (image ≡ from) ⊎ AreBytesWritten (block file) at new.now 4 from image)) }
+    ensures done { OnOk result (ForSome (F.told f.old).files (λ from. StandAt (block file) at old.now 4 from → ForSome (F.told f.new).files (AreBytesWritten (block file) at new.now 4 from))) }
+    ensures stops { ForSome (F.told f.old).files (λ from. StandAt (block file) at old.now 4 from → PassesNeeded (F.told f.old) (F.told f.new) (λ image. (image ≡ from) ⊎ AreBytesWritten (block file) at new.now 4 from image)) }
     ensures same { old.now ≡ new.now → Stays (F.told f.old) (F.told f.new) }
+    ensures long { ForSome (F.told f.old).files (λ from. ForSome (F.told f.new).files (KeepsLength (block file) from)) }
     ensures silent { (F.told f.old).files ≡ None → (F.told f.new).files ≡ None }
     ensures later { F.faults f.old ≤ F.faults f.new }
     ensures failed { OnErr result (Rises (F.faults f.old) (F.faults f.new)) }
@@ -39,7 +38,7 @@ pub(crate) fn mend_word<F: Folder>(
     f.write_at(FileId::Block(file), at, new)
 }
 
-// Writes the words of a file from a place on that differ from the old ones, which stand there.
+// Writes the words of a file from a place on that differ from the old ones.
 pub(crate) fn mend<F: Folder>(
     f: &mut F,
     file: u8,
@@ -52,9 +51,9 @@ pub(crate) fn mend<F: Folder>(
     requires alike { length old.now ≡ length new.now }
     requires small { at + length new.now < 2 ^ 32 }
     requires inside { ForSome (F.told f.old).files (λ image. HasRange image (block file) at (length new.now)) }
-    requires stands { ForSome (F.told f.old).files (λ image. (i : ℕ) → i < length old.now → content old.now i ≡ byte image (block file) (at + i)) }
-    ensures done { OnOk result (ForSome (F.told f.old).files (λ from. ForSome (F.told f.new).files (AreBytesWritten (block file) at new.now (length new.now) from))) }
-    ensures stops { ForSome (F.told f.old).files (λ from. PassesNeeded (F.told f.old) (F.told f.new) (IsFrontWritten (block file) at new.now from)) }
+    ensures done { OnOk result (ForSome (F.told f.old).files (λ from. StandAt (block file) at old.now (length old.now) from → ForSome (F.told f.new).files (AreBytesWritten (block file) at new.now (length new.now) from))) }
+    ensures stops { ForSome (F.told f.old).files (λ from. StandAt (block file) at old.now (length old.now) from → PassesNeeded (F.told f.old) (F.told f.new) (IsFrontWritten (block file) at new.now from)) }
+    ensures long { ForSome (F.told f.old).files (λ from. ForSome (F.told f.new).files (KeepsLength (block file) from)) }
     ensures silent { (F.told f.old).files ≡ None → (F.told f.new).files ≡ None }
     ensures later { F.faults f.old ≤ F.faults f.new }
     ensures failed { OnErr result (Rises (F.faults f.old) (F.faults f.new)) }
@@ -77,9 +76,9 @@ pub(crate) fn mend_counters<F: Folder>(
     requires four { length empty.now ≡ 4 }
     requires long_fields { length fields.now ≡ block_fields_length }
     requires header { ForSome (F.told f.old).files (λ image. header_size ≤ length_of image (block file)) }
-    requires fields { ForSome (F.told f.old).files (λ image. (i : ℕ) → 16 ≤ i → i < 40 → content fields.now i ≡ byte image (block file) i) }
-    ensures done { OnOk result (ForSome (F.told f.new).files (λ image. HasTheseCounters (byte image (block file)) allocations empty.now)) }
-    ensures stops { ForSome (F.told f.old).files (λ from. PassesNeeded (F.told f.old) (F.told f.new) (IsCounting file allocations empty.now from)) }
+    ensures done { OnOk result (ForSome (F.told f.old).files (λ from. HasReadCounters file fields.now from → ForSome (F.told f.new).files (λ image. HasTheseCounters (byte image (block file)) allocations empty.now))) }
+    ensures stops { ForSome (F.told f.old).files (λ from. HasReadCounters file fields.now from → PassesNeeded (F.told f.old) (F.told f.new) (IsCounting file allocations empty.now from)) }
+    ensures long { ForSome (F.told f.old).files (λ from. ForSome (F.told f.new).files (KeepsLength (block file) from)) }
     ensures silent { (F.told f.old).files ≡ None → (F.told f.new).files ≡ None }
     ensures later { F.faults f.old ≤ F.faults f.new }
     ensures failed { OnErr result (Rises (F.faults f.old) (F.faults f.new)) }

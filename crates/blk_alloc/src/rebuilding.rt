@@ -1,20 +1,20 @@
 // Maps and counters are made anew, from claims.
 ghost use Rattle.std.specs.Prelude.{◌≡◌, ℕ, ◌+◌, ◌/◌, ◌<◌, ◌≤◌, [], ◌∷◌, true, None, max, length, IfOk, OnOk, OnErr, IsTrue};
 ghost use Rattle.std.specs.Option.{ForSome};
-ghost use Rattle.blk_image.specs.Bytes.{content, word_bytes};
-ghost use Rattle.blk_image.specs.Image.{Block as block, byte, length_of};
+ghost use Rattle.blk_image.specs.Bytes.{word_bytes};
+ghost use Rattle.blk_image.specs.Image.{Block as block, length_of};
 ghost use Rattle.blk_image.specs.Told.{Rises, Stays};
 ghost use Rattle.blk_format.specs.Address.{header_size};
 ghost use Rattle.blk_format.specs.BlockFiles.{is_among, max_entries_in};
-ghost use Rattle.blk_format.specs.Headers.{block_fields_length};
-ghost use Rattle.blk_format.specs.Maps.{groups_of, map_place};
+ghost use Rattle.blk_format.specs.Headers.{block_fields_length, updating_place};
+ghost use Rattle.blk_format.specs.Maps.{groups_of};
 ghost use Rattle.blk_io.specs.Faults.{IfDamaged, IfDevice};
 ghost use Rattle.blk_disk.specs.Growth.{whole_length};
 ghost use Rattle.blk_disk.specs.Tables.{Agrees, Resizes, all_files, files_of, length_in};
 ghost use Rattle.blk_alloc.specs.Changes.{map_length};
 ghost use Rattle.blk_alloc.specs.Extending.{HasItsBlocks, KeepsStanding};
-ghost use Rattle.blk_alloc.specs.Mending.{PassesNeeded};
-ghost use Rattle.blk_alloc.specs.Rebuilding.{AreFitted, AreHeaderBytes, AreItsAllocations, AreRight, HasMarksOf, IsMending, IsMendingToEnd, IsRebuilding, IsRebuilt, IsShortRead, IsShortReadOf, RemakesInProgress};
+ghost use Rattle.blk_alloc.specs.Mending.{KeepsLength, PassesNeeded, StandAt};
+ghost use Rattle.blk_alloc.specs.Rebuilding.{AreCountsRead, AreFitted, AreHeaderBytes, AreItsAllocations, AreRight, HasMarksOf, IsMending, IsMendingToEnd, IsRebuilding, IsRebuilt, IsShortRead, IsShortReadOf, RemakesInProgress};
 
 use crate::claimed::{count_runs, mark_claimed};
 use crate::comparing::is_right;
@@ -40,11 +40,9 @@ fn mend_counts<F: Folder>(
     requires long_map { length map.now ≡ map_length }
     requires long_fields { length fields.now ≡ block_fields_length }
     requires header { ForSome (F.told f.old).files (λ image. header_size ≤ length_of image (block file)) }
-    requires groups { ForSome (F.told f.old).files (λ image. groups ≡ groups_of (max_entries_in image file)) }
-    requires map { ForSome (F.told f.old).files (λ image. (i : ℕ) → i < map_length → content map.now i ≡ byte image (block file) (map_place + i)) }
-    requires fields { ForSome (F.told f.old).files (λ image. (i : ℕ) → 16 ≤ i → i < 40 → content fields.now i ≡ byte image (block file) i) }
-    ensures done { OnOk result (ForSome (F.told f.new).files (λ image. HasMarksOf claims.now image file)) }
-    ensures stops { ForSome (F.told f.old).files (λ from. PassesNeeded (F.told f.old) (F.told f.new) (IsMending claims.now file from)) }
+    ensures done { OnOk result (ForSome (F.told f.old).files (λ from. AreCountsRead file groups map.now fields.now from → ForSome (F.told f.new).files (λ image. HasMarksOf claims.now image file))) }
+    ensures stops { ForSome (F.told f.old).files (λ from. AreCountsRead file groups map.now fields.now from → PassesNeeded (F.told f.old) (F.told f.new) (IsMending claims.now file from)) }
+    ensures long { ForSome (F.told f.old).files (λ from. ForSome (F.told f.new).files (KeepsLength (block file) from)) }
     ensures silent { (F.told f.old).files ≡ None → (F.told f.new).files ≡ None }
     ensures later { F.faults f.old ≤ F.faults f.new }
     ensures failed { OnErr result (Rises (F.faults f.old) (F.faults f.new)) }
@@ -70,12 +68,8 @@ fn mend_marks<F: Folder>(
     requires long_map { length map.now ≡ map_length }
     requires long_fields { length fields.now ≡ block_fields_length }
     requires header { ForSome (F.told f.old).files (λ image. header_size ≤ length_of image (block file)) }
-    requires groups { ForSome (F.told f.old).files (λ image. groups ≡ groups_of (max_entries_in image file)) }
-    requires map { ForSome (F.told f.old).files (λ image. (i : ℕ) → i < map_length → content map.now i ≡ byte image (block file) (map_place + i)) }
-    requires fields { ForSome (F.told f.old).files (λ image. (i : ℕ) → 16 ≤ i → i < 40 → content fields.now i ≡ byte image (block file) i) }
-    requires updating { ForSome (F.told f.old).files (λ image. (i : ℕ) → i < 4 → byte image (block file) (56 + i) ≡ content (word_bytes 1) i) }
-    ensures done { OnOk result (ForSome (F.told f.new).files (λ image. IsRebuilt claims.now image file)) }
-    ensures stops { ForSome (F.told f.old).files (λ from. PassesNeeded (F.told f.old) (F.told f.new) (IsMendingToEnd claims.now file from)) }
+    ensures done { OnOk result (ForSome (F.told f.old).files (λ from. AreCountsRead file groups map.now fields.now from → StandAt (block file) updating_place (word_bytes 1) 4 from → ForSome (F.told f.new).files (λ image. IsRebuilt claims.now image file))) }
+    ensures stops { ForSome (F.told f.old).files (λ from. AreCountsRead file groups map.now fields.now from → StandAt (block file) updating_place (word_bytes 1) 4 from → PassesNeeded (F.told f.old) (F.told f.new) (IsMendingToEnd claims.now file from)) }
     ensures silent { (F.told f.old).files ≡ None → (F.told f.new).files ≡ None }
     ensures later { F.faults f.old ≤ F.faults f.new }
     ensures failed { OnErr result (Rises (F.faults f.old) (F.faults f.new)) }
@@ -104,11 +98,9 @@ fn mend_file<F: Folder>(
     requires long_map { length map.now ≡ map_length }
     requires long_fields { length fields.now ≡ block_fields_length }
     requires header { ForSome (F.told f.old).files (λ image. header_size ≤ length_of image (block file)) }
-    requires groups { ForSome (F.told f.old).files (λ image. groups ≡ groups_of (max_entries_in image file)) }
-    requires read { ForSome (F.told f.old).files (λ image. AreHeaderBytes image file map.now fields.now) }
-    ensures done { OnOk result (ForSome (F.told f.new).files (λ image. IsRebuilt claims.now image file)) }
-    ensures stops { ForSome (F.told f.old).files (λ from. PassesNeeded (F.told f.old) (F.told f.new) (RemakesInProgress claims.now file from)) }
-    ensures clean { ForSome (F.told f.old).files (λ from. IsRebuilt claims.now from file → Stays (F.told f.old) (F.told f.new)) }
+    ensures done { OnOk result (ForSome (F.told f.old).files (λ from. groups ≡ groups_of (max_entries_in from file) → AreHeaderBytes from file map.now fields.now → ForSome (F.told f.new).files (λ image. IsRebuilt claims.now image file))) }
+    ensures stops { ForSome (F.told f.old).files (λ from. groups ≡ groups_of (max_entries_in from file) → AreHeaderBytes from file map.now fields.now → PassesNeeded (F.told f.old) (F.told f.new) (RemakesInProgress claims.now file from)) }
+    ensures clean { ForSome (F.told f.old).files (λ from. groups ≡ groups_of (max_entries_in from file) → AreHeaderBytes from file map.now fields.now → IsRebuilt claims.now from file → Stays (F.told f.old) (F.told f.new)) }
     ensures silent { (F.told f.old).files ≡ None → (F.told f.new).files ≡ None }
     ensures later { F.faults f.old ≤ F.faults f.new }
     ensures failed { OnErr result (Rises (F.faults f.old) (F.faults f.new)) }
@@ -125,10 +117,9 @@ fn mend_file<F: Folder>(
 fn remake<F: Folder>(f: &mut F, claims: &Claims, file: u8, groups: u32) -> Result<(), Fault>
     requires few { groups ≤ 16224 }
     requires header { ForSome (F.told f.old).files (λ image. header_size ≤ length_of image (block file)) }
-    requires groups { ForSome (F.told f.old).files (λ image. groups ≡ groups_of (max_entries_in image file)) }
-    ensures done { OnOk result (ForSome (F.told f.new).files (λ image. IsRebuilt claims.now image file)) }
-    ensures stops { ForSome (F.told f.old).files (λ from. PassesNeeded (F.told f.old) (F.told f.new) (RemakesInProgress claims.now file from)) }
-    ensures clean { ForSome (F.told f.old).files (λ from. IsRebuilt claims.now from file → Stays (F.told f.old) (F.told f.new)) }
+    ensures done { OnOk result (ForSome (F.told f.old).files (λ from. groups ≡ groups_of (max_entries_in from file) → ForSome (F.told f.new).files (λ image. IsRebuilt claims.now image file))) }
+    ensures stops { ForSome (F.told f.old).files (λ from. groups ≡ groups_of (max_entries_in from file) → PassesNeeded (F.told f.old) (F.told f.new) (RemakesInProgress claims.now file from)) }
+    ensures clean { ForSome (F.told f.old).files (λ from. groups ≡ groups_of (max_entries_in from file) → IsRebuilt claims.now from file → Stays (F.told f.old) (F.told f.new)) }
     ensures cause { IfDamaged result (IsShortRead (F.told f.new) file) }
     ensures untold { IfDamaged result (λ _. (F.told f.old).files ≡ None) }
     ensures silent { (F.told f.old).files ≡ None → (F.told f.new).files ≡ None }

@@ -1,13 +1,14 @@
-use Rattle.std.proofs.Common.{◌≡◌, ◌≤◌, ◌*◌, None}
+use Rattle.std.proofs.Common.{◌≡◌, ◌≤◌, ◌*◌, None, length}
 use Rattle.std.specs.Option.{ForSome}
 use Rattle.blk_image.specs.Image.{Block}
-use Rattle.blk_alloc.specs.Mending.{IsFrontWritten, AreBytesWritten, PassesNeeded}
+use Rattle.blk_alloc.specs.Mending.{IsFrontWritten, AreBytesWritten, KeepsLength, PassesNeeded, StandAt}
 use Rattle.blk_alloc.proofs.mending.mend.Given as goal
 
 abbrev pub invariant-loop-k : goal.invariant-loop-k
 invariant-loop-k g l = record {
-  stops : ForSome (g.F.Folder.told l.initial.f).files (λ from. PassesNeeded (g.F.Folder.told l.initial.f) (g.F.Folder.told l.f) (IsFrontWritten (Block l.file) l.at l.new from));
-  so_far : ForSome (g.F.Folder.told l.initial.f).files (λ from. ForSome (g.F.Folder.told l.f).files (AreBytesWritten (Block l.file) l.at l.new (4 * l.k) from));
+  stops : ForSome (g.F.Folder.told l.initial.f).files (λ from. StandAt (Block l.file) l.at l.old (length l.old) from → PassesNeeded (g.F.Folder.told l.initial.f) (g.F.Folder.told l.f) (IsFrontWritten (Block l.file) l.at l.new from));
+  so_far : ForSome (g.F.Folder.told l.initial.f).files (λ from. StandAt (Block l.file) l.at l.old (length l.old) from → ForSome (g.F.Folder.told l.f).files (AreBytesWritten (Block l.file) l.at l.new (4 * l.k) from));
+  long : ForSome (g.F.Folder.told l.initial.f).files (λ from. ForSome (g.F.Folder.told l.f).files (KeepsLength (Block l.file) from));
   silent : (g.F.Folder.told l.initial.f).files ≡ None → (g.F.Folder.told l.f).files ≡ None;
   later : g.F.Folder.faults l.initial.f ≤ g.F.Folder.faults l.f;
 }

@@ -1,11 +1,13 @@
-use Rattle.std.proofs.Common.{◌≡◌, ℕ, ◌/◌, List, [], ◌∷◌, None, sym, ◌∙◌, ap, subst, arith}
+use Rattle.std.proofs.Common.{◌≡◌, ℕ, ◌/◌, List, [], ◌∷◌, None, Some, sym, ◌∙◌, ap, subst, arith}
+use Rattle.std.proofs.lemmas.Result.{on_ok_weaker}
 use Rattle.blk_image.specs.Image.{Image}
 use Rattle.blk_image.proofs.Runs.{some_inj}
 use Rattle.blk_alloc.proofs.Needed.{needed_end, needed_none, needed_then, needed_weaker}
 use Rattle.blk_format.specs.BlockFiles.{is_among, max_entries_in}
+use Rattle.blk_format.specs.Maps.{groups_of}
 use Rattle.blk_disk.specs.declared.tables.BlockFiles.{BlockFiles}
 use Rattle.blk_disk.specs.Tables.{Agrees, files_of}
-use Rattle.blk_alloc.specs.Rebuilding.{IsRebuilding, RemakesInProgress}
+use Rattle.blk_alloc.specs.Rebuilding.{IsRebuilding, IsRebuilt, RemakesInProgress}
 use Rattle.blk_alloc.specs.declared.blocks.Blocks.{Blocks}
 use Rattle.blk_io.proofs.Carried.{if_damaged_weaker, told_at_end}
 use Rattle.blk_image.specs.Steps.{after}
@@ -20,6 +22,7 @@ use Rattle.blk_alloc.proofs.Members.{all_head}
 use Rattle.blk_alloc.proofs.Remade.{lengthened_is, rebuilding_begin, remade_is}
 use Rattle.blk_alloc.proofs.Taken.{fit_passes}
 use Rattle.blk_alloc.proofs.TakenAfter.{mid_of}
+use Rattle.blk_alloc.proofs.rebuilding.rebuild_file.Given as given
 use Rattle.blk_alloc.proofs.rebuilding.rebuild_file.Goals as goal
 
 pub returns-in_err-fit-clause-stops : goal.returns-in_err-fit-clause-stops
@@ -30,8 +33,9 @@ pub remake-requires-clause-header : goal.remake-requires-clause-header
 remake-requires-clause-header g c mid now =
     (all_head c.fit.new.self mid c.args.file (c.in_ok-fit.ensures.agrees mid now) (ap (λ (l : List ℕ). is_among l c.args.file) c.in_ok-fit.ensures.kept.all ∙ c.requires.linked)).header
 
-pub remake-requires-clause-groups : goal.remake-requires-clause-groups
-remake-requires-clause-groups g c mid now =
+-- the groups of the file, as they are kept
+groups_now : (g : given.Over) (c : goal.After-remake g) (mid : Image) → (g.F.Folder.told c.fit.new.f).files ≡ Some mid → c.blocks_in-groups.result / 4 ≡ groups_of (max_entries_in mid c.args.file)
+groups_now g c mid now =
     let agrees = c.in_ok-fit.ensures.agrees mid now in
     let there : is_among _ c.args.file ≡ _ = ap (λ (l : List ℕ). is_among l c.args.file) c.in_ok-fit.ensures.kept.all ∙ c.requires.linked in
     let most = (count_whole _ (all_head c.fit.new.self mid c.args.file agrees there).count).1 in
@@ -39,11 +43,16 @@ remake-requires-clause-groups g c mid now =
     let blocks = c.blocks_in-groups.ensures.blocks there in
     ap (λ (k : ℕ). k / 4) {x = c.blocks_in-groups.result} {y = max_entries_in mid c.args.file} (omega (arith, most, same, blocks))
 
+pub returns-clause-done : goal.returns-clause-done
+returns-clause-done g c =
+    on_ok_weaker c.remake.result
+    (λ done. told_at_end (g.F.Folder.told c.fit.new.f).files (g.F.Folder.told c.remake.new.f).files (λ image. IsRebuilt c.args.claims.now image c.args.file) c.remake.ensures.silent (λ mid now. done mid now (groups_now g c mid now))) c.remake.ensures.done
+
 pub returns-clause-agrees : goal.returns-clause-agrees
 returns-clause-agrees g c =
     told_at_end (g.F.Folder.told c.fit.new.f).files (g.F.Folder.told c.remake.new.f).files (Agrees c.fit.new.self) c.remake.ensures.silent
     (λ mid now. let keeps : (i : Image) → RemakesInProgress c.args.claims.now c.args.file mid i → Agrees c.fit.new.self i = λ i remade. agrees_kept c.args.file mid i remade.same c.fit.new.self (c.in_ok-fit.ensures.agrees mid now) in
-    needed_end (needed_weaker (c.remake.ensures.stops mid now) keeps))
+    needed_end (needed_weaker (c.remake.ensures.stops mid now (groups_now g c mid now)) keeps))
 
 pub returns-clause-stops : goal.returns-clause-stops
 returns-clause-stops g c from there =
@@ -55,7 +64,7 @@ returns-clause-stops g c from there =
     (fit_needed c.args.files.now c.args.file from (IsRebuilding c.args.claims.now (c.args.file ∷ []) from) there (c.requires.agrees from there) c.requires.linked c.in_ok-fit.ensures.fitted
     (fit_passes c.args.files.now c.args.file from (c.requires.agrees from there) c.requires.linked (IsRebuilding c.args.claims.now (c.args.file ∷ []) from) there c.in_ok-fit.ensures.fitted
     (λ i same longer. lengthened_is c.args.claims.now c.args.file from i same longer)))
-    (λ mid now lengthened. needed_weaker (c.remake.ensures.stops found.0 found.1.now) keeps)
+    (λ mid now lengthened. needed_weaker (c.remake.ensures.stops found.0 found.1.now (groups_now g c found.0 found.1.now)) keeps)
 
 pub returns-in_err-fit-clause-all : goal.returns-in_err-fit-clause-all
 returns-in_err-fit-clause-all g c kind = ap (λ (files : BlockFiles). files_of files kind) c.in_err-fit.ensures.same
@@ -81,4 +90,5 @@ returns-in_err-fit-clause-clean g c from there long rebuilt = c.in_err-fit.ensur
 pub returns-clause-clean : goal.returns-clause-clean
 returns-clause-clean g c from there long rebuilt =
     let stays = fitted_none c.args.files.now c.args.file (g.F.Folder.told c.args.f.now) (g.F.Folder.told c.fit.new.f) long c.in_ok-fit.ensures.fitted in
-    c.remake.ensures.clean from (ap (λ (t : Told). t.files) stays ∙ there) rebuilt ∙ stays
+    let now = ap (λ (t : Told). t.files) stays ∙ there in
+    c.remake.ensures.clean from now (groups_now g c from now) rebuilt ∙ stays
