@@ -4,9 +4,9 @@ use Rattle.std.specs.Prelude.{All, ◌==◌, if◌then◌else◌}
 use Rattle.std.proofs.lemmas.List.{append-nil, drop_more, drop_all, length-drop, take_all}
 use Rattle.std.proofs.lemmas.List.Elements.{All-weaker, filter_passes}
 use Rattle.blk_image.specs.Image.{Image, Index}
-use Rattle.blk_image.specs.Steps.{TrailStep, after, applied, word_step}
+use Rattle.blk_image.specs.Steps.{TrailStep, after, word_step}
 use Rattle.blk_image.specs.Told.{Along, IsQuiet}
-use Rattle.blk_image.proofs.Runs.{quiet-append, until_weaker2}
+use Rattle.blk_image.proofs.Runs.{quiet-append}
 use Rattle.blk_image.proofs.WordSteps.{quiet-word_step}
 use Rattle.blk_format.specs.Headers.{place_of_bucket}
 use Rattle.blk_format.specs.Records.{entry_next_place}
@@ -35,11 +35,6 @@ link-leads words i w behind inside is next image =
 
 pub links-end : (words : List ℕ) (i : ℕ) → length words ≤ i → (image : Image) → next_words_steps (drop i words) image ≡ []
 links-end words i past image = ap (λ (l : List ℕ). next_words_steps l image) (drop_all i words past)
-
--- what is held behind the first steps
-pub along_behind : (P : Image → Type 0) (s t : List TrailStep) (image : Image) → Along P image (s ++ t) → Along P (after s image) t
-along_behind P [] t image all = all
-along_behind P (x ∷ s) t image all = along_behind P s t (applied x image) all.1
 
 -- no step of a chain is a note
 quiet-choice : (b : Bool) (steps : List TrailStep) → IsQuiet steps → IsQuiet (if b then [] else steps)
@@ -78,15 +73,6 @@ kept-check from bucket words are image holds =
     subst (λ (l : List ℕ). AllCheck l image) (sym are)
     (All-weaker (λ w. is_kept_record (kept from) w ≡ true) (λ w. RecordChecks w image)
     (λ w is. (kept-records-check image holds.writable w (subst (λ (ks : List Loaded). is_kept_record ks w ≡ true) (sym holds.kept_same) is)).checks) (kept_records from bucket) (are-kept from bucket))
-
--- at each word of the links
-pub links-check : (from : Image) (bucket : ℕ) (words : List ℕ) (image : Image) → bucket < 65536 → IsNextChain from bucket words image
-    → Along (AllCheck words) (after (bucket_steps bucket (first_or 0 words) image) image) (next_words_steps words (after (bucket_steps bucket (first_or 0 words) image) image))
-links-check from bucket words image inside next =
-    let first : List TrailStep = bucket_steps bucket (first_or 0 words) image in
-    let between : Image = after first image in
-    until_weaker2 (HoldsTheSame from) (AllCheck words) (HoldsTheSame from) (AllCheck words) (next_words_steps words between) between (kept-check from bucket words next.are_kept) (kept-check from bucket words next.are_kept)
-    (along_behind (HoldsTheSame from) first (next_words_steps words between) image (mends-next from bucket words image inside next).0)
 
 -- the word of the bucket, and then the links
 pub chain-leads : (bucket : ℕ) (words : List ℕ) → Leads (chain_steps bucket words) (bucket_steps bucket (first_or 0 words)) (next_words_steps words)

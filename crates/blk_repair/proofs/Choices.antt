@@ -24,7 +24,7 @@ use Rattle.blk_disk.proofs.Agreeing.{agrees_still}
 use Rattle.blk_lru.proofs.Kept.{kept_sealed}
 use Rattle.blk_audit.proofs.Shown.{names_stand}
 use Rattle.blk_chain.proofs.Heads.{names-parts}
-use Rattle.blk_repair_laws.specs.ChainRepair.{bucket_steps, chain_steps, next_words_steps, next_steps}
+use Rattle.blk_repair_laws.specs.ChainRepair.{bucket_steps, next_words_steps, next_steps}
 
 -- the word of a bucket
 bucket-by : (image : Image) (number w now : ℕ) → now ≡ bucket_of (byte image Index) number → (b : Bool) → (now == w) ≡ b → bucket_steps number w image ≡ (if b then [] else word_step Index (place_of_bucket number) w)
@@ -67,9 +67,6 @@ index_word-open files at x image is = (
   },
 )
 
-pub bucket-open : (files : BlockFiles) (number w : ℕ) (image : Image) → IsOpen files image → Along (IsOpen files) image (bucket_steps number w image)
-bucket-open files number w image is = choice-open files image ((store_of image).table number == w) (word_step Index (place_of_bucket number) w) is (index_word-open files (place_of_bucket number) w image is)
-
 pub next-open : (files : BlockFiles) (entry w : ℕ) (image : Image) → IsOpen files image → Along (IsOpen files) image (next_steps entry w image)
 next-open files entry w image is = choice-open files image ((store_of image).chain_next entry == w) (sealed_steps image entry ((entry_next_place, w) ∷ [])) is (kept_sealed files entry ((entry_next_place, w) ∷ []) image is)
 
@@ -88,15 +85,9 @@ next-later files a m entry w now P is_open stands read apart stays holds from th
     (subst (λ (t : Told). ForSome t.files (λ from. P t (sealed_steps from entry ((4, w) ∷ [])))) stays holds from there)
 
 -- and so does a chain of them
-links-open : (files : BlockFiles) (words : List ℕ) (image : Image) → IsOpen files image → Along (IsOpen files) image (next_words_steps words image)
+pub links-open : (files : BlockFiles) (words : List ℕ) (image : Image) → IsOpen files image → Along (IsOpen files) image (next_words_steps words image)
 links-open files [] image is = is
 links-open files (w ∷ words) image is =
     let first : List TrailStep = next_steps w (first_or 0 words) image in
     let all : Along (IsOpen files) image first = next-open files w (first_or 0 words) image is in
-    until-append (IsOpen files) (IsOpen files) first (next_words_steps words (after first image)) image all (links-open files words (after first image) (until_last (IsOpen files) (IsOpen files) first image all))
-
-pub chain-open : (files : BlockFiles) (number : ℕ) (words : List ℕ) (image : Image) → IsOpen files image → Along (IsOpen files) image (chain_steps number words image)
-chain-open files number words image is =
-    let first : List TrailStep = bucket_steps number (first_or 0 words) image in
-    let all : Along (IsOpen files) image first = bucket-open files number (first_or 0 words) image is in
     until-append (IsOpen files) (IsOpen files) first (next_words_steps words (after first image)) image all (links-open files words (after first image) (until_last (IsOpen files) (IsOpen files) first image all))

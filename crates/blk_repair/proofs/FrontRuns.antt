@@ -1,14 +1,14 @@
 -- The words of the buckets, as they were read, while other buckets are mended.
 use Rattle.std.proofs.Common.{◌≡◌, ℕ, ◌+◌, ◌%◌, ◌<◌, ◌≤◌, Bool, true, false, List, [], ◌∷◌, length, Option, None, refl, sym, ◌∙◌, ap, subst, arith}
-use Rattle.std.specs.Prelude.{◌==◌, if◌then◌else◌}
+use Rattle.std.specs.Prelude.{◌==◌, if◌then◌else◌, slice_index}
 use Rattle.std.specs.Option.{ForSome, unwrap_or}
 use Rattle.blk_image.specs.Bytes.{content, word_bytes}
 use Rattle.blk_image.specs.Image.{Image, Index, Block, byte}
 use Rattle.blk_image.specs.Steps.{TrailStep, Word, after, applied, word_step, word_steps}
-use Rattle.blk_image.specs.Told.{Told, Applies}
+use Rattle.blk_image.specs.Told.{Told, Along, Applies, AppliesPrefix}
 use Rattle.blk_image.proofs.Cuts.{after-append}
 use Rattle.blk_image.proofs.Images.{word-after_other}
-use Rattle.blk_image.proofs.Runs.{some_inj, told_whole}
+use Rattle.blk_image.proofs.Runs.{some_inj, told_rel, told_whole}
 use Rattle.blk_format.specs.Address.{file_selector, place}
 use Rattle.blk_format.specs.Headers.{bucket_of, place_of_bucket}
 use Rattle.blk_format.specs.Records.{entry_next_place}
@@ -17,8 +17,8 @@ use Rattle.blk_volume.specs.ListView.{first_or}
 use Rattle.blk_volume.specs.View.{store_of}
 use Rattle.blk_io.proofs.Carried.{told_at_end}
 use Rattle.blk_index.specs.Table.{AreBuckets}
-use Rattle.blk_repair_laws.specs.ChainRepair.{bucket_steps, chain_steps, next_steps, next_words_steps}
-use Rattle.blk_repair.specs.Chains.{AreFronts, KeepsOtherBuckets}
+use Rattle.blk_repair_laws.specs.ChainRepair.{next_steps, next_words_steps}
+use Rattle.blk_repair.specs.Chains.{AreFronts, IsFront, KeepsOtherBuckets}
 
 -- ---- a chain that is mended leaves the words of the other buckets
 
@@ -41,22 +41,23 @@ links-elsewhere (w ∷ words) image =
     let first : List TrailStep = next_steps w (first_or 0 words) image in
     ap (λ (i : Image). i Index) (after-append first (next_words_steps words (after first image)) image) ∙ links-elsewhere words (after first image) ∙ next-elsewhere image w (first_or 0 words) ((store_of image).chain_next w == first_or 0 words)
 
-front-elsewhere : (bucket w : ℕ) (image : Image) (b : Bool) → KeepsOtherBuckets bucket image (after (if b then [] else word_step Index (place_of_bucket bucket) w) image)
+front-elsewhere : (bucket w : ℕ) (image : Image) → Along (KeepsOtherBuckets bucket image) image (word_step Index (place_of_bucket bucket) w)
 unfolding word_step
-front-elsewhere bucket w image true = λ other apart. refl
-front-elsewhere bucket w image false = λ other apart. word-after_other image Index (place_of_bucket bucket) (word_bytes w) (place_of_bucket other) (omega arith) (omega arith) (λ e. apart (omega (arith, e)))
+front-elsewhere bucket w image = ((λ other apart. refl), (λ other apart. word-after_other image Index (place_of_bucket bucket) (word_bytes w) (place_of_bucket other) (omega arith) (omega arith) (λ e. apart (omega (arith, e)))))
 
-chain-elsewhere : (bucket : ℕ) (words : List ℕ) (image : Image) → KeepsOtherBuckets bucket image (after (chain_steps bucket words image) image)
-chain-elsewhere bucket words image = λ other apart.
-    let first : List TrailStep = bucket_steps bucket (first_or 0 words) image in
-    ap (λ (i : Image). bucket_of (byte i Index) other) (after-append first (next_words_steps words (after first image)) image)
-    ∙ ap (λ (o : Option (List ℕ)). bucket_of (content (unwrap_or o [])) other) (links-elsewhere words (after first image))
-    ∙ front-elsewhere bucket (first_or 0 words) image ((store_of image).table bucket == first_or 0 words) other apart
+-- the word of a bucket was written, or wasn't
+pub others-front : {a b : Told} (bucket w : ℕ) → AppliesPrefix a b (word_step Index (place_of_bucket bucket) w) → ForSome a.files (λ from. ForSome b.files (KeepsOtherBuckets bucket from))
+others-front {a} {b} bucket w part = told_rel (KeepsOtherBuckets bucket) part (front-elsewhere bucket w)
 
-pub others-kept : (a b : Told) (bucket : ℕ) (words : List ℕ) → ForSome a.files (λ from. Applies a b (chain_steps bucket words from)) → ForSome a.files (λ from. ForSome b.files (KeepsOtherBuckets bucket from))
-others-kept a b bucket words all from there =
-    told_whole (KeepsOtherBuckets bucket from) (all from there)
-    (λ i is. subst (λ (x : Image). KeepsOtherBuckets bucket from (after (chain_steps bucket words from) x)) (some_inj (sym there ∙ is)) (chain-elsewhere bucket words from))
+-- and then records were linked
+pub others-kept : (a m b : Told) (bucket : ℕ) (words : List ℕ) → ForSome a.files (λ from. ForSome m.files (KeepsOtherBuckets bucket from)) → ForSome m.files (λ mid. Applies m b (next_words_steps words mid)) → (m.files ≡ None → b.files ≡ None)
+    → ForSome a.files (λ from. ForSome b.files (KeepsOtherBuckets bucket from))
+others-kept a m b bucket words front links silent from there =
+    told_at_end m.files b.files (KeepsOtherBuckets bucket from) silent
+    (λ mid between.
+    told_whole (KeepsOtherBuckets bucket from) (links mid between)
+    (λ i is other apart.
+    ap (λ (o : Option (List ℕ)). bucket_of (content (unwrap_or o [])) other) (ap (λ (x : Image). (after (next_words_steps words mid) x) Index) (some_inj (sym is ∙ between)) ∙ links-elsewhere words mid) ∙ front from there mid between other apart))
 
 -- ---- the words that were read
 
@@ -71,3 +72,11 @@ pub fronts-on : (a b : Told) (words : List ℕ) (bucket last : ℕ) → ForSome 
 fronts-on a b words bucket last fronts others silent =
     told_at_end a.files b.files (AreFronts words (bucket + 1) last) silent
     (λ from there image here other low high. fronts from there other (omega (arith, low)) high ∙ sym (others from there image here other (λ e. absurd (omega (arith, low, e)))))
+
+-- what a read adds to the words that were read before
+pub fronts-after : {a b : Told} (old words : List ℕ) (bucket before last : ℕ) → b ≡ a → ForSome a.files (AreFronts old bucket before) → ForSome a.files (λ from. AreFronts old bucket before from → AreFronts words bucket last from) → ForSome b.files (AreFronts words bucket last)
+fronts-after {a} {b} old words bucket before last same were are = subst (λ (t : Told). ForSome t.files (AreFronts words bucket last)) (sym same) (λ from there. are from there (were from there))
+
+-- a bucket whose word was read has it at its place in the piece
+pub front-there : {files : Option Image} (words : List ℕ) (bucket last front : ℕ) (whole : Bool) → (whole ≡ false → bucket < last) → front ≡ slice_index words (bucket % 16384) → ForSome files (AreFronts words bucket last) → ForSome files (λ image. whole ≡ false → IsFront front bucket image)
+front-there words bucket last front whole reached is fronts image there apart = is ∙ fronts image there bucket (omega arith) (reached apart)

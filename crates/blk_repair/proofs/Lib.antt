@@ -1,5 +1,6 @@
 pub mod Progress
 pub mod Choices
+pub mod RecordRuns
 pub mod ChainRuns
 pub mod RemovalRuns
 pub mod ListRuns

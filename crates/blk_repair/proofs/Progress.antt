@@ -136,3 +136,18 @@ now_has old now steps P made silent holds image here = by_files old.files refl
     by_files : (o : Option Image) → old.files ≡ o → P image
     by_files None none = absurd (no_some (sym (silent none) ∙ here))
     by_files (Some from) there = subst P (some_inj (sym ((made from there).files ∙ ap (option_map (after (steps from))) there) ∙ here)) (holds from there)
+
+-- what holds of the files that are told
+pub told_is : {files : Option Image} (P : Image → Type 0) (from : Image) → files ≡ Some from → P from → ForSome files P
+told_is {files} P from there holds image here = subst P (some_inj (sym there ∙ here)) holds
+
+-- a part of some steps leaves a folder untold only where it was
+pub untold_part : {a b : Told} {s : List TrailStep} → AppliesPrefix a b s → b.files ≡ None → a.files ≡ None
+untold_part {a} {b} {s} part none = by_files a.files refl
+  where
+    no_some : (image : Image) → None ≡ Some image → ⊥
+    no_some image e = cc
+
+    by_files : (o : Option Image) → a.files ≡ o → a.files ≡ None
+    by_files None there = there
+    by_files (Some from) there = absurd (no_some (after part.made from) (sym none ∙ part.applies.files ∙ ap (option_map (after part.made)) there))

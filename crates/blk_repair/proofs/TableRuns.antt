@@ -14,8 +14,9 @@ use Rattle.blk_repair_laws.specs.ChainRepair.{AreChainsMended, HasChainsUpTo, ch
 use Rattle.blk_repair_laws.specs.ListRepair.{HoldsTheSame}
 use Rattle.blk_repair_laws.proofs.ChainRepair.{chains-begin, chains-repaired}
 use Rattle.blk_audit.specs.BucketEnds.{records_of}
-use Rattle.blk_repair.specs.Chains.{AreChainsScanned, IsNextBucket}
-use Rattle.blk_repair.proofs.ChainRuns.{mends-next, quiet-chain}
+use Rattle.blk_repair.specs.Chains.{AreChainsScanned, IsFront, IsNextBucket}
+use Rattle.blk_repair.specs.Damages.{AllCheck}
+use Rattle.blk_repair.proofs.ChainRuns.{kept-check, mends-next, quiet-chain}
 
 -- the chains below a bucket were mended, by the first of the steps of the repair; those of so many buckets are left
 pub record IsMendedTo (old now : Told) (from : Image) (bucket : ℕ) : Type 0 where
@@ -55,11 +56,12 @@ one-left : (records : ℕ → List ℕ) (bucket left more : ℕ) (image : Image)
 one-left records bucket left more image is = ap (λ (n : ℕ). chains_steps records bucket n image) is
 
 -- what is known of the bucket that is next
-next-is : (old now : Told) (records ends : List ℕ) (whole : List Bool) (bucket : ℕ) (own : List ℕ) (told : Bool) (from : Image) → bucket < 65536 → own ≡ records_of records ends bucket → told ≡ slice_index_or whole bucket false → AreChainsScanned records ends whole from
-    → IsMendedTo old now from bucket → ForSome now.files (IsNextBucket from bucket own told)
-next-is old now records ends whole bucket own told from inside own-is told-is scanned to image here = record {
+next-is : (old now : Told) (records ends : List ℕ) (whole : List Bool) (bucket front : ℕ) (own : List ℕ) (told : Bool) (from : Image) → bucket < 65536 → own ≡ records_of records ends bucket → told ≡ slice_index_or whole bucket false
+    → ForSome now.files (λ image. told ≡ false → IsFront front bucket image) → AreChainsScanned records ends whole from → IsMendedTo old now from bucket → ForSome now.files (IsNextBucket from bucket front own told)
+next-is old now records ends whole bucket front own told from inside own-is told-is read scanned to image here = record {
   next = record { well_formed = scanned.well_formed; keeps_all = scanned.keeps_all; up_to = to.up_to image here; are_kept = own-is ∙ scanned.are_kept bucket inside };
   is_whole = λ yes. subst (IsChain (store_of from) bucket) (sym own-is) (scanned.are_whole bucket inside (sym told-is ∙ yes));
+  is_front = read image here;
 }
 
 -- the files now
@@ -90,26 +92,32 @@ part-so-far old now records ends whole bucket are from there scanned =
     subst (AppliesPrefix old now) (sym to.split) (part_only (chains_steps (kept_records from) bucket to.left (after to.done from)) (part_whole to.applies))
 
 -- one call more
-module _ (old now : Told) (records ends : List ℕ) (whole : List Bool) (bucket : ℕ) (own : List ℕ) (told : Bool) (inside : bucket < 65536) (own-is : own ≡ records_of records ends bucket) (told-is : told ≡ slice_index_or whole bucket false)
-    (are : AreMendedTo old now records ends whole bucket) where
+module _ (old now : Told) (records ends : List ℕ) (whole : List Bool) (bucket front : ℕ) (own : List ℕ) (told : Bool) (inside : bucket < 65536) (own-is : own ≡ records_of records ends bucket) (told-is : told ≡ slice_index_or whole bucket false)
+    (read : ForSome now.files (λ image. told ≡ false → IsFront front bucket image)) (are : AreMendedTo old now records ends whole bucket) where
   -- the files now have this as their next bucket
-  pub has-next : ForSome old.files (AreChainsScanned records ends whole) → ForSome now.files (λ image. (from : Image) × IsNextBucket from bucket own told image)
+  has-next : ForSome old.files (AreChainsScanned records ends whole) → ForSome now.files (λ image. (from : Image) × IsNextBucket from bucket front own told image)
   has-next scanned image here = by_files old.files refl
     where
       no_some : None ≡ Some image → ⊥
       no_some e = cc
 
-      by_files : (o : Option Image) → old.files ≡ o → (from : Image) × IsNextBucket from bucket own told image
+      by_files : (o : Option Image) → old.files ≡ o → (from : Image) × IsNextBucket from bucket front own told image
       by_files None none = absurd (no_some (sym (are.silent none) ∙ here))
-      by_files (Some from) there = (from, next-is old now records ends whole bucket own told from inside own-is told-is (scanned from there) (are.mended from there (scanned from there)) image here)
+      by_files (Some from) there = (from, next-is old now records ends whole bucket front own told from inside own-is told-is read (scanned from there) (are.mended from there (scanned from there)) image here)
+
+  -- so its records check
+  pub own-check : ForSome old.files (AreChainsScanned records ends whole) → ForSome now.files (AllCheck own)
+  own-check scanned image here =
+      let next : (from : Image) × IsNextBucket from bucket front own told image = has-next scanned image here in
+      kept-check next.0 bucket own next.1.next.are_kept image next.1.next.up_to.holds
 
   module _ (next : Told) where
-    pub part-on : ForSome now.files (λ mid. (from : Image) → IsNextBucket from bucket own told mid → AppliesPrefix now next (chain_steps bucket own mid)) → ForSome old.files (λ from. AreChainsScanned records ends whole from → AppliesPrefix old next (chain_repair_steps from))
+    pub part-on : ForSome now.files (λ mid. (from : Image) → IsNextBucket from bucket front own told mid → AppliesPrefix now next (chain_steps bucket own mid)) → ForSome old.files (λ from. AreChainsScanned records ends whole from → AppliesPrefix old next (chain_repair_steps from))
     part-on part from there scanned =
         let to : IsMendedTo old now from bucket = are.mended from there scanned in
         let mid : Image = after to.done from in
         let here : now.files ≡ Some mid = now-there old now from bucket to there in
-        let is : IsNextBucket from bucket own told mid = next-is old now records ends whole bucket own told from inside own-is told-is scanned to mid here in
+        let is : IsNextBucket from bucket front own told mid = next-is old now records ends whole bucket front own told from inside own-is told-is read scanned to mid here in
         let step : List TrailStep = chain_steps bucket (kept_records from bucket) mid in
         let more : ℕ = to.left - 1 in
         let count : to.left ≡ suc more = (let l = to.is_left in omega (arith, l, inside)) in
@@ -117,13 +125,13 @@ module _ (old now : Told) (records ends : List ℕ) (whole : List Bool) (bucket 
         (part_then to.applies
         (part_only (chains_steps (kept_records from) (bucket + 1) more (after step mid)) (subst (λ (l : List ℕ). AppliesPrefix now next (chain_steps bucket l mid)) is.next.are_kept (part mid here from is))))
 
-    pub mended-on : ForSome now.files (λ mid. (from : Image) → IsNextBucket from bucket own told mid → Applies now next (chain_steps bucket own mid)) → (now.files ≡ None → next.files ≡ None) → AreMendedTo old next records ends whole (bucket + 1)
+    pub mended-on : ForSome now.files (λ mid. (from : Image) → IsNextBucket from bucket front own told mid → Applies now next (chain_steps bucket own mid)) → (now.files ≡ None → next.files ≡ None) → AreMendedTo old next records ends whole (bucket + 1)
     mended-on steps silent = record {
       mended = λ from there scanned.
           let to : IsMendedTo old now from bucket = are.mended from there scanned in
           let mid : Image = after to.done from in
           let here : now.files ≡ Some mid = now-there old now from bucket to there in
-          let is : IsNextBucket from bucket own told mid = next-is old now records ends whole bucket own told from inside own-is told-is scanned to mid here in
+          let is : IsNextBucket from bucket front own told mid = next-is old now records ends whole bucket front own told from inside own-is told-is read scanned to mid here in
           let step : List TrailStep = chain_steps bucket (kept_records from bucket) mid in
           let more : ℕ = to.left - 1 in
           let count : to.left ≡ suc more = (let l = to.is_left in omega (arith, l, inside)) in

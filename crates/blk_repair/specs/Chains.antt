@@ -17,10 +17,15 @@ pub record IsNextChain (from : Image) (bucket : ℕ) (records : List ℕ) (image
   pub up_to : HasChainsUpTo from bucket image
   pub are_kept : records ≡ kept_records from bucket
 
--- and if the bucket is told whole, it was the chain of these already
-pub record IsNextBucket (from : Image) (bucket : ℕ) (records : List ℕ) (whole : Bool) (image : Image) : Type 0 where
+-- this is the word of a bucket
+abbrev pub IsFront : (front bucket : ℕ) → Image → Type 0
+IsFront front bucket image = front ≡ bucket_of (byte image Index) bucket
+
+-- and if the bucket is told whole, it was the chain of these already; if it isn't, its word was read
+pub record IsNextBucket (from : Image) (bucket front : ℕ) (records : List ℕ) (whole : Bool) (image : Image) : Type 0 where
   pub next : IsNextChain from bucket records image
   pub is_whole : whole ≡ true → IsChain (store_of from) bucket records
+  pub is_front : whole ≡ false → IsFront front bucket image
 
 -- the words of all other buckets are as before
 abbrev pub KeepsOtherBuckets : ℕ → Image → Image → Type 0

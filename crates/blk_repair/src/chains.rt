@@ -1,15 +1,13 @@
 // Buckets that are made the chains of their kept records.
 ghost use Rattle.std.specs.Prelude.{◌≡◌, ◌≤◌, None, OnOk, All, true};
 ghost use Rattle.std.specs.Option.{ForSome};
-ghost use Rattle.blk_image.specs.Image.{Image, Index as index, byte};
-ghost use Rattle.blk_image.specs.Told.{Along, Applies, MakesPartOf, Rises};
-ghost use Rattle.blk_format.specs.Headers.{bucket_of};
+ghost use Rattle.blk_image.specs.Told.{Applies, AppliesPrefix, MakesPartOf, Rises};
 ghost use Rattle.blk_io.specs.Faults.{IfDamaged, IfDevice};
 ghost use Rattle.blk_disk.specs.Tables.{is_record_among};
 ghost use Rattle.blk_disk.specs.Open.{IsOpen};
 ghost use Rattle.blk_repair_laws.specs.ChainRepair.{chain_steps, next_words_steps};
 ghost use Rattle.blk_repair.specs.Damages.{AllCheck, IsFailedLink};
-ghost use Rattle.blk_repair.specs.Chains.{IsNextChain, KeepsOtherBuckets};
+ghost use Rattle.blk_repair.specs.Chains.{IsFront, KeepsOtherBuckets};
 
 use crate::links::{first_word, set_front, set_next};
 use blk_addr::Addr;
@@ -30,15 +28,15 @@ pub(crate) fn mend_chain<F: Folder>(
 ) -> Result<(), Fault>
     requires stand { All (λ w. is_record_among files.now w ≡ true) records.now }
     requires is_open { ForSome (F.told f.old).files (IsOpen files.now) }
-    requires read { ForSome (F.told f.old).files (λ image. front ≡ bucket_of (byte image index) bucket) }
-    ensures steps { OnOk result (ForSome (F.told f.old).files (λ from. Applies (F.told f.old) (F.told f.new) (chain_steps bucket records.now from))) }
-    ensures prefix { MakesPartOf (F.told f.old) (F.told f.new) (λ from. chain_steps bucket records.now from) }
+    ensures steps { OnOk result (ForSome (F.told f.old).files (λ from. IsFront front bucket from → Applies (F.told f.old) (F.told f.new) (chain_steps bucket records.now from))) }
+    ensures prefix { ForSome (F.told f.old).files (λ from. IsFront front bucket from → AppliesPrefix (F.told f.old) (F.told f.new) (chain_steps bucket records.now from)) }
+    ensures silent { (F.told f.old).files ≡ None → (F.told f.new).files ≡ None }
     ensures others { OnOk result (ForSome (F.told f.old).files (λ from. ForSome (F.told f.new).files (KeepsOtherBuckets bucket from))) }
     ensures is_open { ForSome (F.told f.new).files (IsOpen files.now) }
 
-    // A folder that tells its files gives a damage only where the records aren't those that are kept.
+    // A folder that tells its files gives a damage only where not all of the records check.
     ensures damaged { IfDamaged result (IsFailedLink files.now (F.told f.new)) }
-    ensures untold { ForSome (F.told f.old).files (λ from. (entry : Image) × IsNextChain entry bucket records.now from) → IfDamaged result (λ _. (F.told f.old).files ≡ None) }
+    ensures untold { ForSome (F.told f.old).files (AllCheck records.now) → IfDamaged result (λ _. (F.told f.old).files ≡ None) }
 
     ensures later { F.faults f.old ≤ F.faults f.new }
     ensures device { IfDevice result (Rises (F.faults f.old) (F.faults f.new)) }
@@ -55,8 +53,8 @@ fn link<F: Folder>(f: &mut F, files: &BlockFiles, records: &[Addr]) -> Result<()
     ensures prefix { MakesPartOf (F.told f.old) (F.told f.new) (λ from. next_words_steps records.now from) }
     ensures damaged { IfDamaged result (IsFailedLink files.now (F.told f.new)) }
 
-    // A folder that tells its files gives a damage only where not all of them check at each word.
-    ensures untold { ForSome (F.told f.old).files (λ from. Along (AllCheck records.now) from (next_words_steps records.now from)) → IfDamaged result (λ _. (F.told f.old).files ≡ None) }
+    // A folder that tells its files gives a damage only where not all of them check.
+    ensures untold { ForSome (F.told f.old).files (AllCheck records.now) → IfDamaged result (λ _. (F.told f.old).files ≡ None) }
     ensures later { F.faults f.old ≤ F.faults f.new }
     ensures device { IfDevice result (Rises (F.faults f.old) (F.faults f.new)) }
 {

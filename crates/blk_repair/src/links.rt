@@ -1,9 +1,10 @@
 // The words by which chains are linked: those of the table, and the nexts of records. One is written only where it differs.
 ghost use Rattle.std.specs.Prelude.{◌≡◌, ◌≤◌, ◌⊎◌, None, OnErr, OnOk, true};
 ghost use Rattle.std.specs.Option.{ForSome};
-ghost use Rattle.blk_image.specs.Image.{Index as index, byte};
-ghost use Rattle.blk_image.specs.Told.{Applies, MakesPartOf, Rises};
-ghost use Rattle.blk_format.specs.Headers.{HasWholeIndex, bucket_of};
+ghost use Rattle.blk_image.specs.Image.{Index as index};
+ghost use Rattle.blk_image.specs.Steps.{word_step};
+ghost use Rattle.blk_image.specs.Told.{Applies, AppliesPrefix, MakesPartOf, Rises};
+ghost use Rattle.blk_format.specs.Headers.{HasWholeIndex, place_of_bucket};
 ghost use Rattle.blk_format.specs.Sealed.{RecordChecks};
 ghost use Rattle.blk_volume.specs.View.{store_of};
 ghost use Rattle.blk_volume.specs.ListView.{first_or};
@@ -11,6 +12,7 @@ ghost use Rattle.blk_io.specs.Faults.{IfDamaged, IfDevice};
 ghost use Rattle.blk_disk.specs.Tables.{is_record_among};
 ghost use Rattle.blk_disk.specs.Open.{IsOpen};
 ghost use Rattle.blk_repair_laws.specs.ChainRepair.{bucket_steps, next_steps};
+ghost use Rattle.blk_repair.specs.Chains.{IsFront};
 ghost use Rattle.blk_repair.specs.Damages.{IsFailedLink};
 
 use blk_addr::Addr;
@@ -38,9 +40,12 @@ pub(crate) fn set_front<F: Folder>(
     word: u32,
 ) -> Result<(), Failed>
     requires complete { ForSome (F.told f.old).files HasWholeIndex }
-    requires read { ForSome (F.told f.old).files (λ image. now ≡ bucket_of (byte image index) number) }
-    ensures steps { OnOk result (ForSome (F.told f.old).files (λ from. Applies (F.told f.old) (F.told f.new) (bucket_steps number word from))) }
-    ensures prefix { MakesPartOf (F.told f.old) (F.told f.new) (λ from. bucket_steps number word from) }
+    ensures steps { OnOk result (ForSome (F.told f.old).files (λ from. IsFront now number from → Applies (F.told f.old) (F.told f.new) (bucket_steps number word from))) }
+    ensures prefix { ForSome (F.told f.old).files (λ from. IsFront now number from → AppliesPrefix (F.told f.old) (F.told f.new) (bucket_steps number word from)) }
+
+    // On every folder this word is written at most.
+    ensures only { AppliesPrefix (F.told f.old) (F.told f.new) (word_step index (place_of_bucket number) word) }
+
     ensures later { F.faults f.old ≤ F.faults f.new }
     ensures failed { OnErr result (Rises (F.faults f.old) (F.faults f.new)) }
 {

@@ -1,9 +1,9 @@
 // All buckets are made the chains of their kept records.
 ghost use Rattle.std.specs.Prelude.{◌≡◌, ◌<◌, ◌≤◌, None, IfOk, OnOk, All, true, false, length};
 ghost use Rattle.std.specs.Option.{ForSome};
-ghost use Rattle.blk_image.specs.Image.{Image, Index as index, byte};
+ghost use Rattle.blk_image.specs.Image.{Image};
 ghost use Rattle.blk_image.specs.Told.{Applies, AppliesPrefix, Passes, Rises, Stays};
-ghost use Rattle.blk_format.specs.Headers.{HasWholeIndex, bucket_of, table_length};
+ghost use Rattle.blk_format.specs.Headers.{HasWholeIndex, table_length};
 ghost use Rattle.blk_io.specs.Faults.{IfDamaged, IfDevice};
 ghost use Rattle.blk_disk.specs.Open.{IsOpen};
 ghost use Rattle.blk_disk.specs.Tables.{is_record_among};
@@ -13,7 +13,7 @@ ghost use Rattle.blk_index.specs.Table.{buckets_of_piece};
 ghost use Rattle.blk_audit.specs.BucketEnds.{AreEnds, records_of as records_among};
 ghost use Rattle.blk_audit.specs.Faults.{IsTableDamage};
 ghost use Rattle.blk_repair.specs.Chains.{AreChainsScanned, AreFronts, IsNextBucket, KeepsOtherBuckets};
-ghost use Rattle.blk_repair.specs.Damages.{IsChainsRepairDamage, IsFailedLink};
+ghost use Rattle.blk_repair.specs.Damages.{AllCheck, IsChainsRepairDamage, IsFailedLink};
 
 use crate::chains::mend_chain;
 use blk_addr::Addr;
@@ -84,9 +84,8 @@ fn read_piece<F: Folder>(
     table: &mut [u32],
 ) -> Result<u32, Fault>
     requires size { length table.old ≡ buckets_of_piece }
-    requires fronts { ForSome (F.told f.old).files (AreFronts table.old bucket read) }
     ensures size { length table.new ≡ buckets_of_piece }
-    ensures fronts { IfOk result (λ now. ForSome (F.told f.old).files (AreFronts table.new bucket now)) }
+    ensures fronts { IfOk result (λ now. ForSome (F.told f.old).files (λ from. AreFronts table.old bucket read from → AreFronts table.new bucket now from)) }
     ensures reached { IfOk result (λ now. whole ≡ false → bucket < now) }
     ensures stays { Stays (F.told f.old) (F.told f.new) }
     ensures damaged { IfDamaged result (IsTableDamage (F.told f.new)) }
@@ -113,14 +112,13 @@ fn mend_bucket<F: Folder>(
 ) -> Result<(), Fault>
     requires stand { All (λ w. is_record_among files.now w ≡ true) records.now }
     requires is_open { ForSome (F.told f.old).files (IsOpen files.now) }
-    requires read { whole ≡ false → ForSome (F.told f.old).files (λ image. front ≡ bucket_of (byte image index) bucket) }
-    ensures steps { OnOk result (ForSome (F.told f.old).files (λ from. (entry : Image) → IsNextBucket entry bucket records.now whole from → Applies (F.told f.old) (F.told f.new) (chain_steps bucket records.now from))) }
-    ensures prefix { ForSome (F.told f.old).files (λ from. (entry : Image) → IsNextBucket entry bucket records.now whole from → AppliesPrefix (F.told f.old) (F.told f.new) (chain_steps bucket records.now from)) }
+    ensures steps { OnOk result (ForSome (F.told f.old).files (λ from. (entry : Image) → IsNextBucket entry bucket front records.now whole from → Applies (F.told f.old) (F.told f.new) (chain_steps bucket records.now from))) }
+    ensures prefix { ForSome (F.told f.old).files (λ from. (entry : Image) → IsNextBucket entry bucket front records.now whole from → AppliesPrefix (F.told f.old) (F.told f.new) (chain_steps bucket records.now from)) }
     ensures others { OnOk result (ForSome (F.told f.old).files (λ from. ForSome (F.told f.new).files (KeepsOtherBuckets bucket from))) }
     ensures is_open { ForSome (F.told f.new).files (IsOpen files.now) }
     ensures silent { (F.told f.old).files ≡ None → (F.told f.new).files ≡ None }
     ensures damaged { IfDamaged result (IsFailedLink files.now (F.told f.new)) }
-    ensures untold { ForSome (F.told f.old).files (λ from. (entry : Image) × IsNextBucket entry bucket records.now whole from) → IfDamaged result (λ _. (F.told f.old).files ≡ None) }
+    ensures untold { ForSome (F.told f.old).files (AllCheck records.now) → IfDamaged result (λ _. (F.told f.old).files ≡ None) }
     ensures later { F.faults f.old ≤ F.faults f.new }
     ensures device { IfDevice result (Rises (F.faults f.old) (F.faults f.new)) }
 {

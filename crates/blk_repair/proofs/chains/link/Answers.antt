@@ -9,6 +9,7 @@ use Rattle.blk_repair_laws.specs.ChainRepair.{next_words_steps, next_steps}
 use Rattle.blk_repair.specs.Damages.{AllCheck}
 use Rattle.blk_repair.proofs.Choices.{next-open}
 use Rattle.blk_repair.proofs.ChainRuns.{link-leads, links-end}
+use Rattle.blk_repair.proofs.RecordRuns.{links-check}
 use Rattle.blk_repair.proofs.Progress.{Leads, begun, ended, now_along, stays-open, stopped, was_untold, went_on}
 use Rattle.blk_repair.proofs.chains.link.Given as given
 use Rattle.blk_repair.proofs.chains.link.Goals as goal
@@ -32,7 +33,7 @@ returns-in_err-set_next-clause-untold g c all =
     carried c.set_next.result c.from_residual.result c.in_err-set_next.field-0.0 (λ _. (g.F.Folder.told c.args.f.now).files ≡ None) c.in_err-set_next.was c.from_residual.ensures.1
     (if_damaged_weaker c.set_next.result _ _ (λ damage none. was_untold c.loop-i.invariant.progress none)
     (c.set_next.ensures.untold
-    (λ image here. subst (λ (w : ℕ). RecordChecks w image) (sym c.index-records-i.is) (All-get_or (λ w. RecordChecks w image) c.args.records.now c.loop-i.i c.index-records-i.result c.loop-i-test.true (now_along c.loop-i.invariant.progress (AllCheck c.args.records.now) all image here)))))
+    (λ image here. subst (λ (w : ℕ). RecordChecks w image) (sym c.index-records-i.is) (All-get_or (λ w. RecordChecks w image) c.args.records.now c.loop-i.i c.index-records-i.result c.loop-i-test.true (now_along c.loop-i.invariant.progress (AllCheck c.args.records.now) (λ from there. links-check c.args.files.now c.args.records.now from (c.requires.is_open from there) c.requires.stand (all from there)) image here)))))
 
 pub loop-i-preserved : goal.loop-i-preserved
 loop-i-preserved g c = record {

@@ -11,19 +11,16 @@ use Rattle.blk_repair.proofs.tables.mend_bucket.Goals as goal
 pub returns-then-whole-clause-steps : goal.returns-then-whole-clause-steps
 returns-then-whole-clause-steps g c image there entry next =
     subst (Applies (g.F.Folder.told c.args.f.now) (g.F.Folder.told c.args.f.now))
-    (sym (whole-steps entry c.args.bucket c.args.records.now image (subst (λ (b : Bool). IsNextBucket entry c.args.bucket c.args.records.now b image) c.if-whole.true next))) (grows_none refl)
+    (sym (whole-steps entry c.args.bucket c.args.front c.args.records.now image (subst (λ (b : Bool). IsNextBucket entry c.args.bucket c.args.front c.args.records.now b image) c.if-whole.true next))) (grows_none refl)
 
 pub returns-then-whole-clause-prefix : goal.returns-then-whole-clause-prefix
 returns-then-whole-clause-prefix g c image there entry next = part_whole (returns-then-whole-clause-steps g c image there entry next)
 
 pub returns-clause-steps : goal.returns-clause-steps
-returns-clause-steps g c = on_ok_weaker c.mend_chain.result (λ made image there entry is. made image there) c.mend_chain.ensures.steps
+returns-clause-steps g c = on_ok_weaker c.mend_chain.result (λ made image there entry is. made image there (is.is_front c.if-whole.false)) c.mend_chain.ensures.steps
 
 pub returns-clause-prefix : goal.returns-clause-prefix
-returns-clause-prefix g c image there entry is = c.mend_chain.ensures.prefix.made image there
+returns-clause-prefix g c image there entry is = c.mend_chain.ensures.prefix image there (is.is_front c.if-whole.false)
 
 pub returns-then-whole-clause-others : goal.returns-then-whole-clause-others
 returns-then-whole-clause-others g c from there image here other apart = ap (λ (i : Image). bucket_of (byte i Index) other) (some_inj (sym here ∙ there))
-
-pub mend_chain-requires-clause-read : goal.mend_chain-requires-clause-read
-mend_chain-requires-clause-read g c = c.requires.read c.if-whole.false

@@ -1,11 +1,8 @@
-use Rattle.std.proofs.Common.{◌≡◌, ◌<◌, ℕ, None, inl, refl, sym, subst, arith}
-use Rattle.std.specs.Option.{ForSome}
-use Rattle.blk_image.specs.Told.{Told}
+use Rattle.std.proofs.Common.{◌≡◌, ◌<◌, ℕ, None, inl, refl, arith}
 use Rattle.blk_image.proofs.Runs.{part_whole}
 use Rattle.blk_io.proofs.Carried.{carried, if_damaged_weaker}
-use Rattle.blk_repair.specs.Chains.{AreFronts}
-use Rattle.blk_repair.proofs.FrontRuns.{fronts-on}
-use Rattle.blk_repair.proofs.TableRuns.{has-next, mended-none, mended-on, part-on, part-so-far, repair-mends, repair-passes, repair-steps, stays-mended, were-untold}
+use Rattle.blk_repair.proofs.FrontRuns.{front-there, fronts-after, fronts-on}
+use Rattle.blk_repair.proofs.TableRuns.{mended-none, mended-on, own-check, part-on, part-so-far, repair-mends, repair-passes, repair-steps, stays-mended, were-untold}
 use Rattle.blk_repair.proofs.tables.mend_chains.Goals as goal
 
 pub loop-i-init : goal.loop-i-init
@@ -46,7 +43,7 @@ returns-in_err-read-clause-damaged g c =
 
 pub returns-in_err-mend_bucket-clause-prefix : goal.returns-in_err-mend_bucket-clause-prefix
 returns-in_err-mend_bucket-clause-prefix g c =
-    part-on (g.F.Folder.told c.args.f.now) (g.F.Folder.told c.read_piece.new.f) c.args.records.now c.args.ends.now c.args.whole.now c.loop-i.i c.records_of-own.result.now _ (below c.loop-i.i _ c.loop-i-test.true c.requires.ends.many) c.records_of-own.ensures refl
+    part-on (g.F.Folder.told c.args.f.now) (g.F.Folder.told c.read_piece.new.f) c.args.records.now c.args.ends.now c.args.whole.now c.loop-i.i _ c.records_of-own.result.now _ (below c.loop-i.i _ c.loop-i-test.true c.requires.ends.many) c.records_of-own.ensures refl (front-there c.read_piece.new.table c.loop-i.i c.in_ok-read.read _ _ c.in_ok-read.ensures.reached refl (fronts-after c.loop-i.table c.read_piece.new.table c.loop-i.i c.loop-i.read c.in_ok-read.read c.read_piece.ensures.stays c.loop-i.invariant.fronts c.in_ok-read.ensures.fronts))
     (stays-mended c.read_piece.ensures.stays c.loop-i.invariant.are) (g.F.Folder.told c.mend_bucket.new.f) c.mend_bucket.ensures.prefix
 
 pub returns-in_err-mend_bucket-clause-stops : goal.returns-in_err-mend_bucket-clause-stops
@@ -59,17 +56,17 @@ returns-in_err-mend_bucket-clause-untold g c scanned =
     (λ damage none.
     were-untold (g.F.Folder.told c.args.f.now) (g.F.Folder.told c.read_piece.new.f) c.args.records.now c.args.ends.now c.args.whole.now c.loop-i.i (stays-mended c.read_piece.ensures.stays c.loop-i.invariant.are) scanned none)
     (c.mend_bucket.ensures.untold
-    (has-next (g.F.Folder.told c.args.f.now) (g.F.Folder.told c.read_piece.new.f) c.args.records.now c.args.ends.now c.args.whole.now c.loop-i.i c.records_of-own.result.now _ (below c.loop-i.i _ c.loop-i-test.true c.requires.ends.many) c.records_of-own.ensures refl
+    (own-check (g.F.Folder.told c.args.f.now) (g.F.Folder.told c.read_piece.new.f) c.args.records.now c.args.ends.now c.args.whole.now c.loop-i.i _ c.records_of-own.result.now _ (below c.loop-i.i _ c.loop-i-test.true c.requires.ends.many) c.records_of-own.ensures refl (front-there c.read_piece.new.table c.loop-i.i c.in_ok-read.read _ _ c.in_ok-read.ensures.reached refl (fronts-after c.loop-i.table c.read_piece.new.table c.loop-i.i c.loop-i.read c.in_ok-read.read c.read_piece.ensures.stays c.loop-i.invariant.fronts c.in_ok-read.ensures.fronts))
     (stays-mended c.read_piece.ensures.stays c.loop-i.invariant.are) scanned)))
 
 pub loop-i-preserved : goal.loop-i-preserved
 loop-i-preserved g c = record {
-  are = mended-on (g.F.Folder.told c.args.f.now) (g.F.Folder.told c.read_piece.new.f) c.args.records.now c.args.ends.now c.args.whole.now c.loop-i.i c.records_of-own.result.now _ (below c.loop-i.i _ c.loop-i-test.true c.requires.ends.many) c.records_of-own.ensures refl
+  are = mended-on (g.F.Folder.told c.args.f.now) (g.F.Folder.told c.read_piece.new.f) c.args.records.now c.args.ends.now c.args.whole.now c.loop-i.i _ c.records_of-own.result.now _ (below c.loop-i.i _ c.loop-i-test.true c.requires.ends.many) c.records_of-own.ensures refl (front-there c.read_piece.new.table c.loop-i.i c.in_ok-read.read _ _ c.in_ok-read.ensures.reached refl (fronts-after c.loop-i.table c.read_piece.new.table c.loop-i.i c.loop-i.read c.in_ok-read.read c.read_piece.ensures.stays c.loop-i.invariant.fronts c.in_ok-read.ensures.fronts))
       (stays-mended c.read_piece.ensures.stays c.loop-i.invariant.are) (g.F.Folder.told c.mend_bucket.new.f) c.in_ok-mend_bucket.ensures.steps c.mend_bucket.ensures.silent;
   is_open = c.mend_bucket.ensures.is_open;
   size = c.read_piece.ensures.size;
   fronts = fronts-on (g.F.Folder.told c.read_piece.new.f) (g.F.Folder.told c.mend_bucket.new.f) c.read_piece.new.table c.loop-i.i c.in_ok-read.read
-      (subst (λ (t : Told). ForSome t.files (AreFronts c.read_piece.new.table c.loop-i.i c.in_ok-read.read)) (sym c.read_piece.ensures.stays) c.in_ok-read.ensures.fronts) c.in_ok-mend_bucket.ensures.others c.mend_bucket.ensures.silent;
+      (fronts-after c.loop-i.table c.read_piece.new.table c.loop-i.i c.loop-i.read c.in_ok-read.read c.read_piece.ensures.stays c.loop-i.invariant.fronts c.in_ok-read.ensures.fronts) c.in_ok-mend_bucket.ensures.others c.mend_bucket.ensures.silent;
   later = omega (arith, c.loop-i.invariant.later, c.read_piece.ensures.later, c.mend_bucket.ensures.later);
 }
 
