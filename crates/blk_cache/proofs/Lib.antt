@@ -5,3 +5,4 @@ pub mod OpenRuns
 pub mod CarriedFaults
 pub mod Starts
 pub mod MakingSteps
+pub mod CreationTimes

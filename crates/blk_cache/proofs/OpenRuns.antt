@@ -1,5 +1,5 @@
 -- What an opening leaves behind each of its parts.
-use Rattle.std.proofs.Common.{◌≡◌, ◌⊎◌, inl, inr, ⊎_elim, ℕ, Bool, true, List, [], length, Option, Some, None, Result, Ok, Err, refl, sym, ap, subst, ◌∙◌, lit≤}
+use Rattle.std.proofs.Common.{◌≡◌, ◌⊎◌, inl, inr, ⊎_elim, ℕ, Bool, true, List, [], length, Option, Some, None, Result, Err, refl, sym, ap, subst, ◌∙◌, lit≤}
 use Rattle.std.specs.Prelude.{All, IsErrAnd, IsTrue, if◌then◌else◌, unwrap_or}
 use Rattle.std.specs.Option.{ForSome, option_map}
 use Rattle.blk_image.specs.Steps.{after}
@@ -27,7 +27,6 @@ use Rattle.blk_io.specs.declared.fault.Fault.{Fault}
 use Rattle.blk_io.specs.declared.fault.Fault.TheVariants as fault
 use Rattle.blk_io.specs.Faults.{IfDamaged, damage_of}
 use Rattle.blk_io.proofs.Carried.{carried, if_damaged_weaker, untold_where}
-use Rattle.blk_index.specs.declared.start.Start.{Start}
 use Rattle.blk_index.specs.Start.{IsFinished, IsLookDamage, LooksAs}
 use Rattle.blk_disk.specs.Loading.{IsLoadDamage, LoadsAs}
 use Rattle.blk_disk.specs.Open.{IsOpen}

@@ -2,7 +2,7 @@
 use Rattle.std.specs.Prelude.{◌≡◌, ◌⊎◌, ℕ, Result, Ok, Err, if◌then◌else◌}
 use Rattle.blk_image.specs.Image.{Image, Index, byte}
 use Rattle.blk_format.specs.BlockFiles.{IsWellFormed}
-use Rattle.blk_format.specs.Headers.{IsUnfinished, crash_of, this_id_of, unfinished}
+use Rattle.blk_format.specs.Headers.{IsUnfinished, crash_of, create_time_of, this_id_of, unfinished}
 use Rattle.blk_volume.specs.Found.{found}
 use Rattle.blk_volume.specs.Sound.{IsSound}
 use Rattle.blk_io.specs.declared.fault.Damage.{Damage}
@@ -27,6 +27,10 @@ pub record HoldsStill (entry image : Image) : Type 0 where
 -- the number of the session that is opened on a folder: the first where it is made
 abbrev pub opened_id : Image → ℕ
 opened_id image = if unfinished image then 1 else next_id (this_id_of (byte image Index))
+
+-- a folder was made at this moment, as its index says
+abbrev pub WasMadeAt : ℕ → Image → Type 0
+WasMadeAt moment image = create_time_of (byte image Index) ≡ moment
 
 -- a cache ended: the folder is sound, and no session is open
 pub record EndsSession (image : Image) : Type 0 where

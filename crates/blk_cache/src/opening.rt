@@ -1,18 +1,19 @@
 // A folder is opened: it is made or checked, and repaired by what it holds.
 ghost use Rattle.std.specs.Prelude.{◌≡◌, ◌≤◌, IfOk, None, OnOk, Some};
 ghost use Rattle.std.specs.Option.{ForSome};
+ghost use Rattle.blk_image.specs.Image.{Index as index, byte};
 ghost use Rattle.blk_image.specs.Told.{Passes, Rises, Stays};
 ghost use Rattle.blk_format.specs.BlockFiles.{first_damage, IsWellFormed};
-ghost use Rattle.blk_format.specs.Headers.{HasWholeIndex, IsUnfinished};
+ghost use Rattle.blk_format.specs.Headers.{HasWholeIndex, IsUnfinished, create_time_of};
 ghost use Rattle.blk_io.specs.Faults.{IfDamaged, IfDevice, damage_of};
 ghost use Rattle.blk_index.specs.Start.{IsFinished, IsLookDamage};
 ghost use Rattle.blk_disk.specs.Loading.{IsLoadDamage};
 ghost use Rattle.blk_disk.specs.Open.{IsOpen};
-ghost use Rattle.blk_repair.specs.Repair.{EndsWithCrashWord, IsRepairDamage, IsRepairable};
+ghost use Rattle.blk_repair.specs.Repair.{EndsWithCrashWord, IsRepairDamage, IsRepairable, NeedsOnlyWords};
 ghost use Rattle.blk_repair_laws.specs.MendedChanges.{IsMidRepair};
 ghost use Rattle.blk_scan.specs.Scans.{StandAmong};
 ghost use Rattle.blk_cache.specs.Opened.{IsFirstDamage, IsJustMade, IsOpenedAs, IsOpeningDamage};
-ghost use Rattle.blk_cache.specs.Opening.{HoldsStill, IfOpenDamaged, IfOpenDevice, IfOpenMemory, IsUsable};
+ghost use Rattle.blk_cache.specs.Opening.{HoldsStill, IfOpenDamaged, IfOpenDevice, IfOpenMemory, IsUsable, WasMadeAt};
 
 use crate::fault::OpenFault;
 use blk_disk::BlockFiles;
@@ -41,6 +42,7 @@ pub(crate) fn open_folder<F: Folder>(
 ) -> Result<Opened, OpenFault>
     ensures opened { IfOk result (λ opened. ForSome (F.told f.old).files (λ from. ForSome (F.told f.new).files (IsOpenedAs from opened))) }
     ensures checked { OnOk result (ForSome (F.told f.old).files IsUsable) }
+    ensures made { OnOk result (ForSome (F.told f.old).files (λ from. IsUnfinished from → ForSome (F.told f.new).files (WasMadeAt moment))) }
     ensures stops { ForSome (F.told f.old).files (λ from. Passes (F.told f.old) (F.told f.new) (HoldsStill from)) }
     ensures last { OnOk result (ForSome (F.told f.old).files (λ _. EndsWithCrashWord (F.told f.old) (F.told f.new))) }
     ensures damaged { IfOpenDamaged result (IsOpeningDamage (F.told f.new)) }
@@ -61,6 +63,7 @@ pub(crate) fn open_folder<F: Folder>(
 fn open_new<F: Folder>(alloc: Global, f: &mut F, moment: u64) -> Result<Opened, Fault>
     requires unfinished { ForSome (F.told f.old).files IsUnfinished }
     ensures opened { IfOk result (λ opened. ForSome (F.told f.old).files (λ from. ForSome (F.told f.new).files (IsOpenedAs from opened))) }
+    ensures made { OnOk result (ForSome (F.told f.old).files (λ _. ForSome (F.told f.new).files (WasMadeAt moment))) }
     ensures stops { ForSome (F.told f.old).files (λ from. Passes (F.told f.old) (F.told f.new) (HoldsStill from)) }
     ensures last { OnOk result (ForSome (F.told f.old).files (λ _. EndsWithCrashWord (F.told f.old) (F.told f.new))) }
     ensures damaged { IfDamaged result (IsOpeningDamage (F.told f.new)) }
@@ -77,6 +80,7 @@ fn open_new<F: Folder>(alloc: Global, f: &mut F, moment: u64) -> Result<Opened, 
 fn open_made<F: Folder>(alloc: Global, f: &mut F) -> Result<Opened, Fault>
     requires complete { ForSome (F.told f.old).files HasWholeIndex }
     ensures opened { IfOk result (λ opened. ForSome (F.told f.old).files (λ from. IsJustMade from → ForSome (F.told f.new).files (IsOpenedAs from opened))) }
+    ensures made { OnOk result (ForSome (F.told f.old).files (λ from. IsJustMade from → ForSome (F.told f.new).files (WasMadeAt (create_time_of (byte from index))))) }
     ensures stops { ForSome (F.told f.old).files (λ from. IsJustMade from → Passes (F.told f.old) (F.told f.new) (IsMidRepair from)) }
     ensures last { OnOk result (ForSome (F.told f.old).files (λ from. IsJustMade from → EndsWithCrashWord (F.told f.old) (F.told f.new))) }
     ensures damaged { IfDamaged result (IsOpeningDamage (F.told f.new)) }
@@ -130,6 +134,7 @@ fn mend<F: Folder>(f: &mut F, files: BlockFiles, scan: &Scan) -> Result<Opened, 
     requires stand { StandAmong files scan.now }
     requires is_open { ForSome (F.told f.old).files (IsOpen files) }
     ensures opened { IfOk result (λ opened. ForSome (F.told f.old).files (λ from. IsRepairable scan.now from → ForSome (F.told f.new).files (IsOpenedAs from opened))) }
+    ensures made { OnOk result (ForSome (F.told f.old).files (λ from. IsRepairable scan.now from → NeedsOnlyWords scan.now from → ForSome (F.told f.new).files (WasMadeAt (create_time_of (byte from index))))) }
     ensures stops { ForSome (F.told f.old).files (λ from. IsRepairable scan.now from → Passes (F.told f.old) (F.told f.new) (IsMidRepair from)) }
     ensures last { OnOk result (ForSome (F.told f.old).files (λ from. IsRepairable scan.now from → EndsWithCrashWord (F.told f.old) (F.told f.new))) }
     ensures damaged { IfDamaged result (IsOpeningDamage (F.told f.new)) }

@@ -5,13 +5,13 @@ ghost use Rattle.blk_image.specs.Image.{Index as index, byte};
 ghost use Rattle.blk_image.specs.Told.{Passes, Rises, Stays};
 ghost use Rattle.blk_model.specs.Bounds.{bounds_of};
 ghost use Rattle.blk_model.specs.Holding.{open_state};
-ghost use Rattle.blk_format.specs.Headers.{this_id_of};
+ghost use Rattle.blk_format.specs.Headers.{IsUnfinished, this_id_of};
 ghost use Rattle.blk_volume.specs.Found.{found};
 ghost use Rattle.blk_repair.specs.Repair.{EndsWithCrashWord};
 ghost use Rattle.blk_cache.specs.BoundNames.{AreAllFree};
 ghost use Rattle.blk_cache.specs.CacheKeeping.{KeepsState};
 ghost use Rattle.blk_cache.specs.Opened.{IsFirstDamage, IsOpeningDamage};
-ghost use Rattle.blk_cache.specs.Opening.{HoldsStill, IfOpenDamaged, IfOpenDevice, IfOpenMemory, IsUsable, opened_id};
+ghost use Rattle.blk_cache.specs.Opening.{HoldsStill, IfOpenDamaged, IfOpenDevice, IfOpenMemory, IsUsable, WasMadeAt, opened_id};
 
 use crate::cache::Cache;
 use crate::fault::OpenFault;
@@ -43,6 +43,9 @@ impl Cache {
         ensures free { IfOk result (λ cache. AreAllFree cache.handles) }
         ensures checked { OnOk result (ForSome (F.told f.old).files IsUsable) }
         ensures session { OnOk result (ForSome (F.told f.old).files (λ from. ForSome (F.told f.new).files (λ image. this_id_of (byte image index) ≡ opened_id from))) }
+
+        // A folder that was unfinished has the moment as the time of its making.
+        ensures made { OnOk result (ForSome (F.told f.old).files (λ from. IsUnfinished from → ForSome (F.told f.new).files (WasMadeAt moment))) }
 
         // At each word the same is found, and the folder is unfinished or well formed where it was.
         ensures stops { ForSome (F.told f.old).files (λ from. Passes (F.told f.old) (F.told f.new) (HoldsStill from)) }

@@ -1,7 +1,11 @@
 use Rattle.std.proofs.Common.{sym, ap, ◌∙◌}
+use Rattle.blk_image.specs.Image.{Index, byte}
 use Rattle.blk_image.specs.Told.{Told}
+use Rattle.blk_format.specs.Headers.{this_id_of}
+use Rattle.blk_repair.specs.Repair.{next_id}
 use Rattle.blk_repair.proofs.RepairRuns.{none-before, still-told}
 use Rattle.blk_cache.specs.declared.opening.Opened.{Opened}
+use Rattle.blk_cache.proofs.CreationTimes.{counted-moment}
 use Rattle.blk_cache.proofs.OpenRuns.{mending-damage, opened-as, untold-on}
 use Rattle.blk_cache.proofs.opening.mend.Goals as goal
 
@@ -20,3 +24,6 @@ returns-clause-opened g c from there can image here =
     let now = sym (ap (λ (t : Told). t.files) c.in_ok-mark.ensures.stays) ∙ here in
     let open_now = c.repair.ensures.is_open image now in
     opened-as c.args.scan.now from image opened can (c.in_ok-repair.ensures.mended from there can image now) (g.met.F.Folder.are_bytes c.word.new.f image here) open_now.agrees c.items.ensures c.bytes.ensures (c.in_ok-mark.ensures.word image now)
+
+pub returns-clause-made : goal.returns-clause-made
+returns-clause-made g c from there can only image here = counted-moment from (next_id (this_id_of (byte from Index))) from there (c.in_ok-repair.ensures.clean from there can only) image (sym (ap (λ (t : Told). t.files) c.in_ok-mark.ensures.stays) ∙ here)

@@ -103,3 +103,11 @@ returns-in-Finished-clause-unwritten g c =
 
 pub returns-in-Finished-clause-memory : goal.returns-in-Finished-clause-memory
 returns-in-Finished-clause-memory g c = open-memory-weaker c.open_finished.result _ _ (λ same. same ∙ c.in_ok-look.ensures.stays) c.open_finished.ensures.memory
+
+pub returns-in_ok-open_new-in-Unfinished-clause-made : goal.returns-in_ok-open_new-in-Unfinished-clause-made
+returns-in_ok-open_new-in-Unfinished-clause-made g c from there un = c.in_ok-open_new-in-Unfinished.ensures.made from (ap (λ (t : Told). t.files) c.in_ok-look.ensures.stays ∙ there)
+
+pub returns-in-Finished-clause-made : goal.returns-in-Finished-clause-made
+returns-in-Finished-clause-made g c =
+    on_ok_weaker c.open_finished.result
+    (λ well from there un. let fin = looked-as _ _ from c.in-Finished.is (c.in_ok-look.ensures.looked from there) in absurd (fin.finished un)) c.open_finished.ensures.checked

@@ -4,6 +4,7 @@ use Rattle.blk_image.specs.Told.{Told}
 use Rattle.blk_image.proofs.Runs.{passes_stayed}
 use Rattle.blk_io.proofs.Carried.{if_damaged_weaker}
 use Rattle.blk_repair.specs.Repair.{EndsWithCrashWord}
+use Rattle.blk_cache.proofs.CreationTimes.{made-needs}
 use Rattle.blk_cache.proofs.OpenRuns.{empty-stands, load-untold, loading-damage, made-can, made-formed, stayed-mid, untold-on}
 use Rattle.blk_cache.proofs.opening.open_made.Goals as goal
 
@@ -44,3 +45,8 @@ pub returns-clause-untold : goal.returns-clause-untold
 returns-clause-untold g c all =
     if_damaged_weaker c.mend.result _ _ (λ damage none. sym (ap (λ (t : Told). t.files) c.in_ok-files.ensures.stays) ∙ none)
     (c.mend.ensures.untold (λ i here. made-can c.empty.result i (all i (sym (ap (λ (t : Told). t.files) c.in_ok-files.ensures.stays) ∙ here)) c.empty.ensures))
+
+pub returns-clause-made : goal.returns-clause-made
+returns-clause-made g c =
+    on_ok_weaker c.mend.result
+    (λ kept from there made. kept from (ap (λ (t : Told). t.files) c.in_ok-files.ensures.stays ∙ there) (made-can c.empty.result from made c.empty.ensures) (made-needs c.empty.result from made c.empty.ensures)) c.mend.ensures.made

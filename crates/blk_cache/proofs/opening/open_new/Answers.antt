@@ -1,4 +1,4 @@
-use Rattle.std.proofs.Common.{◌≡◌, Some}
+use Rattle.std.proofs.Common.{◌≡◌, ◌∙◌, Some}
 use Rattle.std.proofs.lemmas.Result.{IfOk-weaker, on_ok_weaker}
 use Rattle.blk_image.specs.Image.{Image}
 use Rattle.blk_image.specs.Told.{Passes}
@@ -12,6 +12,7 @@ use Rattle.blk_repair.proofs.RepairRuns.{none-before, still-told}
 use Rattle.blk_cache.proofs.MakingSteps.{spare-folder}
 use Rattle.blk_cache.specs.Opened.{IsJustMade}
 use Rattle.blk_cache.specs.Opening.{HoldsStill}
+use Rattle.blk_cache.proofs.CreationTimes.{made-moment}
 use Rattle.blk_cache.proofs.OpenRuns.{made-formed, made-opened, made-still, making-still, passes-silent}
 use Rattle.blk_cache.proofs.opening.open_new.Given as given
 use Rattle.blk_cache.proofs.opening.open_new.Goals as goal
@@ -63,3 +64,11 @@ returns-clause-untold g c =
 
 pub returns-clause-silent : goal.returns-clause-silent
 returns-clause-silent g c none = c.open_made.ensures.silent (passes-silent c.make.ensures.stops none)
+
+pub returns-clause-made : goal.returns-clause-made
+returns-clause-made g c =
+    on_ok_weaker c.open_made.result
+    (λ kept from there image now.
+    let between = mid g c from there in
+    let told = here g c from there in
+    kept between told (made g c from there) image now ∙ made-moment c.args.moment between c.ranges.moment.fits (c.in_ok-make.ensures.made between told)) c.open_made.ensures.made
