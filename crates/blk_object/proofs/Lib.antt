@@ -1,0 +1,4 @@
+pub mod MakingRoom
+pub mod MakingTaken
+pub mod MakingPlaces
+pub mod MakingCounts

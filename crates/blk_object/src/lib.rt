@@ -2,4 +2,8 @@
 #![tactic(auto)]
 
 mod making;
+mod making_counts;
+mod making_places;
 mod removing;
+
+pub use making::{Made, make_entry};
