@@ -2,3 +2,5 @@ pub mod MakingRoom
 pub mod MakingTaken
 pub mod MakingPlaces
 pub mod MakingCounts
+pub mod MakingListed
+pub mod MakingWritten
