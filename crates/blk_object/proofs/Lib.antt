@@ -4,3 +4,4 @@ pub mod MakingPlaces
 pub mod MakingCounts
 pub mod MakingListed
 pub mod MakingWritten
+pub mod MakingMade

@@ -20,12 +20,12 @@ use Rattle.blk_stream.proofs.Apart.{blocks_back, none_shared}
 use Rattle.blk_stream.proofs.ShownDrops.{claims-behind, claims-first}
 use Rattle.blk_model.specs.State.{State}
 use Rattle.blk_volume.specs.Layout.{Layout}
-use Rattle.blk_kept.specs.Changes.{KeepsWith, StillFinds}
+use Rattle.blk_kept.specs.Changes.{StillFinds}
 use Rattle.blk_kept.specs.Keeping.{KeepsUncounted}
 use Rattle.blk_kept.proofs.UnlinkedOrder.{kept-in-any-order}
-use Rattle.blk_object.specs.Making.{LeavesRoom, long_word, words_at}
+use Rattle.blk_object.specs.Making.{LeavesRoom, Takes, long_word, words_at}
 use Rattle.blk_object.specs.declared.making_places.Places.{Places}
-use Rattle.blk_object.proofs.MakingTaken.{less-room, none-before, room-for-one, then-finds, told-before, told-mid}
+use Rattle.blk_object.proofs.MakingTaken.{less-room, none-before, room-for-one, session-then, then-finds, told-before, told-mid}
 
 -- ---- the blocks of a record
 
@@ -63,7 +63,7 @@ apart-kept state layout unlinked image entry node (Some w) kind k =
 -- ---- two places, and then a third
 
 module _ (a b d : Told) (n one two : ℕ)
-    (first : ForSome a.files (λ from. LeavesRoom 1 from → Passes a b (StillFinds [] from))) (first_taken : ForSome a.files (λ from. LeavesRoom 1 from → ForSome b.files (KeepsWith [] (one ∷ []) from)))
+    (first : ForSome a.files (λ from. LeavesRoom 1 from → Passes a b (StillFinds [] from))) (first_taken : ForSome a.files (λ from. LeavesRoom 1 from → ForSome b.files (Takes (one ∷ []) from)))
     (second : ForSome b.files (λ mid. LeavesRoom 1 mid → Passes b d (StillFinds [] mid))) where
   after-first : (from : Image) → a.files ≡ Some from → LeavesRoom (suc (suc n)) from → (mid : Image) × (b.files ≡ Some mid)
   after-first from there room = told-mid a b from there (first from there (room-for-one (suc n) from room))
@@ -80,25 +80,26 @@ module _ (a b d : Told) (n one two : ℕ)
   two-find from there room =
       let mid = after-first from there room in
       let taken = first_taken from there (room-for-one (suc n) from room) mid.0 mid.1 in
-      let finds : (image : Image) → StillFinds [] mid.0 image → StillFinds [] from image = λ image. then-finds (one ∷ []) from mid.0 image taken in
+      let finds : (image : Image) → StillFinds [] mid.0 image → StillFinds [] from image = λ image. then-finds (one ∷ []) from mid.0 image taken.kept in
       passes_then (first from there (room-for-one (suc n) from room)) (passes_weaker (second mid.0 mid.1 (room-for-one n mid.0 (less-room (suc n) one from mid.0 room taken))) finds finds)
 
-  module _ (second_taken : ForSome b.files (λ mid. LeavesRoom 1 mid → ForSome d.files (KeepsWith [] (two ∷ []) mid))) where
-    pub two-taken : ForSome a.files (λ from. LeavesRoom (suc (suc n)) from → ForSome d.files (KeepsWith [] (two ∷ one ∷ []) from))
-    two-taken from there room late now state layout unlinked k =
+  module _ (second_taken : ForSome b.files (λ mid. LeavesRoom 1 mid → ForSome d.files (Takes (two ∷ []) mid))) where
+    pub two-taken : ForSome a.files (λ from. LeavesRoom (suc (suc n)) from → ForSome d.files (Takes (two ∷ one ∷ []) from))
+    two-taken from there room late now =
         let mid = after-first from there room in
         let taken = first_taken from there (room-for-one (suc n) from room) mid.0 mid.1 in
-        second_taken mid.0 mid.1 (room-for-one n mid.0 (less-room (suc n) one from mid.0 room taken)) late now state layout (one ∷ unlinked) (taken state layout unlinked k)
+        let more = second_taken mid.0 mid.1 (room-for-one n mid.0 (less-room (suc n) one from mid.0 room taken)) late now in
+        record { kept = λ state layout unlinked k. more.kept state layout (one ∷ unlinked) (taken.kept state layout unlinked k); session = session-then from mid.0 late taken.session more.session }
 
 -- room for one more, once two words are taken
-two-less : (one two : ℕ) (from late : Image) → LeavesRoom 3 from → KeepsWith [] (two ∷ one ∷ []) from late → LeavesRoom 1 late
-two-less one two from late r taken = record { state = r.state; layout = r.layout; unlinked = two ∷ one ∷ r.unlinked; kept = taken r.state r.layout r.unlinked r.kept; few = r.few; room = let room = r.room in bound (length r.unlinked) room }
+two-less : (one two : ℕ) (from late : Image) → LeavesRoom 3 from → Takes (two ∷ one ∷ []) from late → LeavesRoom 1 late
+two-less one two from late r taken = record { state = r.state; layout = r.layout; unlinked = two ∷ one ∷ r.unlinked; kept = taken.kept r.state r.layout r.unlinked r.kept; few = r.few; room = let room = r.room in bound (length r.unlinked) room }
   where
     bound : (u : ℕ) → u + 3 ≤ 7 → suc (suc u) + 1 ≤ 7
     bound u room = omega (arith, room)
 
 module _ (a d e : Told) (places : Places) (two : ForSome a.files (λ from. LeavesRoom 3 from → Passes a d (StillFinds [] from)))
-    (two_taken : ForSome a.files (λ from. LeavesRoom 3 from → ForSome d.files (KeepsWith [] (places.node ∷ places.entry ∷ []) from)))
+    (two_taken : ForSome a.files (λ from. LeavesRoom 3 from → ForSome d.files (Takes (places.node ∷ places.entry ∷ []) from)))
     (third : ForSome d.files (λ late. LeavesRoom 1 late → Passes d e (StillFinds [] late))) where
   after-two : (from : Image) → a.files ≡ Some from → LeavesRoom 3 from → (late : Image) × (d.files ≡ Some late)
   after-two from there room = told-mid a d from there (two from there room)
@@ -115,24 +116,30 @@ module _ (a d e : Told) (places : Places) (two : ForSome a.files (λ from. Leave
   three-find from there room =
       let late = after-two from there room in
       let taken = two_taken from there room late.0 late.1 in
-      let finds : (image : Image) → StillFinds [] late.0 image → StillFinds [] from image = λ image. then-finds (places.node ∷ places.entry ∷ []) from late.0 image taken in
+      let finds : (image : Image) → StillFinds [] late.0 image → StillFinds [] from image = λ image. then-finds (places.node ∷ places.entry ∷ []) from late.0 image taken.kept in
       passes_then (two from there room) (passes_weaker (third late.0 late.1 (two-less places.entry places.node from late.0 room taken)) finds finds)
 
-  module _ (third_taken : ForSome d.files (λ late. LeavesRoom 1 late → ForSome e.files (KeepsWith [] (long_word places.long_key) late))) where
+  module _ (third_taken : ForSome d.files (λ late. LeavesRoom 1 late → ForSome e.files (Takes (long_word places.long_key) late))) where
     -- all three, the last one in front
     three : (from last : Image) → a.files ≡ Some from → e.files ≡ Some last → LeavesRoom 3 from → (state : State) (layout : Layout) (unlinked : List ℕ) → KeepsUncounted state layout unlinked from
         → KeepsUncounted state layout (long_word places.long_key ++ places.node ∷ places.entry ∷ unlinked) last
     three from last there now room state layout unlinked k =
         let late = after-two from there room in
         let taken = two_taken from there room late.0 late.1 in
-        third_taken late.0 late.1 (two-less places.entry places.node from late.0 room taken) last now state layout (places.node ∷ places.entry ∷ unlinked) (taken state layout unlinked k)
+        (third_taken late.0 late.1 (two-less places.entry places.node from late.0 room taken) last now).kept state layout (places.node ∷ places.entry ∷ unlinked) (taken.kept state layout unlinked k)
 
-    pub three-taken : ForSome a.files (λ from. LeavesRoom 3 from → ForSome e.files (KeepsWith [] (words_at places) from))
-    three-taken from there room last now state layout unlinked k = in-order places.long_key (three from last there now room state layout unlinked k)
+    pub three-taken : ForSome a.files (λ from. LeavesRoom 3 from → ForSome e.files (Takes (words_at places) from))
+    three-taken from there room last now =
+        let late = after-two from there room in
+        let taken = two_taken from there room late.0 late.1 in
+        record {
+          kept = λ state layout unlinked k. in-order state layout unlinked places.long_key (three from last there now room state layout unlinked k);
+          session = session-then from late.0 last taken.session (third_taken late.0 late.1 (two-less places.entry places.node from late.0 room taken) last now).session;
+        }
       where
-        in-order : (o : Option ℕ) → KeepsUncounted state layout (long_word o ++ places.node ∷ places.entry ∷ unlinked) last → KeepsUncounted state layout ((places.node ∷ places.entry ∷ long_word o) ++ unlinked) last
-        in-order None k = k
-        in-order (Some w) k = kept-in-any-order state layout (w ∷ places.node ∷ places.entry ∷ unlinked) (places.node ∷ places.entry ∷ w ∷ unlinked) last k (last-first w places.node places.entry unlinked)
+        in-order : (state : State) (layout : Layout) (unlinked : List ℕ) (o : Option ℕ) → KeepsUncounted state layout (long_word o ++ places.node ∷ places.entry ∷ unlinked) last → KeepsUncounted state layout ((places.node ∷ places.entry ∷ long_word o) ++ unlinked) last
+        in-order state layout unlinked None k = k
+        in-order state layout unlinked (Some w) k = kept-in-any-order state layout (w ∷ places.node ∷ places.entry ∷ unlinked) (places.node ∷ places.entry ∷ w ∷ unlinked) last k (last-first w places.node places.entry unlinked)
 
     -- so where they are not apart the folder told nothing
     pub never-shared : kind_of places.entry ≢ external → (a.files ≡ None → e.files ≡ None) → ForSome a.files (LeavesRoom 3) → (LiesApart places.entry places.long_key → ⊥) → a.files ≡ None

@@ -4,8 +4,8 @@ use Rattle.std.specs.Prelude.{◌==◌, is_some, unwrap_or, IsTrue}
 use Rattle.std.specs.Option.{ForSome, option_map}
 use Rattle.std.proofs.lemmas.Bool.{eq-eqb, or_left}
 use Rattle.blk_image.specs.Footprint.{SameOutside, whole}
-use Rattle.blk_image.specs.Bytes.{resized}
-use Rattle.blk_image.specs.Image.{Image, bytes_of, has_file, length_of}
+use Rattle.blk_image.specs.Bytes.{content, resized}
+use Rattle.blk_image.specs.Image.{Image, Index, bytes_of, has_file, length_of}
 use Rattle.blk_image.specs.Steps.{after}
 use Rattle.blk_image.specs.Told.{Applies, Passes, PassesTo, Told}
 use Rattle.blk_image.proofs.Runs.{passes_end, passes_none, passes_then, passes_weaker, some_inj}
@@ -16,7 +16,7 @@ use Rattle.blk_format.specs.Claims.{Claim, ExternalOf, claims_of, claims_of_all,
 use Rattle.blk_format.specs.Growth.{StaysWhole}
 use Rattle.blk_volume.specs.Layout.{Layout}
 use Rattle.blk_model.specs.State.{State}
-use Rattle.blk_format.specs.Headers.{HasWholeIndex}
+use Rattle.blk_format.specs.Headers.{HasWholeIndex, crash_of, this_id_of}
 use Rattle.blk_format.specs.Storage.{kind_for}
 use Rattle.blk_format.proofs.Finished.{whole_index}
 use Rattle.blk_io.proofs.Carried.{untold_where}
@@ -37,7 +37,7 @@ use Rattle.blk_external.specs.Changes.{ChangesExternal}
 use Rattle.blk_external.specs.Making.{Creates, CreatesInProgress, last_number, making}
 use Rattle.blk_external.specs.Numbers.{HasFreeNumber, IsFirstFree, named_file}
 use Rattle.blk_laws.proofs.claims.ClaimLists.{claim-append, claim-head}
-use Rattle.blk_kept.specs.Changes.{AddsExternal, KeepsWith, StillFinds}
+use Rattle.blk_kept.specs.Changes.{AddsAllocation, AddsExternal, KeepsWith, SameSession, StillFinds}
 use Rattle.blk_kept.proofs.Allocating.{allocated-unlinked}
 use Rattle.blk_kept.proofs.Externals.{making-finds}
 use Rattle.blk_kept.proofs.Free.{then-found, unlinked-change}
@@ -45,7 +45,7 @@ use Rattle.blk_kept.proofs.MakingFiles.{its-claims, made-unlinked}
 use Rattle.blk_kept.proofs.Writes.{external-writes, growth-finds}
 use Rattle.blk_kept_calls.proofs.Allocating.{allocations-add}
 use Rattle.blk_kept_calls.proofs.ExternalFiles.{creations-add, deletions-find}
-use Rattle.blk_object.specs.Making.{LeavesRoom}
+use Rattle.blk_object.specs.Making.{LeavesRoom, Takes}
 use Rattle.blk_object.proofs.MakingRoom.{counted-with-room, free-with-room}
 
 -- ---- files that are told
@@ -70,7 +70,23 @@ none-before a b mid none = untold_where a.files (λ from there. no-some (sym non
 pub then-stays : {P Q : Image → Type 0} (a b c : Told) → c ≡ b → PassesTo a b P Q → PassesTo a c P Q
 then-stays {P} {Q} a b c same p = subst (λ (t : Told). PassesTo a t P Q) (sym same) p
 
+-- ---- sessions
+
+-- a session that stays, and stays
+pub session-then : (from mid image : Image) → SameSession from mid → SameSession mid image → SameSession from image
+session-then from mid image one other = record { crash = other.crash ∙ one.crash; id = other.id ∙ one.id }
+
+-- a session in the same index
+index-session : (from image : Image) → image Index ≡ from Index → SameSession from image
+index-session from image same = record { crash = ap (λ (o : Option (List ℕ)). crash_of (content (unwrap_or o []))) same; id = ap (λ (o : Option (List ℕ)). this_id_of (content (unwrap_or o []))) same }
+
 -- ---- nothing is done
+
+-- no word is taken
+pub nothing-taken : (a b : Told) → b ≡ a → ForSome a.files (λ from. ForSome b.files (Takes [] from))
+nothing-taken a b same from there image now =
+    let is : image ≡ from = some_inj (sym now ∙ ap (λ (t : Told). t.files) same ∙ there) in
+    subst (Takes [] from) (sym is) (record { kept = λ state layout unlinked k. k; session = record { crash = refl; id = refl } })
 
 pub nothing-finds : (words : List ℕ) (a b : Told) → b ≡ a → ForSome a.files (λ from. Passes a b (StillFinds words from))
 nothing-finds words a b same from there =
@@ -102,12 +118,12 @@ module _ (a b : Told) (files : BlockFiles) (kind count : ℕ) (block : is_block_
 
   pub allocated-taken : (new : BlockFiles) (w : ℕ) → kind_of w ≡ kind → is_address w ≡ true → ForSome b.files (Agrees new) → stands_among new w ≡ true → HasItsBlocks new (file_selector w) → KeepsLinks files new (file_selector w)
       → ForSome a.files (λ from. AreCounted files kind from → ForSome b.files (Allocates files from w)) → ForSome a.files (λ from. AreCounted files kind from → ForSome b.files (AllocatesIn files kind from (file_selector w)))
-      → ForSome a.files (λ from. LeavesRoom 1 from → ForSome b.files (KeepsWith [] (w ∷ []) from))
+      → ForSome a.files (λ from. LeavesRoom 1 from → ForSome b.files (Takes (w ∷ []) from))
   allocated-taken new w of_kind address agrees stands long links allocates within from there room image now =
       let counted = counted-with-room 0 files kind from room (agreed from there) block in
-      allocated-unlinked w from image
-      (allocations-add files new kind w from image room.kept.well_formed
-      (record { block_kind = block; of_kind = of_kind; address = address; agreed = agreed from there; agrees = agrees image now; stands = stands; long = long; links = links; allocates = allocates from there counted image now; within = within from there counted image now; stays = passes_end (stays 0 from there room) image now }))
+      let adds : AddsAllocation from w image = allocations-add files new kind w from image room.kept.well_formed
+          (record { block_kind = block; of_kind = of_kind; address = address; agreed = agreed from there; agrees = agrees image now; stands = stands; long = long; links = links; allocates = allocates from there counted image now; within = within from there counted image now; stays = passes_end (stays 0 from there room) image now }) in
+      record { kept = allocated-unlinked w from image adds; session = adds.session }
 
   pub allocating-whole : (a.files ≡ None → b.files ≡ None) → ForSome a.files (LeavesRoom 1) → ForSome b.files HasWholeIndex
   allocating-whole silent room mid now =
@@ -151,12 +167,15 @@ module _ (a b : Told) where
           let finds : (image : Image) → StillFinds (w ∷ []) mid.0 image → StillFinds [] from image = λ image f state layout unlinked k. f state layout unlinked (taken state layout unlinked k) in
           passes_then one (passes_weaker (deletions-find w b c kind sizing mid.0 mid.1) finds finds)
 
-      pub file-taken : (size : ℕ) → ForSome b.files (λ mid. ForSome c.files (λ image. image (named_file w) ≡ Some (resized size (bytes_of mid (named_file w))))) → ForSome a.files (λ from. LeavesRoom 1 from → ForSome c.files (KeepsWith [] (w ∷ []) from))
-      file-taken size sized from there room image now state layout unlinked k =
+      pub file-taken : (size : ℕ) → ForSome b.files (λ mid. ForSome c.files (λ image. image (named_file w) ≡ Some (resized size (bytes_of mid (named_file w))))) → ForSome a.files (λ from. LeavesRoom 1 from → ForSome c.files (Takes (w ∷ []) from))
+      file-taken size sized from there room image now =
           let mid : (m : Image) × (b.files ≡ Some m) = (after (making (external_number w)) from, steps.files ∙ ap (option_map (after (making (external_number w)))) there) in
           let adds = added from mid.0 there mid.1 room in
-          sized-keeps w mid.0 image adds.some kind (passes_end (sizing mid.0 mid.1) image now).outside (ap (λ (o : Option (List ℕ)). is_some o) (sized mid.0 mid.1 image now) ∙ sym adds.there) state layout unlinked
-          (made-unlinked w from mid.0 adds state layout unlinked k)
+          let m = passes_end (sizing mid.0 mid.1) image now in
+          record {
+            kept = λ state layout unlinked k. sized-keeps w mid.0 image adds.some kind m.outside (ap (λ (o : Option (List ℕ)). is_some o) (sized mid.0 mid.1 image now) ∙ sym adds.there) state layout unlinked (made-unlinked w from mid.0 adds state layout unlinked k);
+            session = session-then from mid.0 image adds.session (index-session mid.0 image m.index);
+          }
 
 -- the length that a file gets
 pub sized-long : (w size : ℕ) (b c : Told) → (b.files ≡ None → c.files ≡ None) → ForSome b.files (λ mid. ForSome c.files (λ image. image (named_file w) ≡ Some (resized size (bytes_of mid (named_file w))))) → ForSome c.files (λ image. length_of image (named_file w) ≡ size)
@@ -185,8 +204,8 @@ pub then-finds : (before : List ℕ) (from mid image : Image) → KeepsWith [] b
 then-finds before from mid image more finds state layout unlinked k = finds state layout (before ++ unlinked) (more state layout unlinked k)
 
 -- a folder that had room for more has less, once a word is taken
-pub less-room : (n : ℕ) (w : ℕ) (from mid : Image) → LeavesRoom (suc n) from → KeepsWith [] (w ∷ []) from mid → LeavesRoom n mid
-less-room n w from mid r taken = record { state = r.state; layout = r.layout; unlinked = w ∷ r.unlinked; kept = taken r.state r.layout r.unlinked r.kept; few = r.few; room = let room = r.room in bound (length r.unlinked) room }
+pub less-room : (n : ℕ) (w : ℕ) (from mid : Image) → LeavesRoom (suc n) from → Takes (w ∷ []) from mid → LeavesRoom n mid
+less-room n w from mid r taken = record { state = r.state; layout = r.layout; unlinked = w ∷ r.unlinked; kept = taken.kept r.state r.layout r.unlinked r.kept; few = r.few; room = let room = r.room in bound (length r.unlinked) room }
   where
     bound : (u : ℕ) → u + suc n ≤ 7 → suc u + n ≤ 7
     bound u room = omega (arith, room)

@@ -17,7 +17,7 @@ use Rattle.blk_volume.specs.Sound.{words_of}
 use Rattle.blk_entry.specs.declared.writing.NewEntry.{NewEntry}
 use Rattle.blk_entry.specs.Writing.{loaded_new}
 use Rattle.blk_kept.specs.BoundLaws.{most_words}
-use Rattle.blk_kept.specs.Changes.{Finds}
+use Rattle.blk_kept.specs.Changes.{Finds, KeepsWith, SameSession}
 use Rattle.blk_kept.specs.Keeping.{Keeps, KeepsUncounted}
 use Rattle.blk_kept.specs.NewEntryLaws.{IsNewEntryOf}
 use Rattle.blk_object.specs.declared.making.Made.{Made}
@@ -47,12 +47,17 @@ abbrev pub words_at : Places → List ℕ
 words_at places = places.node ∷ places.entry ∷ long_word places.long_key
 
 -- the entry of a plain object at its places, with a mark and the word of the next record
-abbrev pub entry_at : Places → ℕ → ℕ → NewEntry
-entry_at places mark next = record { entry = places.entry; node = places.node; long_key = places.long_key; child = false; dirty = mark; next = next }
+abbrev pub new_entry : Places → ℕ → ℕ → NewEntry
+new_entry places mark next = record { entry = places.entry; node = places.node; long_key = places.long_key; child = false; dirty = mark; next = next }
 
 -- what it loads
-abbrev pub loaded_at : Places → ℕ → List ℕ → Loaded
-loaded_at places mark key = loaded_new (entry_at places mark 0) key
+abbrev pub new_loaded : Places → ℕ → List ℕ → Loaded
+new_loaded places mark key = loaded_new (new_entry places mark 0) key
+
+-- words were taken: each state that was kept is kept with them unlinked, in the same session
+pub record Takes (words : List ℕ) (from image : Image) : Type 0 where
+  pub kept : KeepsWith [] words from image
+  pub session : SameSession from image
 
 -- Entries.
 
@@ -84,7 +89,7 @@ pub record CanBeListed (entry node : ℕ) (image : Image) : Type 0 where
 abbrev pub IsEntryOfKept : Places → (mark : ℕ) → (key : List ℕ) → Image → Image → Type 0
 IsEntryOfKept places mark key from image =
     (state : State) (layout : Layout) (unlinked : List ℕ) (handle : ℕ) → KeepsUncounted state layout (words_at places ++ unlinked) from → CanHaveNew state handle key → this_id_of (byte from Index) ≡ mark
-    → IsToBeListed state layout unlinked handle key (loaded_at places mark key) image
+    → IsToBeListed state layout unlinked handle key (new_loaded places mark key) image
 
 -- whatever was kept with an entry of this record and node to be listed, what was at rest is found
 abbrev pub FindsUntilListed : (entry node : ℕ) → Image → Image → Type 0

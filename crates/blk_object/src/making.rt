@@ -10,7 +10,7 @@ ghost use Rattle.blk_disk.specs.Tables.{is_node_among, is_record_among};
 ghost use Rattle.blk_entry.specs.Writing.{FitsKey, HoldsLongKey, LiesApart};
 ghost use Rattle.blk_alloc.specs.Extending.{KeepsStanding};
 ghost use Rattle.blk_kept.specs.Changes.{StillFinds};
-ghost use Rattle.blk_object.specs.Making.{CanBeListed, FindsUntilListed, FindsWhileMade, HasNewObjects, HasRoomForNew, IsEntryOfKept, IsListed, entry_at, words_at};
+ghost use Rattle.blk_object.specs.Making.{CanBeListed, FindsUntilListed, FindsWhileMade, HasNewObjects, HasRoomForNew, IsEntryOfKept, IsListed, new_entry, words_at};
 
 use crate::making_counts::{count_entry, read_counters};
 use crate::making_places::{Places, take_places};
@@ -84,7 +84,7 @@ fn write_new<F: Folder>(
     mark: u32,
     moment: u64,
 ) -> Result<(), Fault>
-    requires fits { FitsKey files.now (entry_at places.now mark 0) key.now }
+    requires fits { FitsKey files.now (new_entry places.now mark 0) key.now }
     requires holds { ForSome (F.told f.old).files (HoldsLongKey places.now.long_key (length key.now)) }
     requires apart { LiesApart places.now.entry places.now.long_key }
     requires is_open { ForSome (F.told f.old).files (IsOpen files.now) }

@@ -14,8 +14,8 @@ ghost use Rattle.blk_disk.specs.Tables.{stands_among};
 ghost use Rattle.blk_entry.specs.Keys as keys;
 ghost use Rattle.blk_entry.specs.Writing.{HoldsLongKey, IsLongPlace, LiesApart};
 ghost use Rattle.blk_alloc.specs.Extending.{KeepsStanding};
-ghost use Rattle.blk_kept.specs.Changes.{KeepsWith, StillFinds};
-ghost use Rattle.blk_object.specs.Making.{LeavesRoom, long_word, words_at};
+ghost use Rattle.blk_kept.specs.Changes.{StillFinds};
+ghost use Rattle.blk_object.specs.Making.{LeavesRoom, Takes, long_word, words_at};
 
 use blk_addr::{Addr, Kind, LONGEST_SHORT_KEY, blocks_for, entry_blocks, kind_for};
 use blk_alloc::allocate;
@@ -50,7 +50,7 @@ pub(crate) fn take_places<F: Folder>(
     ensures holds { IfOk result (λ places. ForSome (F.told f.new).files (HoldsLongKey places.long_key key_len)) }
     ensures apart { IfOk result (λ places. LiesApart places.entry places.long_key) }
     ensures keeps { KeepsStanding files.old files.new }
-    ensures taken { IfOk result (λ places. ForSome (F.told f.old).files (λ from. LeavesRoom 3 from → ForSome (F.told f.new).files (KeepsWith [] (words_at places) from))) }
+    ensures taken { IfOk result (λ places. ForSome (F.told f.old).files (λ from. LeavesRoom 3 from → ForSome (F.told f.new).files (Takes (words_at places) from))) }
     ensures is_open { OnOk result (ForSome (F.told f.new).files (IsOpen files.new)) }
     ensures stops { ForSome (F.told f.old).files (λ from. LeavesRoom 3 from → Passes (F.told f.old) (F.told f.new) (StillFinds [] from)) }
     ensures untold { ForSome (F.told f.old).files (LeavesRoom 3) → IfDamaged result (λ _. (F.told f.old).files ≡ None) }
@@ -80,7 +80,7 @@ fn take_long_key<F: Folder>(
     ensures long { IfOk result (IsLongPlace files.new key_len) }
     ensures holds { IfOk result (λ long_key. ForSome (F.told f.new).files (HoldsLongKey long_key key_len)) }
     ensures keeps { KeepsStanding files.old files.new }
-    ensures taken { IfOk result (λ long_key. ForSome (F.told f.old).files (λ from. LeavesRoom 1 from → ForSome (F.told f.new).files (KeepsWith [] (long_word long_key) from))) }
+    ensures taken { IfOk result (λ long_key. ForSome (F.told f.old).files (λ from. LeavesRoom 1 from → ForSome (F.told f.new).files (Takes (long_word long_key) from))) }
     ensures is_open { OnOk result (ForSome (F.told f.new).files (IsOpen files.new)) }
     ensures stops { ForSome (F.told f.old).files (λ from. LeavesRoom 1 from → Passes (F.told f.old) (F.told f.new) (StillFinds [] from)) }
     ensures untold { ForSome (F.told f.old).files (LeavesRoom 1) → IfDamaged result (λ _. (F.told f.old).files ≡ None) }
@@ -102,7 +102,7 @@ fn take_storage<F: Folder>(f: &mut F, files: &mut BlockFiles, size: u32) -> Resu
     ensures stores { IfOk result (λ addr. keys.stores files.new size addr ≡ true) }
     ensures holds { IfOk result (λ addr. ForSome (F.told f.new).files (λ image. kind_of addr ≡ external → length_of image (external_file (external_number addr)) ≡ size)) }
     ensures keeps { KeepsStanding files.old files.new }
-    ensures taken { IfOk result (λ addr. ForSome (F.told f.old).files (λ from. LeavesRoom 1 from → ForSome (F.told f.new).files (KeepsWith [] (addr ∷ []) from))) }
+    ensures taken { IfOk result (λ addr. ForSome (F.told f.old).files (λ from. LeavesRoom 1 from → ForSome (F.told f.new).files (Takes (addr ∷ []) from))) }
     ensures is_open { OnOk result (ForSome (F.told f.new).files (IsOpen files.new)) }
     ensures stops { ForSome (F.told f.old).files (λ from. LeavesRoom 1 from → Passes (F.told f.old) (F.told f.new) (StillFinds [] from)) }
     ensures untold { ForSome (F.told f.old).files (LeavesRoom 1) → IfDamaged result (λ _. (F.told f.old).files ≡ None) }
@@ -140,7 +140,7 @@ fn take_blocks<F: Folder>(
     ensures address { IfOk result (λ addr. IsTrue (is_address addr)) }
     ensures stands { IfOk result (λ addr. IsTrue (stands_among files.new addr)) }
     ensures keeps { KeepsStanding files.old files.new }
-    ensures taken { IfOk result (λ addr. ForSome (F.told f.old).files (λ from. LeavesRoom 1 from → ForSome (F.told f.new).files (KeepsWith [] (addr ∷ []) from))) }
+    ensures taken { IfOk result (λ addr. ForSome (F.told f.old).files (λ from. LeavesRoom 1 from → ForSome (F.told f.new).files (Takes (addr ∷ []) from))) }
     ensures is_open { OnOk result (ForSome (F.told f.new).files (IsOpen files.new)) }
     ensures stops { ForSome (F.told f.old).files (λ from. LeavesRoom 1 from → Passes (F.told f.old) (F.told f.new) (StillFinds [] from)) }
     ensures untold { ForSome (F.told f.old).files (LeavesRoom 1) → IfDamaged result (λ _. (F.told f.old).files ≡ None) }
@@ -159,7 +159,7 @@ fn take_file<F: Folder>(f: &mut F, files: &BlockFiles, size: u32) -> Result<Addr
     ensures kind { IfOk result (λ addr. kind_of addr ≡ external) }
     ensures address { IfOk result (λ addr. IsTrue (is_address addr)) }
     ensures holds { IfOk result (λ addr. ForSome (F.told f.new).files (λ image. length_of image (external_file (external_number addr)) ≡ size)) }
-    ensures taken { IfOk result (λ addr. ForSome (F.told f.old).files (λ from. LeavesRoom 1 from → ForSome (F.told f.new).files (KeepsWith [] (addr ∷ []) from))) }
+    ensures taken { IfOk result (λ addr. ForSome (F.told f.old).files (λ from. LeavesRoom 1 from → ForSome (F.told f.new).files (Takes (addr ∷ []) from))) }
     ensures is_open { OnOk result (ForSome (F.told f.new).files (IsOpen files.now)) }
     ensures stops { ForSome (F.told f.old).files (λ from. LeavesRoom 1 from → Passes (F.told f.old) (F.told f.new) (StillFinds [] from)) }
     ensures untold { ForSome (F.told f.old).files (LeavesRoom 1) → IfDamaged result (λ _. (F.told f.old).files ≡ None) }

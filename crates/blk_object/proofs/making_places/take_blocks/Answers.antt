@@ -6,8 +6,7 @@ use Rattle.blk_format.specs.Headers.{HasWholeIndex}
 use Rattle.blk_io.proofs.Carried.{carried, if_damaged_weaker}
 use Rattle.blk_addr.specs.Kind.{kind_number}
 use Rattle.blk_disk.specs.Tables.{Agrees}
-use Rattle.blk_kept.specs.Changes.{KeepsWith}
-use Rattle.blk_object.specs.Making.{LeavesRoom}
+use Rattle.blk_object.specs.Making.{LeavesRoom, Takes}
 use Rattle.blk_object.proofs.MakingRoom.{counted-with-room}
 use Rattle.blk_object.proofs.MakingTaken.{allocated-taken, allocating-finds, allocating-tells, allocating-whole, block-kind, then-stays}
 use Rattle.blk_object.proofs.making_places.take_blocks.Goals as goal
@@ -45,7 +44,7 @@ returns-clause-stops g c from there room =
 pub returns-clause-taken : goal.returns-clause-taken
 returns-clause-taken g c =
     let a : Told = g.F.Folder.told c.args.f.now in
-    subst (λ (t : Told). ForSome a.files (λ from. LeavesRoom 1 from → ForSome t.files (KeepsWith [] (c.in_ok-addr.addr ∷ []) from))) (sym c.check_index.ensures.stays)
+    subst (λ (t : Told). ForSome a.files (λ from. LeavesRoom 1 from → ForSome t.files (Takes (c.in_ok-addr.addr ∷ []) from))) (sym c.check_index.ensures.stays)
     (allocated-taken a (g.F.Folder.told c.allocate.new.f) c.args.files.now (kind_number c.args.kind) c.args.count (block-kind c.args.kind c.requires.block_kind) (λ i is. (c.requires.is_open i is).agrees) c.allocate.ensures.stops
     c.allocate.new.files c.in_ok-addr.addr c.in_ok-addr.ensures.kind.0 c.in_ok-addr.ensures.address c.in_ok-addr.ensures.agrees c.in_ok-addr.ensures.stands c.in_ok-addr.ensures.long c.in_ok-addr.ensures.links c.in_ok-addr.ensures.allocates c.in_ok-addr.ensures.within)
 
