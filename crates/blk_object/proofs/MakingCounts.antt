@@ -1,8 +1,8 @@
 -- The counters of the index are written, one after another.
-use Rattle.std.proofs.Common.{◌≡◌, ℕ, ◌+◌, ◌^◌, ◌<◌, ◌≤◌, List, [], ◌∷◌, length, None, Some, refl, sym, ◌∙◌, subst, arith, lit≤}
+use Rattle.std.proofs.Common.{◌≡◌, ℕ, ◌+◌, ◌^◌, ◌<◌, ◌≤◌, List, [], ◌∷◌, refl, sym, ◌∙◌, subst, lit≤}
 use Rattle.std.specs.Option.{ForSome}
 use Rattle.blk_image.specs.Image.{Image, Index, length_of}
-use Rattle.blk_image.specs.Steps.{TrailStep, after, word_step, word_steps}
+use Rattle.blk_image.specs.Steps.{after, word_step, word_steps}
 use Rattle.blk_image.specs.Told.{Applies, AppliesPrefix, Passes, Told, Until}
 use Rattle.blk_image.specs.Footprint.{one_word}
 use Rattle.blk_image.proofs.Runs.{passes_part, told_part, told_whole, some_inj}

@@ -1,11 +1,11 @@
 -- An entry that is written comes into the use list and in front of its chain.
-use Rattle.std.proofs.Common.{◌≡◌, ◌⊎◌, inl, inr, ℕ, List, ◌∷◌, ◌++◌, Option, None, Some, refl, sym, ◌∙◌, ap, subst, true, false, Bool, ⊎_elim}
-use Rattle.std.specs.Prelude.{◌&&◌, ◌==◌}
+use Rattle.std.proofs.Common.{◌≡◌, ◌⊎◌, ℕ, List, ◌∷◌, ◌++◌, Option, None, Some, sym, ◌∙◌, ap, subst, true, ⊎_elim}
+use Rattle.std.specs.Prelude.{◌==◌}
 use Rattle.std.specs.Option.{ForSome, option_map}
 use Rattle.std.proofs.lemmas.Bool.{and_parts, eqb-true}
 use Rattle.blk_image.specs.Image.{Image}
 use Rattle.blk_image.specs.Steps.{TrailStep, after}
-use Rattle.blk_image.specs.Told.{Applies, AppliesPrefix, Commits, MakesPartOf, Passes, TellsBytes, Told}
+use Rattle.blk_image.specs.Told.{Applies, Commits, MakesPartOf, Passes, TellsBytes, Told}
 use Rattle.blk_image.proofs.Runs.{passes_end, passes_then, passes_weaker, some_inj}
 use Rattle.blk_format.specs.Address.{blocks_256, is_address, kind_of}
 use Rattle.blk_disk.specs.declared.tables.BlockFiles.{BlockFiles}
@@ -20,14 +20,12 @@ use Rattle.blk_volume.specs.Sound.{words_of}
 use Rattle.blk_volume.specs.View.{list_of}
 use Rattle.blk_lru.specs.Moments.{IsMidOperation}
 use Rattle.blk_chain.specs.Linking.{CanBeLinked, IsLinkedInFront}
-use Rattle.blk_model.specs.Holding.{rest}
-use Rattle.blk_kept.specs.Changes.{Finds}
 use Rattle.blk_kept.specs.NewEntryLaws.{HasRecordInFront, IsInsertDone}
 use Rattle.blk_kept.proofs.NewEntries.{entries-kept, inserts-find, links-find}
 use Rattle.blk_kept_calls.proofs.Lists.{inserts-done, new-can-be}
 use Rattle.blk_kept_calls.proofs.Marks.{come-in-front, in-front}
 use Rattle.blk_kept_calls.proofs.NewEntries.{new-can-be-linked}
-use Rattle.blk_object.specs.Making.{CanBeListed, FindsUntilListed, IsListed, IsToBeListed}
+use Rattle.blk_object.specs.Making.{CanBeListed, FindsUntilListed, IsListed}
 use Rattle.blk_object.proofs.MakingTaken.{none-before, told-mid}
 
 -- what is among the records is one that stands
@@ -85,10 +83,10 @@ module _ (a b : Told) (files : BlockFiles) (entry node : ℕ) where
             let can = can-link from mid.0 there mid.1 c in
             let done = inserted from mid.0 there mid.1 c in
             let each : (image : Image) → (image ≡ mid.0) ⊎ HasRecordInFront mid.0 entry image → FindsUntilListed entry node from image =
-                λ image either. ⊎_elim
-                (λ (same : image ≡ mid.0). subst (FindsUntilListed entry node from) (sym same) (partly-finds from mid.0 (passes_end first mid.0 mid.1)))
-                (λ (front : HasRecordInFront mid.0 entry image). linked-finds from mid.0 image done front)
-                either in
+            λ image either. ⊎_elim
+            (λ (same : image ≡ mid.0). subst (FindsUntilListed entry node from) (sym same) (partly-finds from mid.0 (passes_end first mid.0 mid.1)))
+            (λ (front : HasRecordInFront mid.0 entry image). linked-finds from mid.0 image done front)
+            either in
             passes_then (inserting-finds from there c)
             (passes_weaker (come-in-front entry b d (told-at (λ i. Commits 1 b d (λ image. image ≡ i) (IsLinkedInFront i entry)) b.files mid.0 mid.1 (commits mid.0 mid.1 can)) mid.0 mid.1) each each)
 

@@ -1,7 +1,6 @@
 -- A new object is made, from its stages: places, entry, list and chain, counters.
-use Rattle.std.proofs.Common.{◌≡◌, ℕ, suc, ◌+◌, ◌%◌, ◌^◌, ◌<◌, ◌≤◌, List, [], ◌∷◌, ◌++◌, length, Option, None, Some, refl, sym, ◌∙◌, ap, subst, arith, lit≤, true}
-use Rattle.std.specs.Prelude.{◌&&◌, ◌==◌}
-use Rattle.std.specs.List.{sum_by}
+use Rattle.std.proofs.Common.{◌≡◌, ℕ, ◌+◌, ◌%◌, ◌<◌, List, [], ◌++◌, length, Option, None, Some, refl, sym, ◌∙◌, ap, subst, arith, lit≤, true}
+use Rattle.std.specs.Prelude.{◌==◌}
 use Rattle.std.specs.Option.{ForSome}
 use Rattle.std.proofs.lemmas.Bool.{eq-eqb}
 use Rattle.blk_image.specs.Image.{Image, Index, byte}
@@ -18,7 +17,7 @@ use Rattle.blk_volume.specs.Creation.{with_new}
 use Rattle.blk_volume.specs.Layout.{Layout}
 use Rattle.blk_volume.specs.Loads.{Loaded}
 use Rattle.blk_volume.specs.Sound.{words_of}
-use Rattle.blk_kept.specs.Changes.{Finds, KeepsWith, StillFinds}
+use Rattle.blk_kept.specs.Changes.{KeepsWith, StillFinds}
 use Rattle.blk_kept.specs.CounterLaws.{counted_bytes}
 use Rattle.blk_kept.specs.Keeping.{Keeps, KeepsUncounted}
 use Rattle.blk_kept.specs.NewEntryLaws.{IsOneMore}
@@ -73,7 +72,7 @@ module _ (a d : Told) (key : List ℕ) (mark : ℕ) (take : ForSome a.files (λ 
     writing-made from there r =
         let mid = mid-of from there r in
         let finds : (image : Image) → StillFinds (words_at places) mid.0 image → FindsWhileMade key from image =
-            λ image f state layout handle k can. f state layout [] ((unlinked-then from mid.0 there mid.1 r).kept state layout [] k.entries) in
+        λ image f state layout handle k can. f state layout [] ((unlinked-then from mid.0 there mid.1 r).kept state layout [] k.entries) in
         passes_then (taking-made from there r) (passes_weaker (write mid.0 mid.1) finds finds)
 
     pub late-of : (from : Image) → a.files ≡ Some from → HasRoomForNew key mark from → (late : Image) × (e.files ≡ Some late)
@@ -110,7 +109,7 @@ module _ (a d : Told) (key : List ℕ) (mark : ℕ) (take : ForSome a.files (λ 
             let late = late-of from there r in
             let can : CanBeListed places.entry places.node late.0 = record { state = r.state; layout = r.layout; unlinked = []; handle = r.handle; key = key; loaded = new_loaded places mark key; is = to-be from late.0 there late.1 r r.state r.layout r.handle r.kept r.can; record_is = refl; node_is = refl } in
             let finds : (image : Image) → FindsUntilListed places.entry places.node late.0 image → FindsWhileMade key from image =
-                λ image f state layout handle k can. f state layout [] handle key (new_loaded places mark key) (to-be from late.0 there late.1 r state layout handle k can) refl refl in
+            λ image f state layout handle k can. f state layout [] handle key (new_loaded places mark key) (to-be from late.0 there late.1 r state layout handle k can) refl refl in
             passes_then (writing-made from there r) (passes_weaker (list late.0 late.1 can) finds finds)
 
         pub named-of : (from : Image) → a.files ≡ Some from → HasRoomForNew key mark from → (named : Image) × (h.files ≡ Some named)
@@ -132,11 +131,11 @@ module _ (a d : Told) (key : List ℕ) (mark : ℕ) (take : ForSome a.files (λ 
                 let first = listing-made from there r in
                 let named = named-of from there r in
                 let finds : (image : Image) → KeepsWith [] [] named.0 image → FindsWhileMade key from image =
-                    λ image kw state layout handle k can.
-                    let kept = kept-named from named.0 there named.1 r state layout handle k can in
-                    let now = then-found [] [] named.0 image kw (created handle key state) (with_new layout key (new_loaded places mark key)) [] kept in
-                    let before = then-found [] [] named.0 named.0 (λ s y u q. q) (created handle key state) (with_new layout key (new_loaded places mark key)) [] kept in
-                    (now.0, now.1 ∙ sym before.1 ∙ (passes_end first named.0 named.1 state layout handle k can).1) in
+                λ image kw state layout handle k can.
+                let kept = kept-named from named.0 there named.1 r state layout handle k can in
+                let now = then-found [] [] named.0 image kw (created handle key state) (with_new layout key (new_loaded places mark key)) [] kept in
+                let before = then-found [] [] named.0 named.0 (λ s y u q. q) (created handle key state) (with_new layout key (new_loaded places mark key)) [] kept in
+                (now.0, now.1 ∙ sym before.1 ∙ (passes_end first named.0 named.1 state layout handle k can).1) in
                 passes_then first (passes_weaker (count named.0 named.1) finds finds)
 
             module _ (counters : Counters) (read : ForSome a.files (AreCounters counters)) (charge : ℕ) (long : charge ≡ length key)
@@ -162,7 +161,7 @@ module _ (a d : Told) (key : List ℕ) (mark : ℕ) (take : ForSome a.files (λ 
                   let items : (counters.entries + 1) % 4294967296 ≡ length (created handle key state).uses = one-counted counters.entries (length state.uses) (c.entries ∙ k.counters.num_entries) (omega (arith, few, short)) ∙ sym more.items in
                   let sizes : (counters.size + 1) % 4294967296 ≡ length (created handle key state).uses = one-counted counters.size (length state.uses) (c.size ∙ k.counters.sizes) (omega (arith, few, short)) ∙ sym more.items in
                   let bytes : (counters.bytes + charge) % 4294967296 ≡ counted_bytes (created handle key state) (with_new layout key loaded) =
-                      ap (λ (n : ℕ). (counters.bytes + n) % 4294967296) (long ∙ plain-charge (length key)) ∙ bytes-counted counters.bytes _ (length key + 0) (c.bytes ∙ k.counters.num_bytes) ∙ ap (λ (n : ℕ). n % 4294967296) (sym more.bytes) in
+                  ap (λ (n : ℕ). (counters.bytes + n) % 4294967296) (long ∙ plain-charge (length key)) ∙ bytes-counted counters.bytes _ (length key + 0) (c.bytes ∙ k.counters.num_bytes) ∙ ap (λ (n : ℕ). n % 4294967296) (sym more.bytes) in
                   record {
                     loaded = loaded;
                     record_is = sym entry_is;

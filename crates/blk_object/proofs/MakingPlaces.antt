@@ -1,5 +1,5 @@
 -- The three places of an entry, taken one after another.
-use Rattle.std.proofs.Common.{◌≡◌, ◌≢◌, ℕ, suc, ◌+◌, ◌≤◌, List, [], ◌∷◌, ◌++◌, length, Option, None, Some, refl, sym, ◌∙◌, ap, subst, arith, true, false, Bool}
+use Rattle.std.proofs.Common.{◌≡◌, ◌≢◌, ℕ, suc, ◌+◌, ◌≤◌, List, [], ◌∷◌, ◌++◌, length, Option, None, Some, refl, ◌∙◌, arith, true, false, Bool}
 use Rattle.std.specs.Prelude.{nat_le, nat_lt, if◌then◌else◌, ◌-◌, ◌/◌}
 use Rattle.std.specs.Option.{ForSome}
 use Rattle.std.specs.List.Sorted.{IsPermutation}
@@ -9,10 +9,9 @@ use Rattle.blk_image.specs.Image.{Image}
 use Rattle.blk_image.specs.Told.{Passes, Told}
 use Rattle.blk_image.proofs.Runs.{passes_then, passes_weaker}
 use Rattle.blk_format.specs.Address.{external, file_selector, kind_of}
-use Rattle.blk_format.specs.Claims.{BlockOf, claims_of, claims_of_all, has_claim, repeats}
+use Rattle.blk_format.specs.Claims.{BlockOf, claims_of, claims_of_all, repeats}
 use Rattle.blk_format.specs.Storage.{entry_blocks}
 use Rattle.blk_io.proofs.Carried.{untold_where}
-use Rattle.blk_alloc.specs.Owning.{is_of}
 use Rattle.blk_alloc.proofs.Lists.{claims_blocks, once_parts}
 use Rattle.blk_entry.specs.Writing.{LiesApart, ShareNoBlock}
 use Rattle.blk_laws.proofs.claims.ByteChanges.{stands-some}

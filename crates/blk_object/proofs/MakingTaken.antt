@@ -1,5 +1,5 @@
 -- Places that are taken: at each word what was at rest is found, and in the end their words are unlinked.
-use Rattle.std.proofs.Common.{◌≡◌, ◌≢◌, inl, inr, ℕ, suc, ◌+◌, ◌<◌, ◌≤◌, List, [], ◌∷◌, ◌++◌, length, Option, None, Some, refl, sym, ◌∙◌, ap, subst, arith, true, false, Bool, Result, Ok, Err, IfOk}
+use Rattle.std.proofs.Common.{◌≡◌, ◌≢◌, inl, inr, ℕ, suc, ◌+◌, ◌<◌, ◌≤◌, List, [], ◌∷◌, ◌++◌, length, Option, None, Some, refl, sym, ◌∙◌, ap, subst, arith, true, false, Result, Ok, Err, IfOk}
 use Rattle.std.specs.Prelude.{◌==◌, is_some, unwrap_or, IsTrue}
 use Rattle.std.specs.Option.{ForSome, option_map}
 use Rattle.std.proofs.lemmas.Bool.{eq-eqb, or_left}
@@ -14,8 +14,6 @@ use Rattle.blk_format.specs.Address.{external, external_number, file_selector, i
 use Rattle.blk_format.specs.BlockFiles.{IsWellFormed}
 use Rattle.blk_format.specs.Claims.{Claim, ExternalOf, claims_of, claims_of_all, has_claim, same_claim}
 use Rattle.blk_format.specs.Growth.{StaysWhole}
-use Rattle.blk_volume.specs.Layout.{Layout}
-use Rattle.blk_model.specs.State.{State}
 use Rattle.blk_format.specs.Headers.{HasWholeIndex, crash_of, this_id_of}
 use Rattle.blk_format.specs.Storage.{kind_for}
 use Rattle.blk_format.proofs.Finished.{whole_index}
@@ -122,7 +120,7 @@ module _ (a b : Told) (files : BlockFiles) (kind count : ℕ) (block : is_block_
   allocated-taken new w of_kind address agrees stands long links allocates within from there room image now =
       let counted = counted-with-room 0 files kind from room (agreed from there) block in
       let adds : AddsAllocation from w image = allocations-add files new kind w from image room.kept.well_formed
-          (record { block_kind = block; of_kind = of_kind; address = address; agreed = agreed from there; agrees = agrees image now; stands = stands; long = long; links = links; allocates = allocates from there counted image now; within = within from there counted image now; stays = passes_end (stays 0 from there room) image now }) in
+      (record { block_kind = block; of_kind = of_kind; address = address; agreed = agreed from there; agrees = agrees image now; stands = stands; long = long; links = links; allocates = allocates from there counted image now; within = within from there counted image now; stays = passes_end (stays 0 from there room) image now }) in
       record { kept = allocated-unlinked w from image adds; session = adds.session }
 
   pub allocating-whole : (a.files ≡ None → b.files ≡ None) → ForSome a.files (LeavesRoom 1) → ForSome b.files HasWholeIndex

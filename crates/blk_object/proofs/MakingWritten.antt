@@ -1,32 +1,31 @@
 -- The entry of a new object is written at its places, whose words are unlinked.
-use Rattle.std.proofs.Common.{◌≡◌, ◌≢◌, ℕ, ◌+◌, ◌%◌, ◌<◌, List, [], ◌∷◌, ◌++◌, length, Option, None, Some, Result, Ok, Err, OnOk, refl, sym, ◌∙◌, ap, subst, arith, true, false, Bool}
-use Rattle.std.specs.Prelude.{◌&&◌, ◌||◌, ◌==◌, filter, not, if◌then◌else◌, unwrap_or}
+use Rattle.std.proofs.Common.{◌≡◌, ℕ, ◌+◌, ◌%◌, List, [], ◌∷◌, ◌++◌, length, Option, None, Some, Result, Ok, Err, OnOk, refl, sym, ◌∙◌, ap, subst, arith, true, false, Bool}
+use Rattle.std.specs.Prelude.{◌&&◌, ◌==◌, filter, not, unwrap_or}
 use Rattle.std.specs.Option.{ForSome}
 use Rattle.std.proofs.lemmas.Bool.{and_parts}
 use Rattle.std.proofs.lemmas.Bool.Decides.{nat_tests}
 use Rattle.blk_image.specs.Image.{Image, Index, byte}
 use Rattle.blk_image.specs.Told.{Passes, Told}
-use Rattle.blk_image.proofs.Runs.{passes_end, passes_stayed, passes_weaker}
+use Rattle.blk_image.proofs.Runs.{passes_end, passes_weaker}
 use Rattle.blk_format.specs.Address.{is_address, is_initialized}
 use Rattle.blk_format.specs.Headers.{bucket_of, this_id_of}
 use Rattle.blk_format.specs.Hash.{hash}
 use Rattle.blk_format.specs.Records.{entry_normal}
 use Rattle.blk_format.specs.Storage.{is_storage}
 use Rattle.blk_disk.specs.declared.tables.BlockFiles.{BlockFiles}
-use Rattle.blk_disk.specs.Tables.{Agrees, stands_among}
+use Rattle.blk_disk.specs.Tables.{Agrees}
 use Rattle.blk_volume.specs.Loads.{load, unchained_rule}
 use Rattle.blk_volume.specs.Searches.{bucket_of_key}
 use Rattle.blk_volume.specs.Sound.{words_of}
 use Rattle.blk_volume.specs.View.{store_of}
-use Rattle.blk_model.specs.State.{State}
-use Rattle.blk_entry.specs.Keys.{may_hold, stores}
+use Rattle.blk_entry.specs.Keys.{stores}
 use Rattle.blk_entry.specs.Writing.{AreWords, FitsKey, IsLongPlace, IsShownNew, IsWritten, WritesEntryInProgress, loaded_new}
 use Rattle.blk_kept.specs.Changes.{KeepsWith, StillFinds}
 use Rattle.blk_kept.specs.Keeping.{KeepsUncounted}
 use Rattle.blk_kept.proofs.Free.{then-found}
 use Rattle.blk_kept_calls.proofs.Entries.{writing-keeps}
 use Rattle.blk_kept_calls.proofs.NewEntries.{written-new}
-use Rattle.blk_object.specs.Making.{CanHaveNew, IsEntryOfKept, new_entry, new_loaded, long_word, words_at}
+use Rattle.blk_object.specs.Making.{IsEntryOfKept, new_entry, new_loaded, long_word, words_at}
 use Rattle.blk_object.specs.declared.making_places.Places.{Places}
 use Rattle.blk_object.proofs.MakingRoom.{uses-few}
 use Rattle.blk_object.proofs.MakingListed.{told-at}
@@ -79,7 +78,7 @@ module _ (b d : Told) (files : BlockFiles) (places : Places) (mark next : ℕ) (
       → ForSome d.files (λ image. load (store_of image) (unchained_rule entry_normal) places.node ≡ Ok (loaded_new (new_entry places mark next) key)) → ForSome b.files (λ from. ForSome d.files (IsEntryOfKept places mark key from))
   entry-written moment follows written shown loads from there image now state layout unlinked handle k can session =
       let here : ForSome b.files (KeepsUncounted state layout (words_of (loaded_new (new_entry places mark next) key) ++ unlinked)) =
-          told-at (KeepsUncounted state layout (words_of (loaded_new (new_entry places mark next) key) ++ unlinked)) b.files from there (subst (λ (ws : List ℕ). KeepsUncounted state layout (ws ++ unlinked) from) (sym words-same) k) in
+      told-at (KeepsUncounted state layout (words_of (loaded_new (new_entry places mark next) key) ++ unlinked)) b.files from there (subst (λ (ws : List ℕ). KeepsUncounted state layout (ws ++ unlinked) from) (sym words-same) k) in
       let few = can.few in
       let short = uses-few state layout (words_at places ++ unlinked) from k in
       record {

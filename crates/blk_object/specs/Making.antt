@@ -11,7 +11,6 @@ use Rattle.blk_format.specs.Headers.{num_bytes_of, num_entries_of, sizes_of, thi
 use Rattle.blk_laws.specs.IndexWrites.{IsIndexWord}
 use Rattle.blk_volume.specs.Creation.{with_new}
 use Rattle.blk_volume.specs.Layout.{Layout}
-use Rattle.blk_volume.specs.ListView.{most_nodes}
 use Rattle.blk_volume.specs.Loads.{Loaded}
 use Rattle.blk_volume.specs.Sound.{words_of}
 use Rattle.blk_entry.specs.declared.writing.NewEntry.{NewEntry}

@@ -1,4 +1,4 @@
-use Rattle.std.proofs.Common.{ℕ, ◌+◌, ◌%◌, arith}
+use Rattle.std.proofs.Common.{◌+◌, ◌%◌, arith}
 use Rattle.std.proofs.lemmas.Result.{on_ok_weaker}
 use Rattle.blk_object.proofs.MakingCounts.{counting-keeps, counting-open, counting-written}
 use Rattle.blk_object.proofs.making_counts.count_entry.Goals as goal

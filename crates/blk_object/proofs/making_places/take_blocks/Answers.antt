@@ -1,6 +1,5 @@
-use Rattle.std.proofs.Common.{◌≡◌, ℕ, [], ◌∷◌, Option, None, sym, subst}
+use Rattle.std.proofs.Common.{◌≡◌, [], ◌∷◌, None, sym, subst}
 use Rattle.std.specs.Option.{ForSome}
-use Rattle.blk_image.specs.Image.{Image}
 use Rattle.blk_image.specs.Told.{Told}
 use Rattle.blk_format.specs.Headers.{HasWholeIndex}
 use Rattle.blk_io.proofs.Carried.{carried, if_damaged_weaker}

@@ -1,7 +1,7 @@
-use Rattle.std.proofs.Common.{◌≡◌, ◌≢◌, ◌<◌, ◌≤◌, ℕ, List, [], ◌∷◌, Option, None, refl, sym, ◌∙◌, subst}
+use Rattle.std.proofs.Common.{◌≡◌, ◌≢◌, ◌<◌, ◌≤◌, ℕ, [], ◌∷◌, None, sym, ◌∙◌, subst}
 use Rattle.std.specs.Option.{ForSome}
 use Rattle.blk_image.specs.Told.{Passes, Told}
-use Rattle.blk_format.specs.Address.{blocks_256, external, kind_of}
+use Rattle.blk_format.specs.Address.{external, kind_of}
 use Rattle.blk_io.proofs.Carried.{carried, if_damaged_weaker}
 use Rattle.blk_entry.specs.Writing.{LiesApart}
 use Rattle.blk_kept.specs.Changes.{StillFinds}
@@ -9,7 +9,6 @@ use Rattle.blk_object.specs.Making.{LeavesRoom, Takes}
 use Rattle.blk_object.specs.declared.making_places.Places.{Places}
 use Rattle.blk_object.proofs.MakingTaken.{room-for-one}
 use Rattle.blk_object.proofs.MakingPlaces.{blocks-few, never-shared, room-after, room-for-third, tells-first, tells-two, three-find, three-taken, two-find, two-taken}
-use Rattle.blk_object.proofs.making_places.take_places.Given as given
 use Rattle.blk_object.proofs.making_places.take_places.Goals as goal
 
 pub take_blocks-requires-clause-some : goal.take_blocks-requires-clause-some
@@ -55,7 +54,7 @@ returns-in_err-long_key-clause-untold g c room =
     let places : Places = record { entry = c.in_ok-entry.entry; node = c.in_ok-node.node; long_key = None } in
     let two : ForSome a.files (λ from. LeavesRoom 3 from → Passes a d (StillFinds [] from)) = two-find a b d 1 c.in_ok-entry.entry c.in_ok-node.node c.take_blocks.ensures.stops c.in_ok-entry.ensures.taken c.take_blocks-2.ensures.stops in
     let taken : ForSome a.files (λ from. LeavesRoom 3 from → ForSome d.files (Takes (c.in_ok-node.node ∷ c.in_ok-entry.entry ∷ []) from)) =
-        two-taken a b d 1 c.in_ok-entry.entry c.in_ok-node.node c.take_blocks.ensures.stops c.in_ok-entry.ensures.taken c.take_blocks-2.ensures.stops c.in_ok-node.ensures.taken in
+    two-taken a b d 1 c.in_ok-entry.entry c.in_ok-node.node c.take_blocks.ensures.stops c.in_ok-entry.ensures.taken c.take_blocks-2.ensures.stops c.in_ok-node.ensures.taken in
     carried c.take_long_key.result c.from_residual-in_err-long_key.result c.in_err-long_key.field-0.0 (λ _. a.files ≡ None) c.in_err-long_key.was c.from_residual-in_err-long_key.ensures.1
     (if_damaged_weaker c.take_long_key.result (λ _. d.files ≡ None) (λ _. a.files ≡ None) (λ damage none. tells-two a d e places two taken c.take_long_key.ensures.stops room none)
     (c.take_long_key.ensures.untold (room-for-third a d e places two taken c.take_long_key.ensures.stops (λ none. c.take_blocks-2.ensures.silent (c.take_blocks.ensures.silent none)) room)))
@@ -79,7 +78,7 @@ returns-in_err-check_apart-clause-untold g c room =
     let places : Places = record { entry = c.in_ok-entry.entry; node = c.in_ok-node.node; long_key = c.in_ok-long_key.long_key } in
     let two : ForSome a.files (λ from. LeavesRoom 3 from → Passes a d (StillFinds [] from)) = two-find a b d 1 c.in_ok-entry.entry c.in_ok-node.node c.take_blocks.ensures.stops c.in_ok-entry.ensures.taken c.take_blocks-2.ensures.stops in
     let taken : ForSome a.files (λ from. LeavesRoom 3 from → ForSome d.files (Takes (c.in_ok-node.node ∷ c.in_ok-entry.entry ∷ []) from)) =
-        two-taken a b d 1 c.in_ok-entry.entry c.in_ok-node.node c.take_blocks.ensures.stops c.in_ok-entry.ensures.taken c.take_blocks-2.ensures.stops c.in_ok-node.ensures.taken in
+    two-taken a b d 1 c.in_ok-entry.entry c.in_ok-node.node c.take_blocks.ensures.stops c.in_ok-entry.ensures.taken c.take_blocks-2.ensures.stops c.in_ok-node.ensures.taken in
     let apart : kind_of c.in_ok-entry.entry ≢ external = λ is. (let z : ◌≡◌ {A = ℕ} 2 0 = sym c.in_ok-entry.ensures.kind.0 ∙ is in cc) in
     carried c.check_apart.result c.from_residual-in_err-check_apart.result c.in_err-check_apart.field-0.0 (λ _. a.files ≡ None) c.in_err-check_apart.was c.from_residual-in_err-check_apart.ensures.1
     (if_damaged_weaker c.check_apart.result (λ _. LiesApart c.in_ok-entry.entry c.in_ok-long_key.long_key → ⊥) (λ _. a.files ≡ None)

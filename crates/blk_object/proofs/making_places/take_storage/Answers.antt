@@ -1,6 +1,6 @@
-use Rattle.std.proofs.Common.{◌≡◌, ◌<◌, ◌≤◌, ℕ, sym, ◌∙◌, subst}
+use Rattle.std.proofs.Common.{◌<◌, ◌≤◌, ℕ, sym, ◌∙◌, subst}
 use Rattle.blk_addr.specs.Kind.{kind_number}
-use Rattle.blk_stream.proofs.Placed.{blocks_are, of_blocks, of_file, stored_blocks, stored_file}
+use Rattle.blk_stream.proofs.Placed.{blocks_are, of_blocks, of_file, stored_blocks}
 use Rattle.blk_object.proofs.MakingTaken.{stored-file}
 use Rattle.blk_object.proofs.making_places.take_storage.Goals as goal
 
