@@ -4,6 +4,8 @@
 mod making;
 mod making_counts;
 mod making_places;
+#[cfg(test)]
+mod making_tests;
 mod removing;
 
 pub use making::{Made, make_entry};
