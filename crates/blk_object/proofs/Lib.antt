@@ -5,3 +5,4 @@ pub mod MakingCounts
 pub mod MakingListed
 pub mod MakingWritten
 pub mod MakingMade
+pub mod MakingCreates

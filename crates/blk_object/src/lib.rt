@@ -8,4 +8,4 @@ mod making_places;
 mod making_tests;
 mod removing;
 
-pub use making::{Made, make_entry};
+pub use making::{Made, creates_can_have_new, make_entry};

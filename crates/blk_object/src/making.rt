@@ -10,7 +10,7 @@ ghost use Rattle.blk_disk.specs.Tables.{is_node_among, is_record_among};
 ghost use Rattle.blk_entry.specs.Writing.{FitsKey, HoldsLongKey, LiesApart};
 ghost use Rattle.blk_alloc.specs.Extending.{KeepsStanding};
 ghost use Rattle.blk_kept.specs.Changes.{StillFinds};
-ghost use Rattle.blk_object.specs.Making.{CanBeListed, FindsUntilListed, FindsWhileMade, HasNewObjects, HasRoomForNew, IsEntryOfKept, IsListed, new_entry, words_at};
+ghost use Rattle.blk_object.specs.Making.{CanBeListed, CreatesCanHaveNew, FindsUntilListed, FindsWhileMade, HasNewObjects, HasRoomForNew, IsEntryOfKept, IsListed, new_entry, words_at};
 
 use crate::making_counts::{count_entry, read_counters};
 use crate::making_places::{Places, take_places};
@@ -22,6 +22,11 @@ use blk_index::bucket;
 use blk_io::{Fault, Folder};
 use blk_lru::insert_front;
 use blk_record::{IndexHead, super_fast_hash};
+
+/// A Create that isn't refused can have its object once all that it evicts is out, where there are fewer items than a cache may have.
+pub fn creates_can_have_new()
+    ensures { CreatesCanHaveNew }
+{}
 
 /// Where a new object lies.
 #[derive(Clone, Copy, Debug)]
