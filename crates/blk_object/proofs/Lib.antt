@@ -6,3 +6,4 @@ pub mod MakingListed
 pub mod MakingWritten
 pub mod MakingMade
 pub mod MakingCreates
+pub mod MakingTimes

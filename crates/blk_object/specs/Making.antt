@@ -13,8 +13,10 @@ use Rattle.blk_format.specs.Headers.{num_bytes_of, num_entries_of, sizes_of, thi
 use Rattle.blk_laws.specs.IndexWrites.{IsIndexWord}
 use Rattle.blk_volume.specs.Creation.{with_new}
 use Rattle.blk_volume.specs.Layout.{Layout}
+use Rattle.blk_volume.specs.ListSteps.{AreTimes}
 use Rattle.blk_volume.specs.Loads.{Loaded}
 use Rattle.blk_volume.specs.Sound.{words_of}
+use Rattle.blk_volume.specs.View.{entry_at}
 use Rattle.blk_entry.specs.declared.writing.NewEntry.{NewEntry}
 use Rattle.blk_entry.specs.Writing.{loaded_new}
 use Rattle.blk_kept.specs.BoundLaws.{most_words}
@@ -104,6 +106,17 @@ abbrev pub IsListed : (entry node : ℕ) → Image → Image → Type 0
 IsListed entry node from image =
     (state : State) (layout : Layout) (unlinked : List ℕ) (handle : ℕ) (key : List ℕ) (loaded : Loaded) → IsToBeListed state layout unlinked handle key loaded from → loaded.contents ≡ entry → loaded.node ≡ node
     → KeepsUncounted (created handle key state) (with_new layout key loaded) unlinked image
+
+-- Times.
+
+-- an entry was made at a moment, and its node was used and changed then
+pub record HasTimes (entry node moment : ℕ) (image : Image) : Type 0 where
+  pub created : (entry_at image entry).creation_time ≡ moment
+  pub times : AreTimes node moment image
+
+-- whatever they were, they still are
+abbrev pub KeepsTimes : (entry node : ℕ) → Image → Image → Type 0
+KeepsTimes entry node from image = (moment : ℕ) → HasTimes entry node moment from → HasTimes entry node moment image
 
 -- Counters.
 

@@ -10,7 +10,7 @@ ghost use Rattle.blk_disk.specs.Tables.{is_node_among, is_record_among};
 ghost use Rattle.blk_entry.specs.Writing.{FitsKey, HoldsLongKey, LiesApart};
 ghost use Rattle.blk_alloc.specs.Extending.{KeepsStanding};
 ghost use Rattle.blk_kept.specs.Changes.{StillFinds};
-ghost use Rattle.blk_object.specs.Making.{CanBeListed, CreatesCanHaveNew, FindsUntilListed, FindsWhileMade, HasNewObjects, HasRoomForNew, IsEntryOfKept, IsListed, new_entry, words_at};
+ghost use Rattle.blk_object.specs.Making.{CanBeListed, CreatesCanHaveNew, FindsUntilListed, FindsWhileMade, HasNewObjects, HasRoomForNew, HasTimes, IsEntryOfKept, IsListed, KeepsTimes, new_entry, words_at};
 
 use crate::making_counts::{count_entry, read_counters};
 use crate::making_places::{Places, take_places};
@@ -58,6 +58,9 @@ pub fn make_entry<F: Folder>(
     // Each state that was kept, that can have the object, in a session of this number, is kept with it in the end.
     ensures made { IfOk result (λ made. ForSome (F.told f.old).files (λ from. this_id_of (byte from index) ≡ mark → ForSome (F.told f.new).files (HasNewObjects key.now made from))) }
 
+    // It was made, used and changed at the moment.
+    ensures times { IfOk result (λ made. ForSome (F.told f.new).files (HasTimes made.entry made.node moment)) }
+
     // At each word what was at rest is found: the new object is dirty, and so it isn't.
     ensures stops { ForSome (F.told f.old).files (λ from. HasRoomForNew key.now mark from → Passes (F.told f.old) (F.told f.new) (FindsWhileMade key.now from)) }
 
@@ -97,6 +100,7 @@ fn write_new<F: Folder>(
     requires apart { LiesApart places.now.entry places.now.long_key }
     requires is_open { ForSome (F.told f.old).files (IsOpen files.now) }
     ensures written { OnOk result (ForSome (F.told f.old).files (λ from. ForSome (F.told f.new).files (IsEntryOfKept places.now mark key.now from))) }
+    ensures times { OnOk result (ForSome (F.told f.new).files (HasTimes places.now.entry places.now.node moment)) }
     ensures stops { ForSome (F.told f.old).files (λ from. Passes (F.told f.old) (F.told f.new) (StillFinds (words_at places.now) from)) }
     ensures is_open { ForSome (F.told f.new).files (IsOpen files.now) }
     ensures untold { IfDamaged result (λ _. (F.told f.old).files ≡ None) }
@@ -128,6 +132,7 @@ fn list_entry<F: Folder>(
     requires node { IsTrue (is_node_among files.now node) }
     requires is_open { ForSome (F.told f.old).files (IsOpen files.now) }
     ensures listed { OnOk result (ForSome (F.told f.old).files (λ from. ForSome (F.told f.new).files (IsListed entry node from))) }
+    ensures times { OnOk result (ForSome (F.told f.old).files (λ from. ForSome (F.told f.new).files (KeepsTimes entry node from))) }
     ensures stops { ForSome (F.told f.old).files (λ from. CanBeListed entry node from → Passes (F.told f.old) (F.told f.new) (FindsUntilListed entry node from)) }
     ensures is_open { ForSome (F.told f.new).files (IsOpen files.now) }
     ensures untold { ForSome (F.told f.old).files (CanBeListed entry node) → IfDamaged result (λ _. (F.told f.old).files ≡ None) }

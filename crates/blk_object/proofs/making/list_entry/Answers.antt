@@ -4,6 +4,7 @@ use Rattle.blk_io.proofs.Carried.{carried, if_damaged_weaker}
 use Rattle.blk_volume.specs.Completion.{insert}
 use Rattle.blk_volume.specs.ListImages.{operation_steps}
 use Rattle.blk_object.proofs.MakingListed.{can-insert, inserting-finds, listing-finds, listing-listed, part-tells, record-parts}
+use Rattle.blk_object.proofs.MakingTimes.{listing-times, node-kind}
 use Rattle.blk_object.proofs.making.list_entry.Goals as goal
 
 pub returns-in_err-insert_front-clause-stops : goal.returns-in_err-insert_front-clause-stops
@@ -34,3 +35,9 @@ pub returns-clause-untold : goal.returns-clause-untold
 returns-clause-untold g c can =
     if_damaged_weaker c.link_front.result (λ _. (g.F.Folder.told c.insert_front.new.f).files ≡ None) (λ _. (g.F.Folder.told c.args.f.now).files ≡ None)
     (λ damage none. part-tells (g.F.Folder.told c.args.f.now) (g.F.Folder.told c.insert_front.new.f) (operation_steps insert c.args.node) c.insert_front.ensures.prefix none) c.link_front.ensures.untold
+
+pub returns-clause-times : goal.returns-clause-times
+returns-clause-times g c =
+    on_ok_weaker c.link_front.result
+    (λ steps. listing-times (g.F.Folder.told c.args.f.now) (g.F.Folder.told c.insert_front.new.f) (g.F.Folder.told c.link_front.new.f) c.args.files.now c.args.entry c.args.node c.requires.is_open c.requires.stands (node-kind c.args.files.now c.args.node c.requires.node)
+    c.in_ok-insert_front.ensures.checked c.in_ok-insert_front.ensures.steps steps) c.link_front.ensures.steps

@@ -8,6 +8,8 @@ use Rattle.blk_format.specs.Headers.{this_id_of}
 use Rattle.blk_disk.specs.Open.{IsOpen}
 use Rattle.blk_object.specs.Making.{AreCounters, FindsWhileMade, HasNewObjects, HasRoomForNew}
 use Rattle.blk_object.proofs.MakingMade.{among-names, can-list, counting-made, listing-made, nothing-made, object-made, room-three, taking-made, tells-late, tells-mid, writing-made}
+use Rattle.blk_object.proofs.MakingTaken.{told-before}
+use Rattle.blk_object.proofs.MakingTimes.{counting-times}
 use Rattle.blk_object.proofs.making.make_entry.Goals as goal
 
 pub returns-in_err-counters-clause-stops : goal.returns-in_err-counters-clause-stops
@@ -74,3 +76,10 @@ returns-clause-made g c =
     subst (λ (t : Told). ForSome t.files (λ from. this_id_of (byte from Index) ≡ c.args.mark → ForSome (g.F.Folder.told c.count_entry.new.f).files (HasNewObjects c.args.key.now (record { entry = c.in_ok-places.places.entry; node = c.in_ok-places.places.node }) from))) c.in_ok-counters.ensures.stays
     (object-made (g.F.Folder.told c.read_counters.new.f) (g.F.Folder.told c.take_places.new.f) c.args.key.now c.args.mark c.take_places.ensures.stops c.in_ok-places.places c.in_ok-places.ensures.taken (g.F.Folder.told c.write_new.new.f) c.write_new.ensures.stops c.in_ok-write_new.ensures.written (g.F.Folder.told c.list_entry.new.f) c.list_entry.ensures.stops c.in_ok-list_entry.ensures.listed (g.F.Folder.told c.count_entry.new.f) c.count_entry.ensures.stops c.in_ok-counters.counters
     (subst (λ (t : Told). ForSome t.files (AreCounters c.in_ok-counters.counters)) (sym c.in_ok-counters.ensures.stays) c.in_ok-counters.ensures.read) _ refl c.in_ok-count_entry.ensures.written (record { entry = c.in_ok-places.places.entry; node = c.in_ok-places.places.node }) refl refl)
+
+pub returns-clause-times : goal.returns-clause-times
+returns-clause-times g c image now =
+    let named = told-before (g.F.Folder.told c.list_entry.new.f).files (g.F.Folder.told c.count_entry.new.f).files image c.count_entry.ensures.silent now in
+    let late = told-before (g.F.Folder.told c.write_new.new.f).files (g.F.Folder.told c.list_entry.new.f).files named.0 c.list_entry.ensures.silent named.1 in
+    counting-times c.in_ok-places.places.entry c.in_ok-places.places.node _ _ _ named.0 image (c.in_ok-count_entry.ensures.written named.0 named.1 image now) c.args.moment
+    (c.in_ok-list_entry.ensures.times late.0 late.1 named.0 named.1 c.args.moment (c.in_ok-write_new.ensures.times late.0 late.1))

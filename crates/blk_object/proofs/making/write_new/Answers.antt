@@ -6,9 +6,11 @@ use Rattle.blk_volume.specs.View.{store_of}
 use Rattle.blk_image.specs.Told.{Passes, Told}
 use Rattle.blk_disk.specs.Open.{IsOpen}
 use Rattle.blk_kept.specs.Changes.{StillFinds}
-use Rattle.blk_object.specs.Making.{IsEntryOfKept, words_at}
+use Rattle.std.proofs.lemmas.Result.{on_ok_weaker}
+use Rattle.blk_object.specs.Making.{IsEntryOfKept, words_at, new_entry}
 use Rattle.blk_object.proofs.MakingTaken.{nothing-finds}
 use Rattle.blk_object.proofs.MakingWritten.{bucket-is, entry-written, fits-next, on-ok-three, writing-finds}
+use Rattle.blk_object.proofs.MakingTimes.{written-times}
 use Rattle.blk_object.proofs.making.write_new.Goals as goal
 
 pub returns-in_err-next-clause-stops : goal.returns-in_err-next-clause-stops
@@ -47,3 +49,8 @@ returns-clause-written g c =
     (subst (λ (t : Told). ForSome t.files (λ (i : Image). c.in_ok-next.next ≡ (store_of i).table (bucket_of_key c.args.key.now))) (sym c.in_ok-next.ensures.stays) (λ from there. bucket-is from c.args.key.now c.super_fast_hash-hash.result _ c.in_ok-next.next c.super_fast_hash-hash.ensures refl (c.in_ok-next.ensures.word from there)))
     written shown (loads refl)))
     c.write_entry.ensures.written c.write_entry.ensures.shown c.write_entry.ensures.loads
+
+pub returns-clause-times : goal.returns-clause-times
+returns-clause-times g c =
+    on_ok_weaker c.write_entry.result
+    (λ written image now. written-times (new_entry c.args.places.now c.args.mark c.in_ok-next.next) c.args.key.now c.args.moment image (written image now)) c.write_entry.ensures.written
