@@ -1,0 +1,5 @@
+pub mod TakingOut
+pub mod ChainsOut
+pub mod TakenItems
+pub mod FreedPlaces
+pub mod FreeingRuns

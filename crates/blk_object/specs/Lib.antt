@@ -1,2 +1,4 @@
 pub mod Making
 pub mod Removing
+pub mod Freeing
+pub mod Owning

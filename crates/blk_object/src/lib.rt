@@ -1,5 +1,13 @@
 //! The objects of a folder that keeps a state of the map: how one is made, and how one goes, with what is found at each word.
 #![tactic(auto)]
 
+mod freeing;
+mod freeing_laws;
 mod making;
 mod removing;
+mod removing_laws;
+
+pub use freeing::free_places;
+pub use freeing_laws::freed_words_are_gone;
+pub use removing::take_out;
+pub use removing_laws::taken_items_are_removed;

@@ -1,0 +1,25 @@
+use Rattle.std.proofs.Common.{◌≡◌, inr, subst, sym, ◌∙◌, true}
+use Rattle.std.proofs.lemmas.Result.{on_ok_weaker}
+use Rattle.blk_image.proofs.Runs.{passes_weaker, some_inj}
+use Rattle.blk_format.specs.Address.{external_number}
+use Rattle.blk_format.specs.BlockFiles.{stands_in, IsWellFormed}
+use Rattle.blk_io.proofs.Carried.{silent_part}
+use Rattle.blk_kept_calls.proofs.ExternalFiles.{deletions-remove}
+use Rattle.blk_stream.proofs.PlacesFreed.{agrees_deleted}
+use Rattle.blk_object.proofs.freeing.delete_file.Goals as goal
+
+pub returns-clause-freed : goal.returns-clause-freed
+returns-clause-freed g c =
+    on_ok_weaker c.delete.result
+    (λ none from there formed stands image now. inr (deletions-remove c.args.place (g.F.Folder.told c.args.f.now) (g.F.Folder.told c.delete.new.f) c.requires.kind
+    (λ other is. subst IsWellFormed (some_inj (sym there ∙ is)) formed) (λ other is. subst (λ i. stands_in i c.args.place ≡ true) (some_inj (sym there ∙ is)) stands) c.delete.ensures.stops none from there image now))
+    c.delete.ensures.file
+
+pub returns-clause-stops : goal.returns-clause-stops
+returns-clause-stops g c from there = passes_weaker (c.delete.ensures.stops from there) (λ image h. inr (c.requires.kind, h.outside)) (λ image h. inr (c.requires.kind, h.outside))
+
+pub returns-clause-agrees : goal.returns-clause-agrees
+returns-clause-agrees g c = agrees_deleted c.args.files.now (g.F.Folder.told c.args.f.now) (g.F.Folder.told c.delete.new.f) (external_number c.args.place) c.delete.ensures.prefix c.requires.agrees
+
+pub returns-clause-silent : goal.returns-clause-silent
+returns-clause-silent g c none = silent_part c.delete.ensures.prefix none

@@ -1,0 +1,22 @@
+use Rattle.std.proofs.Common.{◌≢◌, inl, sym, ◌∙◌}
+use Rattle.std.proofs.lemmas.Result.{on_ok_weaker}
+use Rattle.blk_image.proofs.Runs.{passes_weaker}
+use Rattle.blk_format.specs.Address.{external, kind_of}
+use Rattle.blk_entry.proofs.KeyPlaces.{of_other}
+use Rattle.blk_kept_calls.proofs.Freeing.{frees-remove, frees-stay}
+use Rattle.blk_object.proofs.freeing.free_place.Goals as goal
+
+pub returns-else-is_external-clause-freed : goal.returns-else-is_external-clause-freed
+returns-else-is_external-clause-freed g c =
+    let blocky : kind_of c.args.place ≢ external = of_other (kind_of c.args.place) external (sym c.is_external.ensures ∙ c.if-is_external.false) in
+    on_ok_weaker c.free.result
+    (λ freed from there formed stands image now. inl (frees-remove c.args.files.now c.args.place (g.F.Folder.told c.args.f.now) (g.F.Folder.told c.free.new.f) (c.requires.stands blocky) c.free.ensures.stops freed from there image now))
+    c.free.ensures.freed
+
+pub returns-else-is_external-clause-stops : goal.returns-else-is_external-clause-stops
+returns-else-is_external-clause-stops g c from there =
+    passes_weaker (frees-stay c.args.place (g.F.Folder.told c.args.f.now) (g.F.Folder.told c.free.new.f) c.free.ensures.stops from there) (λ image stays. inl stays) (λ image stays. inl stays)
+
+pub returns-else-is_external-clause-untold : goal.returns-else-is_external-clause-untold
+returns-else-is_external-clause-untold g c may =
+    c.free.ensures.untold (λ image there. may image there (of_other (kind_of c.args.place) external (sym c.is_external.ensures ∙ c.if-is_external.false)))
