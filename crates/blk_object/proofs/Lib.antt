@@ -3,3 +3,4 @@ pub mod ChainsOut
 pub mod TakenItems
 pub mod FreedPlaces
 pub mod FreeingRuns
+pub mod OwnedPlaces

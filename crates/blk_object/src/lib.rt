@@ -4,10 +4,14 @@
 mod freeing;
 mod freeing_laws;
 mod making;
+mod owning;
+mod owning_laws;
 mod removing;
 mod removing_laws;
 
 pub use freeing::free_places;
 pub use freeing_laws::freed_words_are_gone;
+pub use owning::{Owned, free_owned, read_owned};
+pub use owning_laws::entries_of_states_load;
 pub use removing::take_out;
 pub use removing_laws::taken_items_are_removed;
