@@ -4,3 +4,5 @@ pub mod TakenItems
 pub mod FreedPlaces
 pub mod FreeingRuns
 pub mod OwnedPlaces
+pub mod RemovingCounts
+pub mod OwnedCharges

@@ -2,3 +2,4 @@ pub mod Making
 pub mod Removing
 pub mod Freeing
 pub mod Owning
+pub mod RemovingCounts

@@ -7,6 +7,7 @@ mod making;
 mod owning;
 mod owning_laws;
 mod removing;
+mod removing_counts;
 mod removing_laws;
 
 pub use freeing::free_places;

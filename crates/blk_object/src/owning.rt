@@ -1,9 +1,10 @@
 // The places that an entry has.
-ghost use Rattle.std.specs.Prelude.{◌≡◌, ◌≤◌, ◌<◌, ◌==◌, All, IfOk, IsOk, IsTrue, None, OnOk, Some, false, true, if◌then◌else◌};
+ghost use Rattle.std.specs.Prelude.{◌≡◌, ◌≤◌, ◌<◌, ◌+◌, ◌%◌, ◌^◌, ◌==◌, All, IfOk, IsOk, IsTrue, None, OnOk, Some, false, true, slice_index, if◌then◌else◌};
 ghost use Rattle.std.specs.Option.{ForSome};
 ghost use Rattle.blk_image.specs.Told.{Passes, Rises, Stays};
 ghost use Rattle.blk_format.specs.Address.{blocks_256, kind_of};
 ghost use Rattle.blk_format.specs.Records.{entry_size};
+ghost use Rattle.blk_volume.specs.Found.{charge_of};
 ghost use Rattle.blk_volume.specs.Loads.{Loaded};
 ghost use Rattle.blk_volume.specs.Sound.{words_of};
 ghost use Rattle.blk_io.specs.Faults.{IfDamaged, IfDevice};
@@ -14,14 +15,17 @@ ghost use Rattle.blk_object.specs.Owning.{LoadsWith, is_there};
 use crate::freeing::{free_places, is_external};
 use blk_addr::Addr;
 use blk_disk::BlockFiles;
-use blk_entry::{read_head, record_damage};
+use blk_entry::{Head, read_head, record_damage};
 use blk_io::{Fault, Folder};
 use blk_record::EntryView;
 
-/// The places of an entry, in this order: of its node, its record, its long key and its three streams, where it has them.
+/// What an entry has.
 #[derive(Clone, Copy, Debug)]
 pub struct Owned {
+    /// The places of its node, its record, its long key and its three streams, in this order, where it has them.
     pub places: [Option<Addr>; 6],
+    /// The bytes of its key and its streams, modulo 2^32.
+    pub charge: u32,
 }
 
 /// Reads which places an entry has, by its record: one folder call.
@@ -34,6 +38,7 @@ pub fn read_owned<F: Folder>(f: &mut F, files: &BlockFiles, entry: Addr) -> Resu
 
     // They are all the address words of what lies there with this record, and each is there.
     ensures words { IfOk result (λ owned. ForSome (F.told f.old).files (λ image. (loaded : Loaded) → LoadsWith entry loaded image → words_at owned.places ≡ words_of loaded)) }
+    ensures charge { IfOk result (λ owned. ForSome (F.told f.old).files (λ image. (loaded : Loaded) → LoadsWith entry loaded image → owned.charge ≡ charge_of loaded % 2 ^ 32)) }
     ensures there { IfOk result (λ owned. All (IsPlaceAmong files.now) owned.places) }
 
     ensures stays { Stays (F.told f.old) (F.told f.new) }
@@ -52,6 +57,7 @@ pub fn read_owned<F: Folder>(f: &mut F, files: &BlockFiles, entry: Addr) -> Resu
     let third = place_of(files, entry, EntryView::DATA_ADDR + 8, head.addrs[2])?;
     Ok(Owned {
         places: [node, Some(entry), long_key, first, second, third],
+        charge: charge_of_head(&head),
     })
 }
 
@@ -74,6 +80,16 @@ pub fn free_owned<F: Folder>(f: &mut F, files: &BlockFiles, owned: &Owned) -> Re
     ensures device { IfDevice result (Rises (F.faults f.old) (F.faults f.new)) }
 {
     free_places(f, files, &owned.places)
+}
+
+// The bytes of the key and the streams of an entry, modulo 2^32.
+fn charge_of_head(head: &Head) -> u32
+    ensures { result ≡ (((head.now.key_len + slice_index head.now.sizes 0) % 2 ^ 32 + slice_index head.now.sizes 1) % 2 ^ 32 + slice_index head.now.sizes 2) % 2 ^ 32 }
+{
+    head.key_len
+        .wrapping_add(head.sizes[0])
+        .wrapping_add(head.sizes[1])
+        .wrapping_add(head.sizes[2])
 }
 
 // The place of a word of a record, which has none where the word is 0.

@@ -1,8 +1,9 @@
-use Rattle.std.proofs.Common.{◌≡◌, None}
+use Rattle.std.proofs.Common.{◌≡◌, ◌∙◌, None}
 use Rattle.blk_io.proofs.Carried.{carried, untold_where}
 use Rattle.blk_entry.proofs.KeyPlaces.{damaged_any}
 use Rattle.blk_stream.proofs.StreamPlaces.{clash}
 use Rattle.blk_object.proofs.OwnedPlaces.{are-there, loaded-checks, owned-words}
+use Rattle.blk_object.proofs.OwnedCharges.{owned-charge}
 use Rattle.blk_object.proofs.owning.read_owned.Goals as goal
 
 pub returns-in_err-head-clause-untold : goal.returns-in_err-head-clause-untold
@@ -44,3 +45,6 @@ pub returns-clause-words : goal.returns-clause-words
 returns-clause-words g c image there loaded lies =
     owned-words image c.args.entry c.in_ok-head.head loaded c.in_ok-node.node c.in_ok-long_key.long_key c.in_ok-first.first c.in_ok-second.second c.in_ok-third.third (c.in_ok-head.ensures.head image there) lies
     c.in_ok-node.ensures.place c.in_ok-long_key.ensures.place c.in_ok-first.ensures.place c.in_ok-second.ensures.place c.in_ok-third.ensures.place
+
+pub returns-clause-charge : goal.returns-clause-charge
+returns-clause-charge g c image there loaded lies = c.charge_of_head.ensures ∙ owned-charge image c.args.entry c.in_ok-head.head loaded (c.in_ok-head.ensures.head image there) lies
