@@ -1,8 +1,8 @@
 -- Places that are freed one after another: what they are to the state that was kept.
-use Rattle.std.proofs.Common.{◌≡◌, ◌≢◌, inl, inr, ℕ, List, [], ◌∷◌, ◌++◌, refl, ap, sym, ◌∙◌, subst, append_assoc, Bool, true, false, Option, None, Some}
+use Rattle.std.proofs.Common.{◌⊎◌, ◌≡◌, ◌≢◌, inl, inr, ℕ, List, [], ◌∷◌, ◌++◌, refl, ap, sym, ◌∙◌, subst, append_assoc, Bool, true, false, Option, None, Some}
 use Rattle.std.specs.Prelude.{◌==◌, ◌&&◌, filter, is_some}
 use Rattle.std.proofs.lemmas.Bool.{and_parts, eq-eqb, or_left}
-use Rattle.blk_image.specs.Image.{Image}
+use Rattle.blk_image.specs.Image.{Image, Index, byte}
 use Rattle.blk_model.specs.Effects.{doomed}
 use Rattle.blk_model.specs.Holding.{rest}
 use Rattle.blk_model.specs.Items.{Item}
@@ -16,7 +16,8 @@ use Rattle.blk_volume.specs.Layout.{Layout}
 use Rattle.blk_volume.specs.Tidy.{loaded_at}
 use Rattle.blk_laws.proofs.claims.ByteChanges.{stands-blocks}
 use Rattle.blk_alloc.specs.Owning.{CanBeFreed}
-use Rattle.blk_kept.specs.Changes.{Finds, KeepsWith, StillFinds}
+use Rattle.blk_kept.specs.Changes.{Finds, KeepsWith, RemovesAllocation, RemovesExternal, StillFinds}
+use Rattle.blk_format.specs.Headers.{num_bytes_of, num_entries_of, sizes_of}
 use Rattle.blk_kept.specs.Keeping.{KeepsUncounted, words_in_use}
 use Rattle.blk_kept.specs.PartlyOut.{KeepsPartlyOut, left_nodes}
 use Rattle.blk_kept.specs.PartlyOutStops.{LeavesOtherKeys}
@@ -29,7 +30,7 @@ use Rattle.blk_kept.proofs.PartlyOut.{kept-begin}
 use Rattle.blk_kept.proofs.PartlyOutStops.{deleting-doomed, freeing-finds, partly-out-finds}
 use Rattle.blk_kept.proofs.Free.{then-found}
 use Rattle.blk_kept.proofs.Writes.{growth-finds}
-use Rattle.blk_object.specs.Freeing.{AreFreeable, AreGoing, FreedWordsAreGone, FreedWordsAreGonePartlyOut, GoingWordsFindDoomed, GoingWordsFindTheSame, IsNextGoing, IsPlaceGoing, Removes, RemovesPlace, UnlinkedWordsAreFreeable, words_at}
+use Rattle.blk_object.specs.Freeing.{AreFreeable, AreGoing, FreedWordsAreGone, FreedWordsAreGonePartlyOut, FreedWordsLeaveCounters, GoingWordsFindDoomed, GoingWordsFindTheSame, IsNextGoing, IsPlaceGoing, Removes, RemovesPlace, UnlinkedWordsAreFreeable, words_at}
 
 -- ---- what may be freed
 
@@ -39,12 +40,16 @@ freeable state layout words unlinked from k = record { state = state; layout = l
 -- ---- one place
 
 place-gone : (w : ℕ) (from image : Image) → RemovesPlace w from image → KeepsWith (w ∷ []) [] from image
-place-gone w from image (inl blocks) = freed-gone w from image blocks
-place-gone w from image (inr file) = deleted-gone w from image file
+place-gone w from image r = by r.removed where
+  by : RemovesAllocation from w image ⊎ RemovesExternal from w image → KeepsWith (w ∷ []) [] from image
+  by (inl blocks) = freed-gone w from image blocks
+  by (inr file) = deleted-gone w from image file
 
 place-out : (state : State) (layout : Layout) (keep : Item → Bool) (chains : ℕ → List ℕ) (w : ℕ) (unlinked : List ℕ) (from image : Image) → RemovesPlace w from image → KeepsPartlyOut state layout keep chains (w ∷ unlinked) from → KeepsPartlyOut state layout keep chains unlinked image
-place-out state layout keep chains w unlinked from image (inl blocks) k = blocks-freed state layout keep chains w unlinked from image k blocks
-place-out state layout keep chains w unlinked from image (inr file) k = files-deleted state layout keep chains w unlinked from image k file
+place-out state layout keep chains w unlinked from image r k = by r.removed where
+  by : RemovesAllocation from w image ⊎ RemovesExternal from w image → KeepsPartlyOut state layout keep chains unlinked image
+  by (inl blocks) = blocks-freed state layout keep chains w unlinked from image k blocks
+  by (inr file) = files-deleted state layout keep chains w unlinked from image k file
 
 -- a file of which blocks stand is linked
 linked-is : (image : Image) (w : ℕ) → stands_in image w ≡ true → kind_of w ≢ external → is_some (linked_as image (file_selector w)) ≡ true
@@ -78,6 +83,19 @@ all-gone (w ∷ words) from image r = λ state layout unlinked k. all-gone words
 pub all-out : FreedWordsAreGonePartlyOut
 all-out state layout keep chains [] unlinked from image is k = subst (KeepsPartlyOut state layout keep chains unlinked) (sym is) k
 all-out state layout keep chains (w ∷ words) unlinked from image r k = all-out state layout keep chains words unlinked r.0 image r.1.1 (place-out state layout keep chains w (words ++ unlinked) from r.0 r.1.0 k)
+
+same-index : (words : List ℕ) (from image : Image) → Removes words from image → (i : ℕ) → byte image Index i ≡ byte from Index i
+same-index [] from image is i = ap (λ (x : Image). byte x Index i) is
+same-index (w ∷ words) from image r i = same-index words r.0 image r.1.1 i ∙ r.1.0.index i
+
+pub all-counted : FreedWordsLeaveCounters
+all-counted words from image r = record {
+  sizes = ap (λ (f : ℕ → ℕ). sizes_of f 0) same;
+  num_entries = ap num_entries_of same;
+  num_bytes = ap num_bytes_of same;
+} where
+  same : byte image Index ≡ byte from Index
+  same = λ j i. same-index words from image r i j
 
 -- some, and then others
 pub all-freed : (words others : List ℕ) (from between image : Image) → Removes words from between → Removes others between image → Removes (words ++ others) from image

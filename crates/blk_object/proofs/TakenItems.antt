@@ -39,7 +39,15 @@ use Rattle.blk_laws.proofs.updates.Updates.{entry-seal}
 use Rattle.blk_laws.proofs.walks.Loads.{load-then}
 use Rattle.blk_chain.specs.Unlinking.{IsSealedAgain, IsUnlinked, StandsBehind, next_record}
 use Rattle.blk_kept.specs.Arranging.{LeavesFiles}
-use Rattle.blk_kept.specs.Changes.{Finds}
+use Rattle.blk_kept.specs.Changes.{Finds, SameCounters}
+use Rattle.blk_kept.proofs.AtNodes.{updates-leave}
+use Rattle.blk_image.specs.Footprint.{one_word}
+use Rattle.blk_image.specs.Image.{Index, word}
+use Rattle.blk_image.proofs.Footprints.{same_word_outside}
+use Rattle.blk_format.specs.Headers.{header_length, place_of_bucket}
+use Rattle.std.proofs.lemmas.Bool.Decides.{nat_tests}
+use Rattle.std.specs.Prelude.{◌&&◌, nat_le}
+use Rattle.std.proofs.Common.{lit≤}
 use Rattle.blk_kept.specs.Keeping.{KeepsUncounted}
 use Rattle.blk_kept.specs.PlainRemovals.{IsRemoved, IsRemoving}
 use Rattle.blk_kept.specs.RemovalLaws.{IsRemovalDone, chains_without}
@@ -49,7 +57,7 @@ use Rattle.blk_kept.proofs.Links.{next-sealed, table-sealed}
 use Rattle.blk_kept.proofs.PlainRemovals.{removing-doomed}
 use Rattle.blk_kept.proofs.WordStops.{dooms-find}
 use Rattle.blk_kept_calls.proofs.Lists.{listed-amid}
-use Rattle.blk_object.specs.Removing.{GoingOutFindsEither, GoingOutIsRemoving, IsBeingUnlinked, IsTakenOut, IsYetLinked, LiesBehind, ListedItemsMayGoOut, TakenOutItemsAreRemoved}
+use Rattle.blk_object.specs.Removing.{GoingOutFindsEither, GoingOutIsRemoving, TakenOutItemsLeaveCounters, IsBeingUnlinked, IsTakenOut, IsYetLinked, LiesBehind, ListedItemsMayGoOut, TakenOutItemsAreRemoved}
 use Rattle.blk_object.proofs.ChainsOut.{among-front, can-go, goes-out, leaves-files as out-leaves, yet-in}
 
 -- ---- a removal from the list
@@ -61,6 +69,32 @@ removal-leaves from between node done =
     let outside : SameOutside (touch_range writes node) from between = outside_wider (touched_by_writes writes) (touch_range writes node) from between (within_left (touched_by_writes writes) (record_range node)) done.partly.outside in
     leaves-files (touch_range writes node) from between (touch_spares writes node) (touch_sizes writes node) outside
     (record { crash = counter-same writes node from between outside 32 (omega arith); id = counter-same writes node from between outside 20 (omega arith) }) done.partly.well_formed
+
+-- and the counters
+removal-counters : (from between : Image) (node : ℕ) → IsRemovalDone from node between → SameCounters from between
+removal-counters from between node done =
+    let writes : List ListWrite = writes_of remove node (list_of from) in
+    let outside : SameOutside (touch_range writes node) from between = outside_wider (touched_by_writes writes) (touch_range writes node) from between (within_left (touched_by_writes writes) (record_range node)) done.partly.outside in
+    record { sizes = counter-same writes node from between outside 268 (omega arith); num_entries = counter-same writes node from between outside 8 (omega arith); num_bytes = counter-same writes node from between outside 12 (omega arith) }
+
+-- so does a word of the table
+table-word : (b p : ℕ) (from image : Image) → p + 4 ≤ header_length → SameOutside (one_word Index (place_of_bucket b)) from image → word image Index p ≡ word from Index p
+table-word b p from image low same = same_word_outside (one_word Index (place_of_bucket b)) from image Index p same (λ i above below. beside i (omega (arith, below, low))) where
+  beside : (i : ℕ) → i < header_length → (nat_le (place_of_bucket b) i && nat_lt i (place_of_bucket b + 4)) ≡ false
+  beside i small = grind (arith, nat_tests)
+
+-- and an unlinking
+unlinking-counters : (between image : Image) (entry : ℕ) (before : Option ℕ) → IsUnlinked between entry before image → SameCounters between image
+unlinking-counters between image entry None u =
+    let b = bucket_at between entry in
+    record { sizes = table-word b 268 between image (lit≤ tt) u.keeps.outside; num_entries = table-word b 8 between image (lit≤ tt) u.keeps.outside; num_bytes = table-word b 12 between image (lit≤ tt) u.keeps.outside }
+unlinking-counters between image entry (Some v) u = updates-leave between image v u.keeps.outside
+
+pub counters-left : TakenOutItemsLeaveCounters
+counters-left node entry before from image t =
+    let one = removal-counters from t.between node t.unlisted in
+    let other = unlinking-counters t.between image entry before t.unlinked in
+    record { sizes = other.sizes ∙ one.sizes; num_entries = other.num_entries ∙ one.num_entries; num_bytes = other.num_bytes ∙ one.num_bytes }
 
 -- the bucket of its record is that of its key
 pub bucket-is : (layout : Layout) (node its : ℕ) (was : Loaded) (from between : Image) → load (store_of from) (rule_of layout its) its ≡ Ok was → IsRemovalDone from node between → bucket_at between was.contents ≡ bucket_of_key was.key

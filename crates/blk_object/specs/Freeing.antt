@@ -2,7 +2,7 @@
 use Rattle.std.specs.Prelude.{◌≡◌, ◌≢◌, ◌⊎◌, ℕ, List, [], ◌∷◌, ◌++◌, Bool, IfSome, Option, Some, true}
 use Rattle.std.specs.List.{filter_map}
 use Rattle.blk_image.specs.Footprint.{SameOutside, whole}
-use Rattle.blk_image.specs.Image.{External, Image}
+use Rattle.blk_image.specs.Image.{External, Image, Index, byte}
 use Rattle.blk_model.specs.Effects.{doomed}
 use Rattle.blk_model.specs.Holding.{rest}
 use Rattle.blk_model.specs.Items.{Item}
@@ -12,7 +12,7 @@ use Rattle.blk_format.specs.Growth.{StaysWhole}
 use Rattle.blk_volume.specs.Layout.{Layout}
 use Rattle.blk_disk.specs.declared.tables.BlockFiles.{BlockFiles}
 use Rattle.blk_disk.specs.Tables.{stands_among}
-use Rattle.blk_kept.specs.Changes.{Finds, KeepsWith, RemovesAllocation, RemovesExternal, StillFinds}
+use Rattle.blk_kept.specs.Changes.{Finds, KeepsWith, RemovesAllocation, RemovesExternal, SameCounters, StillFinds}
 use Rattle.blk_kept.specs.Keeping.{KeepsUncounted}
 use Rattle.blk_kept.specs.PartlyOut.{KeepsPartlyOut}
 use Rattle.blk_kept.specs.PartlyOutStops.{LeavesOtherKeys}
@@ -38,9 +38,10 @@ pub record AreFreeable (words : List ℕ) (from : Image) : Type 0 where
 
 -- What is done.
 
--- the place of a word is freed: the allocation of its blocks is removed, or its external file is
-abbrev pub RemovesPlace : ℕ → Image → Image → Type 0
-RemovesPlace w from image = RemovesAllocation from w image ⊎ RemovesExternal from w image
+-- the place of a word is freed: the allocation of its blocks is removed, or its external file is; and the index is as it was
+pub record RemovesPlace (w : ℕ) (from image : Image) : Type 0 where
+  pub removed : RemovesAllocation from w image ⊎ RemovesExternal from w image
+  pub index : (i : ℕ) → byte image Index i ≡ byte from Index i
 
 -- those of some words are freed, one after another
 abbrev pub Removes : List ℕ → Image → Image → Type 0
@@ -81,6 +82,10 @@ FreedWordsAreGone = (words : List ℕ) (from image : Image) → Removes words fr
 abbrev pub FreedWordsAreGonePartlyOut : Type 0
 FreedWordsAreGonePartlyOut = (state : State) (layout : Layout) (keep : Item → Bool) (chains : ℕ → List ℕ) (words unlinked : List ℕ) (from image : Image) → Removes words from image
     → KeepsPartlyOut state layout keep chains (words ++ unlinked) from → KeepsPartlyOut state layout keep chains unlinked image
+
+-- and the counters of the index are as they were
+abbrev pub FreedWordsLeaveCounters : Type 0
+FreedWordsLeaveCounters = (words : List ℕ) (from image : Image) → Removes words from image → SameCounters from image
 
 -- at each word what was at rest is found
 abbrev pub GoingWordsFindTheSame : Type 0

@@ -13,7 +13,7 @@ use Rattle.blk_volume.specs.Loads.{Loaded}
 use Rattle.blk_volume.specs.Searches.{bucket_of_key}
 use Rattle.blk_volume.specs.View.{list_of}
 use Rattle.blk_chain.specs.Unlinking.{BeforeChecks, CanBeUnlinked, IsSealedAgain, IsStillLinked, IsUnlinked, StandsBehind}
-use Rattle.blk_kept.specs.Changes.{Finds}
+use Rattle.blk_kept.specs.Changes.{Finds, SameCounters}
 use Rattle.blk_kept.specs.Keeping.{KeepsUncounted}
 use Rattle.blk_kept.specs.PlainRemovals.{IsRemoved, IsRemoving}
 use Rattle.blk_kept.specs.RemovalLaws.{IsRemovalDone, chains_without}
@@ -69,6 +69,10 @@ ListedItemsMayGoOut = (state : State) (layout : Layout) (unlinked : List ℕ) (i
 abbrev pub TakenOutItemsAreRemoved : Type 0
 TakenOutItemsAreRemoved = (state : State) (layout : Layout) (unlinked : List ℕ) (item : Item) (was : Loaded) (before : Option ℕ) (from image : Image) → KeepsUncounted state layout unlinked from → LiesBehind state layout item was before
     → IsTakenOut (layout.place item) was.contents before from image → IsRemoved layout item was from image
+
+-- and the counters of the index are as they were
+abbrev pub TakenOutItemsLeaveCounters : Type 0
+TakenOutItemsLeaveCounters = (node entry : ℕ) (before : Option ℕ) (from image : Image) → IsTakenOut node entry before from image → SameCounters from image
 
 -- an image is at a word of the removal of an item, with its record in its chain yet, or out of it
 abbrev pub IsMidRemoving : Layout → Item → Loaded → Image → Image → Type 0

@@ -1,6 +1,7 @@
-use Rattle.std.proofs.Common.{◌≡◌, inr, subst, sym, ◌∙◌, true}
+use Rattle.std.proofs.Common.{◌≡◌, inr, refl, subst, sym, ◌∙◌, true}
 use Rattle.std.proofs.lemmas.Result.{on_ok_weaker}
-use Rattle.blk_image.proofs.Runs.{passes_weaker, some_inj}
+use Rattle.blk_image.proofs.Runs.{passes_end, passes_weaker, some_inj}
+use Rattle.blk_image.specs.Image.{Index}
 use Rattle.blk_format.specs.Address.{external_number}
 use Rattle.blk_format.specs.BlockFiles.{stands_in, IsWellFormed}
 use Rattle.blk_io.proofs.Carried.{silent_part}
@@ -11,8 +12,8 @@ use Rattle.blk_object.proofs.freeing.delete_file.Goals as goal
 pub returns-clause-freed : goal.returns-clause-freed
 returns-clause-freed g c =
     on_ok_weaker c.delete.result
-    (λ none from there formed stands image now. inr (deletions-remove c.args.place (g.F.Folder.told c.args.f.now) (g.F.Folder.told c.delete.new.f) c.requires.kind
-    (λ other is. subst IsWellFormed (some_inj (sym there ∙ is)) formed) (λ other is. subst (λ i. stands_in i c.args.place ≡ true) (some_inj (sym there ∙ is)) stands) c.delete.ensures.stops none from there image now))
+    (λ none from there formed stands image now. record { removed = inr (deletions-remove c.args.place (g.F.Folder.told c.args.f.now) (g.F.Folder.told c.delete.new.f) c.requires.kind
+    (λ other is. subst IsWellFormed (some_inj (sym there ∙ is)) formed) (λ other is. subst (λ i. stands_in i c.args.place ≡ true) (some_inj (sym there ∙ is)) stands) c.delete.ensures.stops none from there image now); index = λ i. (passes_end (c.delete.ensures.stops from there) image now).outside.bytes Index i refl })
     c.delete.ensures.file
 
 pub returns-clause-stops : goal.returns-clause-stops

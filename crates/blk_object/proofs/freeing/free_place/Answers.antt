@@ -1,5 +1,6 @@
-use Rattle.std.proofs.Common.{◌≢◌, inl, sym, ◌∙◌}
+use Rattle.std.proofs.Common.{◌≢◌, inl, refl, sym, ◌∙◌}
 use Rattle.std.proofs.lemmas.Result.{on_ok_weaker}
+use Rattle.blk_image.specs.Image.{Index}
 use Rattle.blk_image.proofs.Runs.{passes_weaker}
 use Rattle.blk_format.specs.Address.{external, kind_of}
 use Rattle.blk_entry.proofs.KeyPlaces.{of_other}
@@ -10,7 +11,7 @@ pub returns-else-is_external-clause-freed : goal.returns-else-is_external-clause
 returns-else-is_external-clause-freed g c =
     let blocky : kind_of c.args.place ≢ external = of_other (kind_of c.args.place) external (sym c.is_external.ensures ∙ c.if-is_external.false) in
     on_ok_weaker c.free.result
-    (λ freed from there formed stands image now. inl (frees-remove c.args.files.now c.args.place (g.F.Folder.told c.args.f.now) (g.F.Folder.told c.free.new.f) (c.requires.stands blocky) c.free.ensures.stops freed from there image now))
+    (λ freed from there formed stands image now. record { removed = inl (frees-remove c.args.files.now c.args.place (g.F.Folder.told c.args.f.now) (g.F.Folder.told c.free.new.f) (c.requires.stands blocky) c.free.ensures.stops freed from there image now); index = λ i. (freed from there image now).same.bytes Index i refl })
     c.free.ensures.freed
 
 pub returns-else-is_external-clause-stops : goal.returns-else-is_external-clause-stops
