@@ -3,12 +3,25 @@ use Rattle.std.proofs.Common.{◌≡◌, inl, Option, ℕ, ◌+◌, ◌<◌, ◌
 use Rattle.std.specs.Option.{ForSome}
 use Rattle.std.proofs.lemmas.List.{append-nil, drop_all, drop_more, take_more}
 use Rattle.std.proofs.lemmas.List.Elements.{filter_map-append}
-use Rattle.blk_image.specs.Image.{Image}
+use Rattle.blk_image.specs.Image.{Image, Index, length_of}
+use Rattle.blk_format.specs.Headers.{HasWholeIndex}
+use Rattle.blk_io.proofs.Carried.{told_at_end}
+use Rattle.blk_disk.specs.declared.tables.BlockFiles.{BlockFiles}
+use Rattle.blk_disk.specs.Open.{IsOpen}
+use Rattle.blk_disk.specs.Tables.{Agrees}
 use Rattle.blk_image.specs.Told.{Passes, Told}
 use Rattle.blk_image.proofs.Runs.{passes_none, passes_then, passes_weaker, some_inj}
 use Rattle.blk_stream.proofs.Joined.{IsTold, told_then}
 use Rattle.blk_object.specs.Freeing.{AreFreeable, AreGoing, IsNextGoing, Removes, words_at}
 use Rattle.blk_object.proofs.FreedPlaces.{all-freed, all-may, front-may, none-going}
+
+-- a call that leaves the length of the index, and what is kept of the block files, leaves the folder open
+pub still-open : (files : BlockFiles) (a b : Told) (P : Image → Image → Type 0) → ((from image : Image) → P from image → length_of image Index ≡ length_of from Index) → ForSome a.files (λ from. ForSome b.files (P from)) → (a.files ≡ None → b.files ≡ None)
+    → ForSome b.files (Agrees files) → ForSome a.files (IsOpen files) → ForSome b.files (IsOpen files)
+still-open files a b P same ends silent agrees opens image there = record {
+  agrees = agrees image there;
+  whole_index = told_at_end a.files b.files HasWholeIndex silent (λ from here now is. same from now (ends from here now is) ∙ (opens from here).whole_index) image there;
+}
 
 -- some of the words are freed, and the others may be
 pub record HasFreed (a t : Told) (words done left : List ℕ) : Type 0 where

@@ -8,6 +8,7 @@ ghost use Rattle.blk_volume.specs.Found.{charge_of};
 ghost use Rattle.blk_volume.specs.Loads.{Loaded};
 ghost use Rattle.blk_volume.specs.Sound.{words_of};
 ghost use Rattle.blk_io.specs.Faults.{IfDamaged, IfDevice};
+ghost use Rattle.blk_disk.specs.Open.{IsOpen};
 ghost use Rattle.blk_disk.specs.Tables.{Agrees, stands_among};
 ghost use Rattle.blk_object.specs.Freeing.{AreFreeable, AreGoing, IsPlaceAmong, Removes, words_at};
 ghost use Rattle.blk_object.specs.Owning.{LoadsWith, is_there};
@@ -64,13 +65,13 @@ pub fn read_owned<F: Folder>(f: &mut F, files: &BlockFiles, entry: Addr) -> Resu
 /// Frees the places of an entry that is gone, in their order.
 pub fn free_owned<F: Folder>(f: &mut F, files: &BlockFiles, owned: &Owned) -> Result<(), Fault>
     requires stand { All (IsPlaceAmong files.now) owned.now.places }
-    requires agrees { ForSome (F.told f.old).files (Agrees files.now) }
+    requires is_open { ForSome (F.told f.old).files (IsOpen files.now) }
 
     // Places that are nobody's are freed. At each word those of a front are, and the next one is on its way.
     ensures freed { OnOk result (ForSome (F.told f.old).files (λ from. AreFreeable (words_at owned.now.places) from → ForSome (F.told f.new).files (Removes (words_at owned.now.places) from))) }
     ensures stops { ForSome (F.told f.old).files (λ from. AreFreeable (words_at owned.now.places) from → Passes (F.told f.old) (F.told f.new) (AreGoing (words_at owned.now.places) from)) }
 
-    ensures agrees { ForSome (F.told f.new).files (Agrees files.now) }
+    ensures is_open { ForSome (F.told f.new).files (IsOpen files.now) }
 
     // A folder that tells its files gives a damage only for a place that is somebody's.
     ensures untold { ForSome (F.told f.old).files (AreFreeable (words_at owned.now.places)) → IfDamaged result (λ _. (F.told f.old).files ≡ None) }

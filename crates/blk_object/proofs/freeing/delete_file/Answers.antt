@@ -7,6 +7,10 @@ use Rattle.blk_format.specs.BlockFiles.{stands_in, IsWellFormed}
 use Rattle.blk_io.proofs.Carried.{silent_part}
 use Rattle.blk_kept_calls.proofs.ExternalFiles.{deletions-remove}
 use Rattle.blk_stream.proofs.PlacesFreed.{agrees_deleted}
+use Rattle.blk_image.specs.Footprint.{whole}
+use Rattle.blk_external.specs.Changes.{ChangesExternal}
+use Rattle.blk_external.specs.Numbers.{named_file}
+use Rattle.blk_object.proofs.FreeingRuns.{still-open}
 use Rattle.blk_object.proofs.freeing.delete_file.Goals as goal
 
 pub returns-clause-freed : goal.returns-clause-freed
@@ -19,8 +23,11 @@ returns-clause-freed g c =
 pub returns-clause-stops : goal.returns-clause-stops
 returns-clause-stops g c from there = passes_weaker (c.delete.ensures.stops from there) (λ image h. inr (c.requires.kind, h.outside)) (λ image h. inr (c.requires.kind, h.outside))
 
-pub returns-clause-agrees : goal.returns-clause-agrees
-returns-clause-agrees g c = agrees_deleted c.args.files.now (g.F.Folder.told c.args.f.now) (g.F.Folder.told c.delete.new.f) (external_number c.args.place) c.delete.ensures.prefix c.requires.agrees
+pub returns-clause-is_open : goal.returns-clause-is_open
+returns-clause-is_open g c =
+    still-open c.args.files.now (g.F.Folder.told c.args.f.now) (g.F.Folder.told c.delete.new.f) (ChangesExternal (whole (named_file c.args.place)) (external_number c.args.place)) (λ from image h. h.outside.lengths Index refl)
+    (λ from there. passes_end (c.delete.ensures.stops from there)) (silent_part c.delete.ensures.prefix)
+    (agrees_deleted c.args.files.now (g.F.Folder.told c.args.f.now) (g.F.Folder.told c.delete.new.f) (external_number c.args.place) c.delete.ensures.prefix (λ from there. (c.requires.is_open from there).agrees)) c.requires.is_open
 
 pub returns-clause-silent : goal.returns-clause-silent
 returns-clause-silent g c none = silent_part c.delete.ensures.prefix none

@@ -1,10 +1,13 @@
 use Rattle.std.proofs.Common.{◌≢◌, inl, refl, sym, ◌∙◌}
 use Rattle.std.proofs.lemmas.Result.{on_ok_weaker}
 use Rattle.blk_image.specs.Image.{Index}
-use Rattle.blk_image.proofs.Runs.{passes_weaker}
+use Rattle.blk_image.proofs.Runs.{passes_end, passes_weaker}
 use Rattle.blk_format.specs.Address.{external, kind_of}
 use Rattle.blk_entry.proofs.KeyPlaces.{of_other}
 use Rattle.blk_kept_calls.proofs.Freeing.{frees-remove, frees-stay}
+use Rattle.blk_alloc.specs.Owning.{FreesOrStops}
+use Rattle.blk_stream.proofs.PlacesFreed.{freed_only}
+use Rattle.blk_object.proofs.FreeingRuns.{still-open}
 use Rattle.blk_object.proofs.freeing.free_place.Goals as goal
 
 pub returns-else-is_external-clause-freed : goal.returns-else-is_external-clause-freed
@@ -21,3 +24,11 @@ returns-else-is_external-clause-stops g c from there =
 pub returns-else-is_external-clause-untold : goal.returns-else-is_external-clause-untold
 returns-else-is_external-clause-untold g c may =
     c.free.ensures.untold (λ image there. may image there (of_other (kind_of c.args.place) external (sym c.is_external.ensures ∙ c.if-is_external.false)))
+
+pub free-requires-clause-agrees : goal.free-requires-clause-agrees
+free-requires-clause-agrees g c from there = (c.requires.is_open from there).agrees
+
+pub returns-else-is_external-clause-is_open : goal.returns-else-is_external-clause-is_open
+returns-else-is_external-clause-is_open g c =
+    still-open c.args.files.now (g.F.Folder.told c.args.f.now) (g.F.Folder.told c.free.new.f) (FreesOrStops c.args.place) (λ from image h. (freed_only c.args.place from image h).lengths Index refl)
+    (λ from there. passes_end (c.free.ensures.stops from there)) c.free.ensures.silent c.free.ensures.agrees c.requires.is_open

@@ -6,7 +6,7 @@ use Rattle.blk_object.specs.Freeing.{words_at}
 use Rattle.blk_object.proofs.freeing.free_places.Goals as goal
 
 pub loop-place-init : goal.loop-place-init
-loop-place-init g c = record { has = places-begun (g.F.Folder.told c.args.f.now) c.args.places.now; agrees = c.requires.agrees; later = omega arith }
+loop-place-init g c = record { has = places-begun (g.F.Folder.told c.args.f.now) c.args.places.now; is_open = c.requires.is_open; later = omega arith }
 
 pub returns-in_err-free_if_any-clause-stops : goal.returns-in_err-free_if_any-clause-stops
 returns-in_err-free_if_any-clause-stops g c from there may =
@@ -27,7 +27,7 @@ loop-place-preserved g c = record {
       (next-freed (g.F.Folder.told c.args.f.now) (g.F.Folder.told c.loop-place.f) (g.F.Folder.told c.free_if_any.new.f) (words_at c.args.places.now) (words_at (take c.loop-place.place-index c.args.places.now)) (words_at (c.place-item.result ∷ [])) (words_at (drop (c.loop-place.place-index + 1) c.args.places.now))
       (place-next c.args.places.now c.loop-place.place-index c.place-item.result c.loop-place-test.true c.place-item.is (g.F.Folder.told c.args.f.now) (g.F.Folder.told c.loop-place.f) c.loop-place.invariant.has)
       c.in_ok-free_if_any.ensures.freed c.in_ok-free_if_any.ensures.stops c.in_ok-free_if_any.ensures.silent c.in_ok-free_if_any.ensures.back);
-  agrees = c.in_ok-free_if_any.ensures.agrees;
+  is_open = c.in_ok-free_if_any.ensures.is_open;
   later = (let one = c.loop-place.invariant.later in let other = c.in_ok-free_if_any.ensures.later in omega (arith, one, other));
 }
 
