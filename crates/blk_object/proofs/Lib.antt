@@ -6,3 +6,5 @@ pub mod FreeingRuns
 pub mod OwnedPlaces
 pub mod RemovingCounts
 pub mod OwnedCharges
+pub mod PlainObjects
+pub mod RemovedObjects

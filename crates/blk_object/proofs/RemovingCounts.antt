@@ -1,12 +1,12 @@
 -- The counters of the index are written, and count one entry less.
-use Rattle.std.proofs.Common.{◌≡◌, ℕ, ◌+◌, ◌%◌, ◌<◌, ◌≤◌, List, [], ◌∷◌, ◌++◌, refl, ap, sym, ◌∙◌, subst, arith, lit≤, true, Some}
+use Rattle.std.proofs.Common.{◌≡◌, ℕ, ◌+◌, ◌%◌, ◌<◌, ◌≤◌, List, [], ◌∷◌, refl, sym, ◌∙◌, subst, arith, lit≤}
 use Rattle.std.specs.Prelude.{◌^◌, ◌-◌, length}
 use Rattle.std.specs.Option.{ForSome}
-use Rattle.blk_image.specs.Footprint.{SameOutside, one_word}
-use Rattle.blk_image.specs.Image.{AreBytes, Image, Index, byte, length_of}
+use Rattle.blk_image.specs.Footprint.{one_word}
+use Rattle.blk_image.specs.Image.{AreBytes, Image, Index}
 use Rattle.blk_image.proofs.ByteSteps.{word-small}
 use Rattle.blk_image.specs.Bytes.{word_bytes}
-use Rattle.blk_image.specs.Steps.{TrailStep, Word, after, applied, word_step, word_steps}
+use Rattle.blk_image.specs.Steps.{TrailStep, after, word_step, word_steps}
 use Rattle.blk_image.specs.Told.{Along, Applies, AppliesPrefix, IsQuiet, Passes, Told}
 use Rattle.blk_image.proofs.Images.{length-after_write}
 use Rattle.blk_image.proofs.Runs.{passes_part, some_inj, told_part, told_whole}
@@ -117,15 +117,15 @@ counted-less counts charge from image are bytes c set =
     let b : counts.bytes < 2 ^ 32 = subst (λ (x : ℕ). x < 2 ^ 32) (sym are.bytes) (word-small from Index 12 bytes) in
     let s : counts.size < 2 ^ 32 = subst (λ (x : ℕ). x < 2 ^ 32) (sym are.size) (word-small from Index 268 bytes) in
     record {
-  entries = (counts.entries + (2 ^ 32 - 1)) % 2 ^ 32;
-  bytes = (counts.bytes + (2 ^ 32 - charge)) % 2 ^ 32;
-  size = (counts.size + (2 ^ 32 - 1)) % 2 ^ 32;
-  small = (below-word (counts.entries + (2 ^ 32 - 1)), (below-word (counts.bytes + (2 ^ 32 - charge)), below-word (counts.size + (2 ^ 32 - 1))));
-  entries_less = less-and-more counts.entries 1 e (omega arith) ∙ are.entries;
-  bytes_less = less-and-more counts.bytes charge b c ∙ are.bytes;
-  size_less = less-and-more counts.size 1 s (omega arith) ∙ are.size;
-  set = set;
-}
+      entries = (counts.entries + (2 ^ 32 - 1)) % 2 ^ 32;
+      bytes = (counts.bytes + (2 ^ 32 - charge)) % 2 ^ 32;
+      size = (counts.size + (2 ^ 32 - 1)) % 2 ^ 32;
+      small = (below-word (counts.entries + (2 ^ 32 - 1)), (below-word (counts.bytes + (2 ^ 32 - charge)), below-word (counts.size + (2 ^ 32 - 1))));
+      entries_less = less-and-more counts.entries 1 e (omega arith) ∙ are.entries;
+      bytes_less = less-and-more counts.bytes charge b c ∙ are.bytes;
+      size_less = less-and-more counts.size 1 s (omega arith) ∙ are.size;
+      set = set;
+    }
 
 one-less : (x n m : ℕ) → x < 2 ^ 32 → (x + 1) % 2 ^ 32 ≡ n → m + 1 ≡ n → x ≡ m
 one-less x n m small is less = omega (arith, small, is, less)

@@ -3,3 +3,4 @@ pub mod Removing
 pub mod Freeing
 pub mod Owning
 pub mod RemovingCounts
+pub mod RemovingObjects
