@@ -8,3 +8,5 @@ pub mod RemovingCounts
 pub mod OwnedCharges
 pub mod PlainObjects
 pub mod RemovedObjects
+pub mod OneMoreTaken
+pub mod TakenParts

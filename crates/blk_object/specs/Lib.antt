@@ -4,3 +4,4 @@ pub mod Freeing
 pub mod Owning
 pub mod RemovingCounts
 pub mod RemovingObjects
+pub mod RemovingParts
