@@ -10,3 +10,4 @@ pub mod PlainObjects
 pub mod RemovedObjects
 pub mod OneMoreTaken
 pub mod TakenParts
+pub mod FoundEntries

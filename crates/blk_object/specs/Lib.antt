@@ -5,3 +5,4 @@ pub mod Owning
 pub mod RemovingCounts
 pub mod RemovingObjects
 pub mod RemovingParts
+pub mod RemovingFound

@@ -1,5 +1,6 @@
 // What items that are taken out are to the state that was kept: laws, each the contract of a function with an empty body.
 ghost use Rattle.blk_object.specs.RemovingCounts.{LessIsCounted};
+ghost use Rattle.blk_object.specs.RemovingFound.{FoundEntriesLieBehind, KeptStatesCanBeSearched};
 ghost use Rattle.blk_object.specs.RemovingParts.{GoingPartsFindDoomed, LeftItemsMayGoOut, TakenOutItemsAreOut, UnlinkedItemsFindDoomed};
 ghost use Rattle.blk_object.specs.Removing.{GoingOutFindsEither, GoingOutIsRemoving, ListedItemsMayGoOut, TakenOutItemsAreRemoved, TakenOutItemsLeaveCounters};
 
@@ -23,4 +24,10 @@ pub fn taken_parts_are_out()
     ensures out { TakenOutItemsAreOut }
     ensures unlinked { UnlinkedItemsFindDoomed }
     ensures find { GoingPartsFindDoomed }
+{}
+
+/// Where a state is kept each chain can be searched, as `find` asks; and a record that is found by a key, and is no child, is that of the main item of the key, and stands in its chain as a removal asks.
+pub fn found_entries_may_go_out()
+    ensures searched { KeptStatesCanBeSearched }
+    ensures lies { FoundEntriesLieBehind }
 {}
