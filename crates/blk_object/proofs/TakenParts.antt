@@ -1,5 +1,5 @@
 -- Items that are taken out while others of their object are out already.
-use Rattle.std.proofs.Common.{◌≡◌, ◌⊎◌, inl, inr, ⊎_elim, ℕ, ◌<◌, List, ◌∷◌, refl, ap, sym, ◌∙◌, subst, lit<, Bool, true, false, None, Option, Some, Ok}
+use Rattle.std.proofs.Common.{◌≡◌, ◌⊎◌, inl, inr, ⊎_elim, ℕ, ◌<◌, List, [], ◌∷◌, refl, ap, sym, ◌∙◌, subst, lit<, Bool, true, false, None, Option, Some, Ok}
 use Rattle.std.specs.Prelude.{◌==◌, ◌&&◌}
 use Rattle.std.specs.List.{flat_map}
 use Rattle.std.proofs.lemmas.Bool.{cases_Bool, eq-eqb, eqb-true, or_left}
@@ -10,7 +10,7 @@ use Rattle.blk_image.proofs.Runs.{some_inj}
 use Rattle.blk_model.specs.Effects.{doomed}
 use Rattle.blk_model.specs.Holding.{rest}
 use Rattle.blk_model.specs.Items.{Item, part}
-use Rattle.blk_model.specs.State.{State}
+use Rattle.blk_model.specs.State.{Object, State}
 use Rattle.blk_format.specs.Address.{blocks_256, kind_of, rankings}
 use Rattle.blk_format.specs.BlockFiles.{is_among}
 use Rattle.blk_format.specs.Claims.{Claim, claims_of, has_claim}
@@ -43,9 +43,21 @@ use Rattle.blk_kept.proofs.Groups as groups
 use Rattle.blk_kept.proofs.Headers.{stands-same}
 use Rattle.blk_kept.proofs.Links.{table-sealed}
 use Rattle.blk_kept.proofs.NextOut as next
+use Rattle.blk_kept.proofs.PartlyOut.{kept-begin}
+use Rattle.blk_kept.proofs.PlainRemovals.{part-gone-without, removing-part}
+use Rattle.blk_kept.proofs.Removals.{removals-find}
+use Rattle.blk_kept.proofs.WordStops.{dooms-find}
+use Rattle.blk_kept.specs.CommandEnds.{without_part}
+use Rattle.blk_kept.specs.RemovalLaws.{IsWithout}
+use Rattle.blk_model.specs.Items.{main, same_item}
+use Rattle.blk_model.specs.Room.{single, without}
+use Rattle.blk_volume.specs.Removal.{without_items}
+use Rattle.std.specs.Prelude.{if◌then◌else◌, nat_lt, not, slice_set}
+use Rattle.blk_object.specs.Removing.{IsMidRemoving}
+use Rattle.blk_object.proofs.TakenItems.{going-removing}
 use Rattle.blk_kept.proofs.PartlyOutStops.{next-parts-find, own-items-leave, unlinking-items-find}
 use Rattle.blk_object.specs.Removing.{IsYetLinked}
-use Rattle.blk_object.specs.RemovingParts.{GoingPartsFindDoomed, LeftItemsMayGoOut, LiesLeft, TakenOutItemsAreOut, UnlinkedItemsFindDoomed}
+use Rattle.blk_object.specs.RemovingParts.{GoingLonePartsFindEither, GoingMainsFindEither, GoingPartsFindDoomed, LeftItemsMayGoOut, LiesLeft, TakenOutItemsAreOut, UnlinkedItemsFindDoomed}
 use Rattle.blk_object.proofs.ChainsOut.{among-front, can-go, goes-out, leaves-files, yet-in}
 use Rattle.blk_object.proofs.OneMoreTaken.{one-more-out, out-finds}
 use Rattle.blk_object.proofs.TakenItems.{again-sealed, bucket-is, removal-leaves}
@@ -178,3 +190,31 @@ going-parts state layout keep chains unlinked n was before number object from im
     next-parts-find state layout number object keep chains unlinked n from image at others k left.lies.listed left.stays partly
 going-parts state layout keep chains unlinked n was before number object from image k left at others (inr m) =
     unlinked-find state layout keep chains unlinked (part object.key n) was before number object from image k left at ((own-items-leave object.key).1 keep n others) m
+
+either-of : (b : Bool) (state after : State) (image : Image) → Finds (if b then rest state else rest after) image → Finds (rest state) image ⊎ Finds (rest after) image
+either-of true state after image found = inl found
+either-of false state after image found = inr found
+
+pub going-mains : GoingMainsFindEither
+going-mains state layout unlinked was before number object from image k lies at live (inl partly) =
+    either-of (nat_lt partly.made 2) state (doomed number state (Some object)) image (dooms-find state layout unlinked from image number object k at live partly)
+going-mains state layout unlinked was before number object from image k lies at live (inr m) =
+    inr (unlinked-find state layout (λ i. true) layout.chains unlinked (main object.key) was before number object from image (kept-begin state layout unlinked from k)
+    (record { stays = refl; lies = record { listed = lies.listed; here = lies.here; prefix = lies.prefix; suffix = lies.suffix; stands = lies.stands } }) at (own-items-leave object.key).0 m)
+
+-- a part that goes alone leaves a state without it
+abbrev PartIsGone : State → Object → ℕ → ℕ → Type 0
+PartIsGone state object number n = IsWithout state (slice_set state.objects number (Some (without_part object n))) (λ item. not (same_item item (part object.key n))) (part object.key n)
+    × (without_items state (slice_set state.objects number (Some (without_part object n))) (λ item. not (same_item item (part object.key n))) ≡ without (single object.key n ∷ []) state)
+
+pub going-lone-parts : GoingLonePartsFindEither
+going-lone-parts state layout unlinked n was before number object from image k lies at live some going = by (going-removing state layout unlinked (part object.key n) was before from image k lies going) where
+  gone : PartIsGone state object number n
+  gone = part-gone-without state number n object k.valid at live some
+
+  by : IsMidRemoving layout (part object.key n) was from image → Finds (rest state) image ⊎ Finds (rest (without (single object.key n ∷ []) state)) image
+  by (inl partly) = either-of (nat_lt partly.made 2) state (without (single object.key n ∷ []) state) image
+      (subst (λ (m : State). Finds (if nat_lt partly.made 2 then rest state else rest m) image) gone.1
+      (removals-find state layout unlinked (slice_set state.objects number (Some (without_part object n))) (λ item. not (same_item item (part object.key n))) (part object.key n) was from image k gone.0 lies.here partly))
+  by (inr (inl r)) = inr ((removing-part state layout unlinked from image number n object was k at live some).0 r)
+  by (inr (inr r)) = inr ((removing-part state layout unlinked from image number n object was k at live some).1 r)

@@ -1,14 +1,16 @@
 -- Items of a sparse object are taken out one after another, and freed: what each is to what is kept in between.
-use Rattle.std.specs.Prelude.{◌≡◌, ℕ, List, ◌++◌, Bool, Option, Some, true}
+use Rattle.std.specs.Prelude.{◌≡◌, ◌⊎◌, ℕ, List, [], ◌∷◌, ◌++◌, Bool, Option, Some, is_some, true}
 use Rattle.blk_image.specs.Image.{Image}
 use Rattle.blk_model.specs.Effects.{doomed}
 use Rattle.blk_model.specs.Holding.{rest}
-use Rattle.blk_model.specs.Items.{Item, part}
-use Rattle.blk_model.specs.State.{Object, State, object_at}
+use Rattle.blk_model.specs.Items.{Item, main, part}
+use Rattle.blk_model.specs.Room.{single, without}
+use Rattle.blk_model.specs.State.{Object, State, object_at, part_at}
 use Rattle.blk_volume.specs.Layout.{Layout}
 use Rattle.blk_volume.specs.Loads.{Loaded}
 use Rattle.blk_volume.specs.Sound.{words_of}
 use Rattle.blk_kept.specs.Changes.{Finds}
+use Rattle.blk_kept.specs.Keeping.{KeepsUncounted}
 use Rattle.blk_kept.specs.PartlyOut.{KeepsPartlyOut, chains_but, keeps_but}
 use Rattle.blk_kept.specs.PartlyOutStops.{LeavesOtherKeys}
 use Rattle.blk_object.specs.Removing.{IsBeingUnlinked, IsGoingOut, IsTakenOut, LiesBehind, MayGoOut}
@@ -45,3 +47,13 @@ GoingPartsFindDoomed =
     (state : State) (layout : Layout) (keep : Item → Bool) (chains : ℕ → List ℕ) (unlinked : List ℕ) (n : ℕ) (was : Loaded) (before : Option ℕ) (number : ℕ) (object : Object) (from image : Image)
     → KeepsPartlyOut state layout keep chains unlinked from → LiesLeft state layout keep chains (part object.key n) was before → object_at state number ≡ Some object → LeavesOtherKeys object.key keep
     → IsGoingOut (layout.place (part object.key n)) was.contents before from image → Finds (rest (doomed number state (Some object))) image
+
+-- and where the main item of a live object goes out first, whatever parts and handles it has, what was at rest is found, or what is at rest with the object doomed
+abbrev pub GoingMainsFindEither : Type 0
+GoingMainsFindEither = (state : State) (layout : Layout) (unlinked : List ℕ) (was : Loaded) (before : Option ℕ) (number : ℕ) (object : Object) (from image : Image) → KeepsUncounted state layout unlinked from → LiesBehind state layout (main object.key) was before
+    → object_at state number ≡ Some object → object.live ≡ true → IsGoingOut (layout.place (main object.key)) was.contents before from image → Finds (rest state) image ⊎ Finds (rest (doomed number state (Some object))) image
+
+-- and where a part goes alone, what was at rest is found, or what is at rest without the part
+abbrev pub GoingLonePartsFindEither : Type 0
+GoingLonePartsFindEither = (state : State) (layout : Layout) (unlinked : List ℕ) (n : ℕ) (was : Loaded) (before : Option ℕ) (number : ℕ) (object : Object) (from image : Image) → KeepsUncounted state layout unlinked from → LiesBehind state layout (part object.key n) was before
+    → object_at state number ≡ Some object → object.live ≡ true → is_some (part_at object n) ≡ true → IsGoingOut (layout.place (part object.key n)) was.contents before from image → Finds (rest state) image ⊎ Finds (rest (without (single object.key n ∷ []) state)) image

@@ -17,7 +17,7 @@ use blk_io::{Failed, Fault, Folder};
 
 /// Frees places, one after another: of blocks the allocation, of an external file the file.
 ///
-/// For each place of blocks this takes at most eight folder calls, and for each external file one. A damage is one of
+/// For each place of blocks this takes seven folder calls at most, and for each external file one. A damage is one of
 /// a block file's header.
 pub fn free_places<F: Folder>(
     f: &mut F,

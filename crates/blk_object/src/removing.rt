@@ -17,7 +17,7 @@ use blk_lru::remove;
 /// Takes an item out: its node out of the use list, and then its record out of its chain, in which it stands behind
 /// the record before, or is the first.
 ///
-/// This takes at most 17 folder calls for the list, and then three for the first of a chain, or six for another record.
+/// This takes at most 17 folder calls for the list, and then three for the first of a chain, or five for another record.
 /// A damage is one of the removal from the list or of the unlinking.
 pub fn take_out<F: Folder>(
     f: &mut F,

@@ -1,7 +1,7 @@
 // What items that are taken out are to the state that was kept: laws, each the contract of a function with an empty body.
 ghost use Rattle.blk_object.specs.RemovingCounts.{LessIsCounted};
 ghost use Rattle.blk_object.specs.RemovingFound.{FoundEntriesLieBehind, KeptStatesCanBeSearched};
-ghost use Rattle.blk_object.specs.RemovingParts.{GoingPartsFindDoomed, LeftItemsMayGoOut, TakenOutItemsAreOut, UnlinkedItemsFindDoomed};
+ghost use Rattle.blk_object.specs.RemovingParts.{GoingLonePartsFindEither, GoingMainsFindEither, GoingPartsFindDoomed, LeftItemsMayGoOut, TakenOutItemsAreOut, UnlinkedItemsFindDoomed};
 ghost use Rattle.blk_object.specs.Removing.{GoingOutFindsEither, GoingOutIsRemoving, ListedItemsMayGoOut, TakenOutItemsAreRemoved, TakenOutItemsLeaveCounters};
 
 /// Where a state is kept a listed item may go out. Once it is taken out it is removed, and the counters of the index are as they were; at each word it is being removed, so for a plain object that no handle names what was at rest is found, or what is at rest with it doomed.
@@ -18,12 +18,14 @@ pub fn less_is_counted()
     ensures { LessIsCounted }
 {}
 
-/// Where some items of an object are out already, another one may go out. Once it is taken out, one item more is out; while its record is unlinked, and at each word of a part after its main item, what is at rest with the object doomed is found.
+/// Where some items of an object are out already, another one may go out. Once it is taken out, one item more is out; while its record is unlinked, and at each word of a part after its main item, what is at rest with the object doomed is found. So is it, or what was at rest, at each word of the main item, which goes first; and of a part that goes alone, what is at rest without it.
 pub fn taken_parts_are_out()
     ensures may { LeftItemsMayGoOut }
     ensures out { TakenOutItemsAreOut }
     ensures unlinked { UnlinkedItemsFindDoomed }
     ensures find { GoingPartsFindDoomed }
+    ensures first { GoingMainsFindEither }
+    ensures alone { GoingLonePartsFindEither }
 {}
 
 /// Where a state is kept each chain can be searched, as `find` asks; and a record that is found by a key, and is no child, is that of the main item of the key, and stands in its chain as a removal asks.

@@ -20,7 +20,7 @@ use blk_io::{Fault, Folder};
 /// freed, and the index counts one entry less, with its charge.
 ///
 /// Its record stands in its chain behind the record before, or is the first; and it names this node. This takes at most
-/// 24 folder calls until it is out, eight for each of its places, and six for the counters.
+/// 23 folder calls until it is out, seven for each of its places, and six for the counters.
 pub fn remove_object<F: Folder>(
     f: &mut F,
     files: &BlockFiles,
