@@ -16,6 +16,7 @@ use Rattle.blk_laws.proofs.claims.Owner.{its-key}
 use Rattle.blk_laws.proofs.commands.Touches.{in-times}
 use Rattle.blk_kept.specs.RemovalLaws.{IsWithout}
 use Rattle.blk_kept.proofs.ChangedStates.{unheld-go}
+use Rattle.blk_object.specs.RemovingObjects.{PlainObjectsGoAlone}
 
 -- an object without parts has no part
 no-part : (object : Object) (k : List ℕ) (m : ℕ) → object.parts ≡ [] → has_item object (part k m) ≡ true → ⊥
@@ -44,3 +45,6 @@ module _ (state : State) (number : ℕ) (object : Object) (valid : IsValidState 
   goes-whole unnamed = unheld-go state number object valid here live unnamed
       (λ m. ⊎_elim (λ (e : is_listed state (part object.key m) ≡ true). absurd (no-listed m e)) (λ (e : is_listed state (part object.key m) ≡ false). e) (cases_Bool (is_listed state (part object.key m))))
       (state_doomed state valid number object here live)
+
+pub plain-alone : PlainObjectsGoAlone
+plain-alone state number object valid here live none unnamed = goes-whole state number object valid here live none unnamed

@@ -16,7 +16,9 @@ pub use freeing_laws::freed_words_are_gone;
 pub use owning::{Owned, free_owned, read_owned};
 pub use owning_laws::entries_of_states_load;
 pub use removing::take_out;
+pub use removing_counts::count_less;
 pub use removing_laws::{
-    found_entries_may_go_out, less_is_counted, taken_items_are_removed, taken_parts_are_out,
+    found_entries_may_go_out, less_is_counted, plain_objects_go_alone, taken_items_are_removed,
+    taken_parts_are_out,
 };
-pub use removing_objects::remove_object;
+pub use removing_objects::remove_item;

@@ -22,7 +22,7 @@ struct Counts {
 }
 
 /// Counts one entry less, with a charge, in the counters of the index: three folder calls read them, and three write them.
-pub(crate) fn count_less<F: Folder>(f: &mut F, files: &BlockFiles, charge: u32) -> Result<(), Fault>
+pub fn count_less<F: Folder>(f: &mut F, files: &BlockFiles, charge: u32) -> Result<(), Fault>
     requires is_open { ForSome (F.told f.old).files (IsOpen files.now) }
     ensures counted { OnOk result (ForSome (F.told f.old).files (λ from. ForSome (F.told f.new).files (AreCountedLess charge from))) }
     ensures stops { ForSome (F.told f.old).files (λ from. Passes (F.told f.old) (F.told f.new) (KeepsWith [] [] from)) }
