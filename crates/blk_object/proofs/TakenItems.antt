@@ -1,6 +1,6 @@
 -- Items of a kept state that are taken out: each may be, and what they leave is a removal.
-use Rattle.std.proofs.Common.{◌≡◌, ◌≢◌, ◌⊎◌, inl, inr, ℕ, ◌<◌, List, [], ◌∷◌, refl, ap, sym, ◌∙◌, subst, arith, lit<, Bool, true, false, None, Option, Some, Ok}
-use Rattle.std.specs.Prelude.{◌+◌, ◌==◌, ◌%◌, ◌≤◌, nat_lt, if◌then◌else◌, take}
+use Rattle.std.proofs.Common.{◌≡◌, ◌≢◌, ◌⊎◌, inl, inr, ℕ, ◌<◌, List, [], ◌∷◌, refl, ap, sym, ◌∙◌, subst, arith, lit<, true, false, None, Option, Some, Ok}
+use Rattle.std.specs.Prelude.{◌+◌, ◌==◌, ◌%◌, ◌≤◌, nat_lt, take}
 use Rattle.std.proofs.lemmas.Bool.{eq-eqb, eqb-true}
 use Rattle.std.proofs.lemmas.List.{take_at}
 use Rattle.std.proofs.lemmas.List.Elements.{All-cons, All-nil}
@@ -10,8 +10,6 @@ use Rattle.blk_image.specs.Footprint.{SameOutside}
 use Rattle.blk_image.specs.Image.{AreBytes, Block, Image, byte}
 use Rattle.blk_image.proofs.Footprints.{outside_wider, within_left}
 use Rattle.blk_image.proofs.Words.{length-range}
-use Rattle.blk_model.specs.Effects.{doomed}
-use Rattle.blk_model.specs.Holding.{rest}
 use Rattle.blk_model.specs.Items.{Item}
 use Rattle.blk_model.specs.State.{State}
 use Rattle.blk_format.specs.Address.{blocks_256, file_selector, kind_of, place}
@@ -39,7 +37,7 @@ use Rattle.blk_laws.proofs.updates.Updates.{entry-seal}
 use Rattle.blk_laws.proofs.walks.Loads.{load-then}
 use Rattle.blk_chain.specs.Unlinking.{IsSealedAgain, IsUnlinked, StandsBehind, next_record}
 use Rattle.blk_kept.specs.Arranging.{LeavesFiles}
-use Rattle.blk_kept.specs.Changes.{Finds, SameCounters}
+use Rattle.blk_kept.specs.Changes.{SameCounters}
 use Rattle.blk_kept.proofs.AtNodes.{updates-leave}
 use Rattle.blk_image.specs.Footprint.{one_word}
 use Rattle.blk_image.specs.Image.{Index, word}
@@ -54,10 +52,8 @@ use Rattle.blk_kept.specs.RemovalLaws.{IsRemovalDone, chains_without}
 use Rattle.blk_kept.proofs.GoingOut.{chain-same}
 use Rattle.blk_kept.proofs.Leaving.{leaves-files}
 use Rattle.blk_kept.proofs.Links.{next-sealed, table-sealed}
-use Rattle.blk_kept.proofs.PlainRemovals.{removing-doomed}
-use Rattle.blk_kept.proofs.WordStops.{dooms-find}
 use Rattle.blk_kept_calls.proofs.Lists.{listed-amid}
-use Rattle.blk_object.specs.Removing.{GoingOutFindsEither, GoingOutIsRemoving, TakenOutItemsLeaveCounters, IsBeingUnlinked, IsTakenOut, IsYetLinked, LiesBehind, ListedItemsMayGoOut, TakenOutItemsAreRemoved}
+use Rattle.blk_object.specs.Removing.{GoingOutIsRemoving, TakenOutItemsLeaveCounters, IsBeingUnlinked, IsTakenOut, IsYetLinked, LiesBehind, ListedItemsMayGoOut, TakenOutItemsAreRemoved}
 use Rattle.blk_object.proofs.ChainsOut.{among-front, can-go, goes-out, leaves-files as out-leaves, yet-in}
 
 -- ---- a removal from the list
@@ -185,15 +181,3 @@ taken-removed state layout unlinked item was before from image k lies t = remove
 pub going-removing : GoingOutIsRemoving
 going-removing state layout unlinked item was before from image k lies (inl partly) = inl partly
 going-removing state layout unlinked item was before from image k lies (inr m) = inr (unlinking-is state layout unlinked item was before from k lies image m m.moment)
-
--- ---- what is found
-
-either-of : (b : Bool) (state then_state : State) (image : Image) → Finds (if b then rest state else rest then_state) image → Finds (rest state) image ⊎ Finds (rest then_state) image
-either-of true state then_state image found = inl found
-either-of false state then_state image found = inr found
-
-pub going-finds : GoingOutFindsEither
-going-finds state layout unlinked from image number object was k there live plain unnamed (inl partly) =
-    either-of (nat_lt partly.made 2) state (doomed number state (Some object)) image (dooms-find state layout unlinked from image number object k there live partly)
-going-finds state layout unlinked from image number object was k there live plain unnamed (inr (inl r)) = inr ((removing-doomed state layout unlinked from image number object was k there live plain unnamed).0 r)
-going-finds state layout unlinked from image number object was k there live plain unnamed (inr (inr r)) = inr ((removing-doomed state layout unlinked from image number object was k there live plain unnamed).1 r)

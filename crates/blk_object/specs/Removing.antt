@@ -1,10 +1,8 @@
 -- An object goes: the node of an item is taken out of the use list, and its record out of its chain.
-use Rattle.std.specs.Prelude.{◌≡◌, ◌⊎◌, ℕ, List, [], Option, None, Some, false, true}
+use Rattle.std.specs.Prelude.{◌≡◌, ◌⊎◌, ℕ, List, Option, None, Some, true}
 use Rattle.blk_image.specs.Image.{AreBytes, Image}
-use Rattle.blk_model.specs.Effects.{doomed}
-use Rattle.blk_model.specs.Holding.{rest}
-use Rattle.blk_model.specs.Items.{Item, main}
-use Rattle.blk_model.specs.State.{Object, State, is_named, object_at}
+use Rattle.blk_model.specs.Items.{Item}
+use Rattle.blk_model.specs.State.{State}
 use Rattle.blk_volume.specs.Completion.{remove}
 use Rattle.blk_volume.specs.Layout.{Layout, is_listed}
 use Rattle.blk_volume.specs.ListPlans.{writes_of}
@@ -13,7 +11,7 @@ use Rattle.blk_volume.specs.Loads.{Loaded}
 use Rattle.blk_volume.specs.Searches.{bucket_of_key}
 use Rattle.blk_volume.specs.View.{list_of}
 use Rattle.blk_chain.specs.Unlinking.{BeforeChecks, CanBeUnlinked, IsSealedAgain, IsStillLinked, IsUnlinked, StandsBehind}
-use Rattle.blk_kept.specs.Changes.{Finds, SameCounters}
+use Rattle.blk_kept.specs.Changes.{SameCounters}
 use Rattle.blk_kept.specs.Keeping.{KeepsUncounted}
 use Rattle.blk_kept.specs.PlainRemovals.{IsRemoved, IsRemoving}
 use Rattle.blk_kept.specs.RemovalLaws.{IsRemovalDone, chains_without}
@@ -82,8 +80,3 @@ IsMidRemoving layout item was from image = IsMidRemoval layout item from image �
 abbrev pub GoingOutIsRemoving : Type 0
 GoingOutIsRemoving = (state : State) (layout : Layout) (unlinked : List ℕ) (item : Item) (was : Loaded) (before : Option ℕ) (from image : Image) → KeepsUncounted state layout unlinked from → LiesBehind state layout item was before
     → IsGoingOut (layout.place item) was.contents before from image → IsMidRemoving layout item was from image
-
--- so while a plain object that no handle names goes out, what was at rest is found, or what is at rest with it doomed
-abbrev pub GoingOutFindsEither : Type 0
-GoingOutFindsEither = (state : State) (layout : Layout) (unlinked : List ℕ) (from image : Image) (number : ℕ) (object : Object) (was : Loaded) → KeepsUncounted state layout unlinked from → object_at state number ≡ Some object → object.live ≡ true → object.parts ≡ [] → is_named state number ≡ false
-    → IsMidRemoving layout (main object.key) was from image → Finds (rest state) image ⊎ Finds (rest (doomed number state (Some object))) image
