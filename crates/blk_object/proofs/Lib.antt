@@ -7,3 +7,16 @@ pub mod MakingWritten
 pub mod MakingMade
 pub mod MakingCreates
 pub mod MakingTimes
+pub mod TakingOut
+pub mod ChainsOut
+pub mod TakenItems
+pub mod FreedPlaces
+pub mod FreeingRuns
+pub mod OwnedPlaces
+pub mod RemovingCounts
+pub mod OwnedCharges
+pub mod PlainObjects
+pub mod RemovedObjects
+pub mod OneMoreTaken
+pub mod TakenParts
+pub mod FoundEntries
