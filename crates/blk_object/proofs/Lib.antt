@@ -1,7 +1,7 @@
 pub mod MakingRoom
 pub mod MakingTaken
 pub mod MakingPlaces
-pub mod MakingCounts
+pub mod CounterWords
 pub mod MakingListed
 pub mod MakingWritten
 pub mod MakingMade
@@ -13,7 +13,7 @@ pub mod TakenItems
 pub mod FreedPlaces
 pub mod FreeingRuns
 pub mod OwnedPlaces
-pub mod RemovingCounts
+pub mod CountedLess
 pub mod OwnedCharges
 pub mod PlainObjects
 pub mod RemovedObjects

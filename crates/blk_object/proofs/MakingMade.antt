@@ -25,9 +25,10 @@ use Rattle.blk_kept.proofs.Counters.{counters-count}
 use Rattle.blk_kept.proofs.Free.{then-found}
 use Rattle.blk_kept.proofs.NewEntries.{one-more}
 use Rattle.blk_object.specs.declared.making.Made.{Made}
-use Rattle.blk_object.specs.declared.making_counts.Counters.{Counters}
+use Rattle.blk_object.specs.declared.counters.Counters.{Counters}
 use Rattle.blk_object.specs.declared.making_places.Places.{Places}
-use Rattle.blk_object.specs.Making.{AreCounters, AreCountersWritten, CanBeListed, CanHaveNew, FindsUntilListed, FindsWhileMade, HasNewObjects, HasRoomForNew, IsEntryOfKept, IsListed, IsToBeListed, LeavesRoom, Takes, new_loaded, words_at}
+use Rattle.blk_object.specs.Making.{CanBeListed, CanHaveNew, FindsUntilListed, FindsWhileMade, HasNewObjects, HasRoomForNew, IsEntryOfKept, IsListed, IsToBeListed, LeavesRoom, Takes, new_loaded, words_of_places}
+use Rattle.blk_object.specs.Counters.{AreCounters, AreCountersWritten}
 use Rattle.blk_object.proofs.MakingRoom.{uses-few}
 use Rattle.blk_object.proofs.MakingTaken.{none-before, told-mid}
 
@@ -64,14 +65,14 @@ module _ (a d : Told) (key : List ℕ) (mark : ℕ) (take : ForSome a.files (λ 
 
   -- ---- and the entry
 
-  module _ (places : Places) (taken : ForSome a.files (λ from. LeavesRoom 3 from → ForSome d.files (Takes (words_at places) from))) (e : Told) (write : ForSome d.files (λ mid. Passes d e (StillFinds (words_at places) mid))) where
-    unlinked-then : (from mid : Image) → a.files ≡ Some from → d.files ≡ Some mid → HasRoomForNew key mark from → Takes (words_at places) from mid
+  module _ (places : Places) (taken : ForSome a.files (λ from. LeavesRoom 3 from → ForSome d.files (Takes (words_of_places places) from))) (e : Told) (write : ForSome d.files (λ mid. Passes d e (StillFinds (words_of_places places) mid))) where
+    unlinked-then : (from mid : Image) → a.files ≡ Some from → d.files ≡ Some mid → HasRoomForNew key mark from → Takes (words_of_places places) from mid
     unlinked-then from mid there now r = taken from there (room-three key mark from r) mid now
 
     pub writing-made : ForSome a.files (λ from. HasRoomForNew key mark from → Passes a e (FindsWhileMade key from))
     writing-made from there r =
         let mid = mid-of from there r in
-        let finds : (image : Image) → StillFinds (words_at places) mid.0 image → FindsWhileMade key from image =
+        let finds : (image : Image) → StillFinds (words_of_places places) mid.0 image → FindsWhileMade key from image =
         λ image f state layout handle k can. f state layout [] ((unlinked-then from mid.0 there mid.1 r).kept state layout [] k.entries) in
         passes_then (taking-made from there r) (passes_weaker (write mid.0 mid.1) finds finds)
 

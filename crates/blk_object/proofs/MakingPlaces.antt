@@ -22,7 +22,7 @@ use Rattle.blk_volume.specs.Layout.{Layout}
 use Rattle.blk_kept.specs.Changes.{StillFinds}
 use Rattle.blk_kept.specs.Keeping.{KeepsUncounted}
 use Rattle.blk_kept.proofs.UnlinkedOrder.{kept-in-any-order}
-use Rattle.blk_object.specs.Making.{LeavesRoom, Takes, long_word, words_at}
+use Rattle.blk_object.specs.Making.{LeavesRoom, Takes, long_word, words_of_places}
 use Rattle.blk_object.specs.declared.making_places.Places.{Places}
 use Rattle.blk_object.proofs.MakingTaken.{less-room, none-before, room-for-one, session-then, then-finds, told-before, told-mid}
 
@@ -127,7 +127,7 @@ module _ (a d e : Told) (places : Places) (two : ForSome a.files (λ from. Leave
         let taken = two_taken from there room late.0 late.1 in
         (third_taken late.0 late.1 (two-less places.entry places.node from late.0 room taken) last now).kept state layout (places.node ∷ places.entry ∷ unlinked) (taken.kept state layout unlinked k)
 
-    pub three-taken : ForSome a.files (λ from. LeavesRoom 3 from → ForSome e.files (Takes (words_at places) from))
+    pub three-taken : ForSome a.files (λ from. LeavesRoom 3 from → ForSome e.files (Takes (words_of_places places) from))
     three-taken from there room last now =
         let late = after-two from there room in
         let taken = two_taken from there room late.0 late.1 in

@@ -34,7 +34,8 @@ use Rattle.blk_laws.proofs.updates.StillShown.{elsewhere-by, standing-parts}
 use Rattle.blk_chain.specs.Linking.{link_front_steps, place_of_front}
 use Rattle.blk_entry.specs.declared.writing.NewEntry.{NewEntry}
 use Rattle.blk_entry.specs.Writing.{IsWritten, new_node, new_record}
-use Rattle.blk_object.specs.Making.{AreCountersWritten, HasTimes, KeepsTimes}
+use Rattle.blk_object.specs.Making.{HasTimes, KeepsTimes}
+use Rattle.blk_object.specs.Counters.{AreCountersWritten}
 use Rattle.blk_object.proofs.MakingListed.{record-parts}
 
 -- ---- a byte that no write touches

@@ -25,7 +25,7 @@ use Rattle.blk_kept.specs.Keeping.{KeepsUncounted}
 use Rattle.blk_kept.proofs.Free.{then-found}
 use Rattle.blk_kept_calls.proofs.Entries.{writing-keeps}
 use Rattle.blk_kept_calls.proofs.NewEntries.{written-new}
-use Rattle.blk_object.specs.Making.{IsEntryOfKept, new_entry, new_loaded, long_word, words_at}
+use Rattle.blk_object.specs.Making.{IsEntryOfKept, new_entry, new_loaded, long_word, words_of_places}
 use Rattle.blk_object.specs.declared.making_places.Places.{Places}
 use Rattle.blk_object.proofs.MakingRoom.{uses-few}
 use Rattle.blk_object.proofs.MakingListed.{told-at}
@@ -63,15 +63,15 @@ words-are node entry (Some w) files key_len is_node is_entry place =
 
 module _ (b d : Told) (files : BlockFiles) (places : Places) (mark next : ℕ) (key : List ℕ) (fits : FitsKey files (new_entry places mark next) key) (words : AreWords (new_entry places mark next)) (agrees : ForSome b.files (Agrees files))
     (stops : ForSome b.files (λ from. Passes b d (WritesEntryInProgress (new_entry places mark next) (length key) from))) where
-  words-same : words_of (new_loaded places mark key) ≡ words_at places
+  words-same : words_of (new_loaded places mark key) ≡ words_of_places places
   words-same = words-are places.node places.entry places.long_key files (length key) words.node words.entry fits.long
 
-  keeping : ForSome b.files (λ from. Passes b d (KeepsWith (words_at places) (words_at places) from))
+  keeping : ForSome b.files (λ from. Passes b d (KeepsWith (words_of_places places) (words_of_places places) from))
   keeping = subst (λ (ws : List ℕ). ForSome b.files (λ from. Passes b d (KeepsWith ws ws from))) words-same (writing-keeps files (new_entry places mark next) key b d fits words agrees stops)
 
-  pub writing-finds : ForSome b.files (λ from. Passes b d (StillFinds (words_at places) from))
+  pub writing-finds : ForSome b.files (λ from. Passes b d (StillFinds (words_of_places places) from))
   writing-finds from there =
-      let finds : (image : Image) → KeepsWith (words_at places) (words_at places) from image → StillFinds (words_at places) from image = λ image k. then-found (words_at places) (words_at places) from image k in
+      let finds : (image : Image) → KeepsWith (words_of_places places) (words_of_places places) from image → StillFinds (words_of_places places) from image = λ image k. then-found (words_of_places places) (words_of_places places) from image k in
       passes_weaker (keeping from there) finds finds
 
   pub entry-written : (moment : ℕ) → ForSome b.files (λ from. next ≡ (store_of from).table (bucket_of_key key)) → ForSome d.files (IsWritten (new_entry places mark next) key moment) → ForSome d.files (IsShownNew (new_entry places mark next) key moment)
@@ -80,7 +80,7 @@ module _ (b d : Told) (files : BlockFiles) (places : Places) (mark next : ℕ) (
       let here : ForSome b.files (KeepsUncounted state layout (words_of (loaded_new (new_entry places mark next) key) ++ unlinked)) =
       told-at (KeepsUncounted state layout (words_of (loaded_new (new_entry places mark next) key) ++ unlinked)) b.files from there (subst (λ (ws : List ℕ). KeepsUncounted state layout (ws ++ unlinked) from) (sym words-same) k) in
       let few = can.few in
-      let short = uses-few state layout (words_at places ++ unlinked) from k in
+      let short = uses-few state layout (words_of_places places ++ unlinked) from k in
       record {
         kept = subst (λ (ws : List ℕ). KeepsUncounted state layout (ws ++ unlinked) image) (sym words-same) (passes_end (keeping from there) image now state layout unlinked k);
         entry = written-new files (new_entry places mark next) key moment state layout unlinked b d fits words agrees here (omega (arith, few, short)) can.missing (told-at (λ (i : Image). mark ≡ this_id_of (byte i Index)) b.files from there (sym session)) follows stops written shown loads from there image now;

@@ -26,11 +26,11 @@ use Rattle.blk_stream.proofs.Joined.{IsTold, told_then}
 use Rattle.blk_object.specs.Freeing.{AreFreeable, AreGoing, Removes}
 use Rattle.blk_object.specs.Owning.{LoadsWith}
 use Rattle.blk_object.specs.Removing.{IsGoingOut, IsTakenOut, MayGoOut}
-use Rattle.blk_object.specs.RemovingCounts.{AreCountedLess, IsOneItemLess}
+use Rattle.blk_object.specs.Counters.{AreCountedLess, IsOneItemLess}
 use Rattle.blk_object.specs.RemovingObjects.{FindsEither, GoesAlone, IsGoneUncounted, IsRemovedWhole}
 use Rattle.blk_object.proofs.FreedPlaces as freed
 use Rattle.blk_object.proofs.OwnedPlaces.{kept-load}
-use Rattle.blk_object.proofs.RemovingCounts.{less-counted}
+use Rattle.blk_object.proofs.CountedLess.{less-counted}
 use Rattle.blk_object.proofs.TakenItems as taken
 
 -- where the counters stay, they count what they did

@@ -9,8 +9,7 @@ use Rattle.blk_model.specs.Request.{IsRequest, to_create}
 use Rattle.blk_model.specs.Room.{items}
 use Rattle.blk_model.specs.Sizes.{most_items}
 use Rattle.blk_model.specs.State.{State, IsValidState}
-use Rattle.blk_format.specs.Headers.{num_bytes_of, num_entries_of, sizes_of, this_id_of}
-use Rattle.blk_laws.specs.IndexWrites.{IsIndexWord}
+use Rattle.blk_format.specs.Headers.{this_id_of}
 use Rattle.blk_volume.specs.Creation.{with_new}
 use Rattle.blk_volume.specs.Layout.{Layout}
 use Rattle.blk_volume.specs.ListSteps.{AreTimes}
@@ -25,7 +24,6 @@ use Rattle.blk_kept.specs.Changes.{Finds, KeepsWith, SameSession}
 use Rattle.blk_kept.specs.Keeping.{Keeps, KeepsUncounted}
 use Rattle.blk_kept.specs.NewEntryLaws.{IsNewEntryOf}
 use Rattle.blk_object.specs.declared.making.Made.{Made}
-use Rattle.blk_object.specs.declared.making_counts.Counters.{Counters}
 use Rattle.blk_object.specs.declared.making_places.Places.{Places}
 
 -- Room.
@@ -47,8 +45,8 @@ long_word None = []
 long_word (Some w) = w ∷ []
 
 -- the address words of the places of an entry: its node, its record, and its long key
-abbrev pub words_at : Places → List ℕ
-words_at places = places.node ∷ places.entry ∷ long_word places.long_key
+abbrev pub words_of_places : Places → List ℕ
+words_of_places places = places.node ∷ places.entry ∷ long_word places.long_key
 
 -- the entry of a plain object at its places, with a mark and the word of the next record
 abbrev pub new_entry : Places → ℕ → ℕ → NewEntry
@@ -92,7 +90,7 @@ pub record CanBeListed (entry node : ℕ) (image : Image) : Type 0 where
 -- whatever state was kept with the words of the places unlinked, and can have the object, is kept so, and its entry is written
 abbrev pub IsEntryOfKept : Places → (mark : ℕ) → (key : List ℕ) → Image → Image → Type 0
 IsEntryOfKept places mark key from image =
-    (state : State) (layout : Layout) (unlinked : List ℕ) (handle : ℕ) → KeepsUncounted state layout (words_at places ++ unlinked) from → CanHaveNew state handle key → this_id_of (byte from Index) ≡ mark
+    (state : State) (layout : Layout) (unlinked : List ℕ) (handle : ℕ) → KeepsUncounted state layout (words_of_places places ++ unlinked) from → CanHaveNew state handle key → this_id_of (byte from Index) ≡ mark
     → IsToBeListed state layout unlinked handle key (new_loaded places mark key) image
 
 -- whatever was kept with an entry of this record and node to be listed, what was at rest is found
@@ -117,22 +115,6 @@ pub record HasTimes (entry node moment : ℕ) (image : Image) : Type 0 where
 -- whatever they were, they still are
 abbrev pub KeepsTimes : (entry node : ℕ) → Image → Image → Type 0
 KeepsTimes entry node from image = (moment : ℕ) → HasTimes entry node moment from → HasTimes entry node moment image
-
--- Counters.
-
--- the counters of the index are these
-pub record AreCounters (counters : Counters) (image : Image) : Type 0 where
-  pub entries : counters.entries ≡ num_entries_of (byte image Index)
-  pub bytes : counters.bytes ≡ num_bytes_of (byte image Index)
-  pub size : counters.size ≡ sizes_of (byte image Index) 0
-
--- the three counters of the index are written one after the other
-pub record AreCountersWritten (entries bytes size : ℕ) (from image : Image) : Type 0 where
-  pub first : Image
-  pub second : Image
-  pub entries_written : IsIndexWord 8 entries from first
-  pub bytes_written : IsIndexWord 12 bytes first second
-  pub size_written : IsIndexWord 268 size second image
 
 -- The new object.
 

@@ -12,7 +12,7 @@ use Rattle.blk_kept.specs.Changes.{Finds}
 use Rattle.blk_kept.specs.Keeping.{CountsItems, Keeps, KeepsUncounted}
 use Rattle.blk_kept.specs.RemovalLaws.{IsWithout, layout_removed}
 use Rattle.blk_object.specs.Removing.{LiesBehind}
-use Rattle.blk_object.specs.RemovingCounts.{IsOneItemLess}
+use Rattle.blk_object.specs.Counters.{IsOneItemLess}
 
 -- a state is left without an item, by its objects then and the items that stay; the item lies at this node with this record, which stands in its chain behind this one, or is the first
 pub record GoesAlone (state : State) (layout : Layout) (objects : List (Option Object)) (keep : Item → Bool) (item : Item) (node entry : ℕ) (before : Option ℕ) : Type 0 where

@@ -10,9 +10,9 @@ ghost use Rattle.blk_disk.specs.Tables.{is_node_among, is_record_among};
 ghost use Rattle.blk_entry.specs.Writing.{FitsKey, HoldsLongKey, LiesApart};
 ghost use Rattle.blk_alloc.specs.Extending.{KeepsStanding};
 ghost use Rattle.blk_kept.specs.Changes.{StillFinds};
-ghost use Rattle.blk_object.specs.Making.{CanBeListed, CreatesCanHaveNew, FindsUntilListed, FindsWhileMade, HasNewObjects, HasRoomForNew, HasTimes, IsEntryOfKept, IsListed, KeepsTimes, new_entry, words_at};
+ghost use Rattle.blk_object.specs.Making.{CanBeListed, CreatesCanHaveNew, FindsUntilListed, FindsWhileMade, HasNewObjects, HasRoomForNew, HasTimes, IsEntryOfKept, IsListed, KeepsTimes, new_entry, words_of_places};
 
-use crate::making_counts::{count_entry, read_counters};
+use crate::counters::{count_entry, read_counters};
 use crate::making_places::{Places, take_places};
 use blk_addr::Addr;
 use blk_chain::link_front;
@@ -101,7 +101,7 @@ fn write_new<F: Folder>(
     requires is_open { ForSome (F.told f.old).files (IsOpen files.now) }
     ensures written { OnOk result (ForSome (F.told f.old).files (λ from. ForSome (F.told f.new).files (IsEntryOfKept places.now mark key.now from))) }
     ensures times { OnOk result (ForSome (F.told f.new).files (HasTimes places.now.entry places.now.node moment)) }
-    ensures stops { ForSome (F.told f.old).files (λ from. Passes (F.told f.old) (F.told f.new) (StillFinds (words_at places.now) from)) }
+    ensures stops { ForSome (F.told f.old).files (λ from. Passes (F.told f.old) (F.told f.new) (StillFinds (words_of_places places.now) from)) }
     ensures is_open { ForSome (F.told f.new).files (IsOpen files.now) }
     ensures untold { IfDamaged result (λ _. (F.told f.old).files ≡ None) }
     ensures silent { (F.told f.old).files ≡ None → (F.told f.new).files ≡ None }

@@ -15,7 +15,7 @@ ghost use Rattle.blk_entry.specs.Keys as keys;
 ghost use Rattle.blk_entry.specs.Writing.{HoldsLongKey, IsLongPlace, LiesApart};
 ghost use Rattle.blk_alloc.specs.Extending.{KeepsStanding};
 ghost use Rattle.blk_kept.specs.Changes.{StillFinds};
-ghost use Rattle.blk_object.specs.Making.{LeavesRoom, Takes, long_word, words_at};
+ghost use Rattle.blk_object.specs.Making.{LeavesRoom, Takes, long_word, words_of_places};
 
 use blk_addr::{Addr, Kind, LONGEST_SHORT_KEY, blocks_for, entry_blocks, kind_for};
 use blk_alloc::allocate;
@@ -50,7 +50,7 @@ pub(crate) fn take_places<F: Folder>(
     ensures holds { IfOk result (λ places. ForSome (F.told f.new).files (HoldsLongKey places.long_key key_len)) }
     ensures apart { IfOk result (λ places. LiesApart places.entry places.long_key) }
     ensures keeps { KeepsStanding files.old files.new }
-    ensures taken { IfOk result (λ places. ForSome (F.told f.old).files (λ from. LeavesRoom 3 from → ForSome (F.told f.new).files (Takes (words_at places) from))) }
+    ensures taken { IfOk result (λ places. ForSome (F.told f.old).files (λ from. LeavesRoom 3 from → ForSome (F.told f.new).files (Takes (words_of_places places) from))) }
     ensures is_open { OnOk result (ForSome (F.told f.new).files (IsOpen files.new)) }
     ensures stops { ForSome (F.told f.old).files (λ from. LeavesRoom 3 from → Passes (F.told f.old) (F.told f.new) (StillFinds [] from)) }
     ensures untold { ForSome (F.told f.old).files (LeavesRoom 3) → IfDamaged result (λ _. (F.told f.old).files ≡ None) }

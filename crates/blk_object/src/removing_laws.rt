@@ -1,5 +1,5 @@
 // What items that are taken out are to the state that was kept: laws, each the contract of a function with an empty body.
-ghost use Rattle.blk_object.specs.RemovingCounts.{LessIsCounted};
+ghost use Rattle.blk_object.specs.Counters.{LessIsCounted};
 ghost use Rattle.blk_object.specs.RemovingFound.{FoundEntriesLieBehind, KeptStatesCanBeSearched};
 ghost use Rattle.blk_object.specs.RemovingObjects.{PlainObjectsGoAlone};
 ghost use Rattle.blk_object.specs.RemovingParts.{GoingLonePartsFindEither, GoingMainsFindEither, GoingPartsFindDoomed, LeftItemsMayGoOut, TakenOutItemsAreOut, UnlinkedItemsFindDoomed};

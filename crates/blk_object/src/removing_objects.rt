@@ -8,9 +8,9 @@ ghost use Rattle.blk_disk.specs.Open.{IsOpen};
 ghost use Rattle.blk_disk.specs.Tables.{is_node_among, stands_among};
 ghost use Rattle.blk_object.specs.RemovingObjects.{FindsEither, ForEachAlone, IsGoneUncounted, IsRemovedWhole};
 
+use crate::counters::count_less;
 use crate::owning::{free_owned, read_owned};
 use crate::removing::take_out;
-use crate::removing_counts::count_less;
 use blk_addr::Addr;
 use blk_chain::Found;
 use blk_disk::BlockFiles;

@@ -6,7 +6,8 @@ use Rattle.blk_io.proofs.Carried.{carried, if_damaged_weaker}
 use Rattle.blk_format.specs.Address.{blocks_256, rankings}
 use Rattle.blk_format.specs.Headers.{this_id_of}
 use Rattle.blk_disk.specs.Open.{IsOpen}
-use Rattle.blk_object.specs.Making.{AreCounters, FindsWhileMade, HasNewObjects, HasRoomForNew}
+use Rattle.blk_object.specs.Making.{FindsWhileMade, HasNewObjects, HasRoomForNew}
+use Rattle.blk_object.specs.Counters.{AreCounters}
 use Rattle.blk_object.proofs.MakingMade.{among-names, can-list, counting-made, listing-made, nothing-made, object-made, room-three, taking-made, tells-late, tells-mid, writing-made}
 use Rattle.blk_object.proofs.MakingTaken.{told-before}
 use Rattle.blk_object.proofs.MakingTimes.{counting-times}

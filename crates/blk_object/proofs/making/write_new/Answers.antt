@@ -7,14 +7,14 @@ use Rattle.blk_image.specs.Told.{Passes, Told}
 use Rattle.blk_disk.specs.Open.{IsOpen}
 use Rattle.blk_kept.specs.Changes.{StillFinds}
 use Rattle.std.proofs.lemmas.Result.{on_ok_weaker}
-use Rattle.blk_object.specs.Making.{IsEntryOfKept, words_at, new_entry}
+use Rattle.blk_object.specs.Making.{IsEntryOfKept, words_of_places, new_entry}
 use Rattle.blk_object.proofs.MakingTaken.{nothing-finds}
 use Rattle.blk_object.proofs.MakingWritten.{bucket-is, entry-written, fits-next, on-ok-three, writing-finds}
 use Rattle.blk_object.proofs.MakingTimes.{written-times}
 use Rattle.blk_object.proofs.making.write_new.Goals as goal
 
 pub returns-in_err-next-clause-stops : goal.returns-in_err-next-clause-stops
-returns-in_err-next-clause-stops g c = nothing-finds (words_at c.args.places.now) (g.F.Folder.told c.args.f.now) (g.F.Folder.told c.bucket.new.f) c.in_err-next.ensures.stays
+returns-in_err-next-clause-stops g c = nothing-finds (words_of_places c.args.places.now) (g.F.Folder.told c.args.f.now) (g.F.Folder.told c.bucket.new.f) c.in_err-next.ensures.stays
 
 pub returns-in_err-next-clause-is_open : goal.returns-in_err-next-clause-is_open
 returns-in_err-next-clause-is_open g c = subst (λ (t : Told). ForSome t.files (IsOpen c.args.files.now)) (sym c.in_err-next.ensures.stays) c.requires.is_open
@@ -32,7 +32,7 @@ pub returns-clause-stops : goal.returns-clause-stops
 returns-clause-stops g c =
     let b : Told = g.F.Folder.told c.bucket.new.f in
     let d : Told = g.F.Folder.told c.write_entry.new.f in
-    subst (λ (t : Told). ForSome t.files (λ from. Passes t d (StillFinds (words_at c.args.places.now) from))) c.in_ok-next.ensures.stays
+    subst (λ (t : Told). ForSome t.files (λ from. Passes t d (StillFinds (words_of_places c.args.places.now) from))) c.in_ok-next.ensures.stays
     (writing-finds b d c.args.files.now c.args.places.now c.args.mark c.in_ok-next.next c.args.key.now (fits-next c.args.files.now c.args.places.now c.args.mark c.in_ok-next.next c.args.key.now c.requires.fits) c.write_entry.ensures.words
     (λ from there. (subst (λ (t : Told). ForSome t.files (IsOpen c.args.files.now)) (sym c.in_ok-next.ensures.stays) c.requires.is_open from there).agrees) c.write_entry.ensures.stops)
 

@@ -1,4 +1,4 @@
--- One entry less is counted by the index.
+-- The counters of the index, and what one entry less is to them.
 use Rattle.std.specs.Prelude.{◌≡◌, ℕ, ◌+◌, ◌%◌, ◌^◌, ◌<◌, List, length}
 use Rattle.std.specs.List.{sum_by}
 use Rattle.blk_image.specs.Image.{Image, Index, byte}
@@ -8,22 +8,22 @@ use Rattle.blk_laws.specs.IndexWrites.{IsIndexWord}
 use Rattle.blk_volume.specs.Found.{charge_of}
 use Rattle.blk_volume.specs.Layout.{Layout, order}
 use Rattle.blk_volume.specs.Tidy.{loaded_at}
-use Rattle.blk_object.specs.declared.removing_counts.Counts.{Counts}
+use Rattle.blk_object.specs.declared.counters.Counters.{Counters}
 use Rattle.blk_kept.specs.Keeping.{CountsItems, Keeps, KeepsUncounted}
 
 -- the counters of the index are these
-pub record AreCounts (counts : Counts) (image : Image) : Type 0 where
-  pub entries : counts.entries ≡ num_entries_of (byte image Index)
-  pub bytes : counts.bytes ≡ num_bytes_of (byte image Index)
-  pub size : counts.size ≡ sizes_of (byte image Index) 0
+pub record AreCounters (counters : Counters) (image : Image) : Type 0 where
+  pub entries : counters.entries ≡ num_entries_of (byte image Index)
+  pub bytes : counters.bytes ≡ num_bytes_of (byte image Index)
+  pub size : counters.size ≡ sizes_of (byte image Index) 0
 
--- the three counters of the index are written one after another
-pub record AreCountersSet (entries bytes size : ℕ) (from image : Image) : Type 0 where
+-- the three counters of the index are written one after the other
+pub record AreCountersWritten (entries bytes size : ℕ) (from image : Image) : Type 0 where
   pub first : Image
   pub second : Image
-  pub entries_set : IsIndexWord 8 entries from first
-  pub bytes_set : IsIndexWord 12 bytes first second
-  pub size_set : IsIndexWord 268 size second image
+  pub entries_written : IsIndexWord 8 entries from first
+  pub bytes_written : IsIndexWord 12 bytes first second
+  pub size_written : IsIndexWord 268 size second image
 
 -- as words, they are those that with one more, and with a charge more, were the old ones
 pub record AreCountedLess (charge : ℕ) (from image : Image) : Type 0 where
@@ -34,7 +34,7 @@ pub record AreCountedLess (charge : ℕ) (from image : Image) : Type 0 where
   pub entries_less : (entries + 1) % 2 ^ 32 ≡ num_entries_of (byte from Index)
   pub bytes_less : (bytes + charge) % 2 ^ 32 ≡ num_bytes_of (byte from Index)
   pub size_less : (size + 1) % 2 ^ 32 ≡ sizes_of (byte from Index) 0
-  pub set : AreCountersSet entries bytes size from image
+  pub written : AreCountersWritten entries bytes size from image
 
 -- the charges of the listed items
 abbrev pub charges : State → Layout → ℕ

@@ -15,7 +15,7 @@ use Rattle.blk_disk.proofs.Agreeing.{agrees_still}
 use Rattle.blk_chain.proofs.Links.{index_spares, index_word}
 use Rattle.blk_kept.specs.Changes.{KeepsWith}
 use Rattle.blk_kept.proofs.Counters.{counter-keeps}
-use Rattle.blk_object.specs.Making.{AreCountersWritten}
+use Rattle.blk_object.specs.Counters.{AreCountersWritten}
 
 -- the words that count
 abbrev pub counted : ℕ → ℕ → ℕ → List (ℕ × ℕ)

@@ -1,0 +1,111 @@
+// The counters of the index, which count the entries and their charges.
+ghost use Rattle.std.specs.Prelude.{◌≡◌, ◌≤◌, ◌+◌, ◌%◌, ◌^◌, [], None, IfOk, OnErr, OnOk};
+ghost use Rattle.std.specs.Option.{ForSome};
+ghost use Rattle.blk_image.specs.Told.{Passes, Rises, Stays};
+ghost use Rattle.blk_format.specs.Headers.{HasWholeIndex};
+ghost use Rattle.blk_io.specs.Faults.{IfDamaged, IfDevice};
+ghost use Rattle.blk_disk.specs.Open.{IsOpen};
+ghost use Rattle.blk_kept.specs.Changes.{KeepsWith};
+ghost use Rattle.blk_object.specs.Counters.{AreCountedLess, AreCounters, AreCountersWritten};
+
+use blk_disk::BlockFiles;
+use blk_index::word;
+use blk_io::{Failed, Fault, FileId, Folder, write_words};
+use blk_record::IndexHead;
+
+/// What the index counts.
+#[derive(Clone, Copy, Debug)]
+pub(crate) struct Counters {
+    /// The entries.
+    pub entries: u32,
+    /// The sum of their charges.
+    pub bytes: u32,
+    /// The nodes of the use list.
+    pub size: u32,
+}
+
+/// Reads the counters of the index.
+pub(crate) fn read_counters<F: Folder>(f: &mut F) -> Result<Counters, Fault>
+    ensures read { IfOk result (λ counters. ForSome (F.told f.old).files (AreCounters counters)) }
+    ensures stays { Stays (F.told f.old) (F.told f.new) }
+    ensures untold { ForSome (F.told f.old).files HasWholeIndex → IfDamaged result (λ _. (F.told f.old).files ≡ None) }
+    ensures later { F.faults f.old ≤ F.faults f.new }
+    ensures device { IfDevice result (Rises (F.faults f.old) (F.faults f.new)) }
+{
+    let entries = word(f, IndexHead::NUM_ENTRIES)?;
+    let bytes = word(f, IndexHead::NUM_BYTES)?;
+    let size = word(f, IndexHead::SIZES)?;
+    Ok(Counters {
+        entries,
+        bytes,
+        size,
+    })
+}
+
+/// Writes the counters for one entry more, with its charge, by three folder calls.
+pub(crate) fn count_entry<F: Folder>(
+    f: &mut F,
+    files: &BlockFiles,
+    counters: &Counters,
+    charge: u32,
+) -> Result<(), Failed>
+    requires is_open { ForSome (F.told f.old).files (IsOpen files.now) }
+    ensures written { OnOk result (ForSome (F.told f.old).files (λ from. ForSome (F.told f.new).files (AreCountersWritten ((counters.now.entries + 1) % 2 ^ 32) ((counters.now.bytes + charge) % 2 ^ 32) ((counters.now.size + 1) % 2 ^ 32) from))) }
+    ensures stops { ForSome (F.told f.old).files (λ from. Passes (F.told f.old) (F.told f.new) (KeepsWith [] [] from)) }
+    ensures is_open { ForSome (F.told f.new).files (IsOpen files.now) }
+    ensures silent { (F.told f.old).files ≡ None → (F.told f.new).files ≡ None }
+    ensures later { F.faults f.old ≤ F.faults f.new }
+    ensures failed { OnErr result (Rises (F.faults f.old) (F.faults f.new)) }
+{
+    let entries = counters.entries.wrapping_add(1);
+    let bytes = counters.bytes.wrapping_add(charge);
+    let size = counters.size.wrapping_add(1);
+    set_counters(f, files, entries, bytes, size)
+}
+
+/// Counts one entry less, with a charge, in the counters of the index: three folder calls read them, and three write them.
+pub fn count_less<F: Folder>(f: &mut F, files: &BlockFiles, charge: u32) -> Result<(), Fault>
+    requires is_open { ForSome (F.told f.old).files (IsOpen files.now) }
+    ensures counted { OnOk result (ForSome (F.told f.old).files (λ from. ForSome (F.told f.new).files (AreCountedLess charge from))) }
+    ensures stops { ForSome (F.told f.old).files (λ from. Passes (F.told f.old) (F.told f.new) (KeepsWith [] [] from)) }
+    ensures is_open { ForSome (F.told f.new).files (IsOpen files.now) }
+    ensures untold { IfDamaged result (λ _. (F.told f.old).files ≡ None) }
+    ensures silent { (F.told f.old).files ≡ None → (F.told f.new).files ≡ None }
+    ensures later { F.faults f.old ≤ F.faults f.new }
+    ensures device { IfDevice result (Rises (F.faults f.old) (F.faults f.new)) }
+{
+    let counters = read_counters(f)?;
+    let entries = counters.entries.wrapping_sub(1);
+    let bytes = counters.bytes.wrapping_sub(charge);
+    let size = counters.size.wrapping_sub(1);
+    set_counters(f, files, entries, bytes, size)?;
+    Ok(())
+}
+
+// Writes the counters of the index, by three folder calls.
+fn set_counters<F: Folder>(
+    f: &mut F,
+    files: &BlockFiles,
+    entries: u32,
+    bytes: u32,
+    size: u32,
+) -> Result<(), Failed>
+    requires is_open { ForSome (F.told f.old).files (IsOpen files.now) }
+    ensures written { OnOk result (ForSome (F.told f.old).files (λ from. ForSome (F.told f.new).files (AreCountersWritten entries bytes size from))) }
+    ensures stops { ForSome (F.told f.old).files (λ from. Passes (F.told f.old) (F.told f.new) (KeepsWith [] [] from)) }
+    ensures is_open { ForSome (F.told f.new).files (IsOpen files.now) }
+    ensures silent { (F.told f.old).files ≡ None → (F.told f.new).files ≡ None }
+    ensures later { F.faults f.old ≤ F.faults f.new }
+    ensures failed { OnErr result (Rises (F.faults f.old) (F.faults f.new)) }
+{
+    let _files = files;
+    write_words(
+        f,
+        FileId::Index,
+        &[
+            (IndexHead::NUM_ENTRIES, entries),
+            (IndexHead::NUM_BYTES, bytes),
+            (IndexHead::SIZES, size),
+        ],
+    )
+}
