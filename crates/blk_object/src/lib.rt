@@ -6,8 +6,6 @@ mod freeing;
 mod freeing_laws;
 mod making;
 mod making_places;
-#[cfg(test)]
-mod making_tests;
 mod owning;
 mod owning_laws;
 mod removing;

@@ -3,6 +3,7 @@ ghost use Rattle.std.specs.Prelude.{◌≡◌, ◌≢◌, ◌≤◌, None, IfOk,
 ghost use Rattle.std.specs.Option.{ForSome};
 ghost use Rattle.blk_image.specs.Image.{Index as index, byte};
 ghost use Rattle.blk_image.specs.Told.{Passes, Rises};
+ghost use Rattle.blk_model.specs.Sizes.{longest_key};
 ghost use Rattle.blk_format.specs.Headers.{this_id_of};
 ghost use Rattle.blk_io.specs.Faults.{IfDamaged, IfDevice};
 ghost use Rattle.blk_disk.specs.Open.{IsOpen};
@@ -51,7 +52,7 @@ pub fn make_entry<F: Folder>(
     moment: u64,
 ) -> Result<Made, Fault>
     requires some { 1 ≤ length key.now }
-    requires most { length key.now ≤ 32768 }
+    requires most { length key.now ≤ longest_key }
     requires mark { mark ≢ 0 }
     requires is_open { ForSome (F.told f.old).files (IsOpen files.old) }
 

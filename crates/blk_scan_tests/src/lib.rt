@@ -1,4 +1,4 @@
-//! The tests of the audit and of the repair of whole folders, of their opening, and of the word `count`.
+//! The tests of the audit and of the repair of whole folders, of their opening, of objects that are made and removed, and of the word `count`.
 #![tactic(auto)]
 
 #[cfg(test)]
@@ -13,6 +13,8 @@ mod folders;
 mod found;
 #[cfg(test)]
 mod long;
+#[cfg(test)]
+mod objects;
 #[cfg(test)]
 mod opening;
 #[cfg(test)]
