@@ -179,20 +179,9 @@ fn taken(alloc: Global, key: usize) -> Result<(bool, Three, bool), Fault>
 }
 
 #[test]
-fn a_folder_that_tells_its_files_is_searched(rt: HostRuntime) -> Result<(), Fail> {
-    let silent = three(rt.alloc())?;
-    let mut f = silent.into_inner();
-    assert_eq!(rt; all(&mut f), Ok(WHOLE));
-    Ok(())
-}
-
-#[test]
 fn each_of_three_records_of_one_bucket_is_unlinked(rt: HostRuntime) {
     for key in 0..3usize {
-        assert!(rt;
-            taken(rt.alloc(), key) == Ok((true, WITHOUT[key], false)),
-            "{key}"
-        );
+        assert!(rt; taken(rt.alloc(), key) == Ok((true, WITHOUT[key], false)));
     }
 }
 
@@ -214,22 +203,6 @@ fn emptied(alloc: Global) -> Result<([Three; 3], u32), Fault> {
 fn a_chain_is_emptied_record_by_record(rt: HostRuntime) {
     let one = [Some((WORDS[0], 0)), None, None];
     assert!(rt; emptied(rt.alloc()) == Ok(([WITHOUT[1], one, [None; 3]], 0)));
-}
-
-// The bytes of the record before the middle one of three, when that one is unlinked.
-fn before_the_middle(alloc: Global) -> Result<[u8; 96], Fault> {
-    let mut f = three(alloc)?;
-    let _middle = take(&mut f, KEYS[1])?;
-    let mut bytes = [0; 96];
-    f.read_at(FileId::Block(1), place_of(WORDS[2]), &mut bytes)?;
-    Ok(bytes)
-}
-
-#[test]
-fn the_record_before_has_another_next_and_the_hash_as_its_seal(rt: HostRuntime) {
-    let sealed = record_for(KEYS[2], PLAIN, WORDS[0]);
-    assert!(rt; sealed[92..] != [0; 4]);
-    assert!(rt; before_the_middle(rt.alloc()) == Ok(sealed));
 }
 
 // What is found of the keys of one hash, and the folder calls that it took to find the first.
@@ -382,7 +355,7 @@ fn a_word_that_names_no_record_is_a_damage(rt: HostRuntime) {
     // No address, a node, and a record past the end of its file.
     for wrong in [0x2001_0000, 0x9000_0000, 0xA001_0100] {
         let found = (Err(damage(4, wrong)), 8 + 1 + 1);
-        assert!(rt; search(rt.alloc(), wrong) == Ok(found), "{wrong}");
+        assert!(rt; search(rt.alloc(), wrong) == Ok(found));
     }
     assert!(rt; search(rt.alloc(), 0) == Ok((Ok(None), 8 + 1 + 1)));
 }

@@ -1,5 +1,5 @@
 // Entries in a folder in memory that tells nothing.
-ghost use Rattle.std.specs.Prelude.{◌≡◌, ◌≢◌, ◌≤◌, IfSome, IsTrue, None, length};
+ghost use Rattle.std.specs.Prelude.{◌≡◌, ◌≤◌, IfSome, IsTrue, None, length};
 ghost use Rattle.blk_format.specs.Address.{blocks_256, kind_of, rankings};
 ghost use Rattle.blk_disk.specs.Tables.{stands_among};
 ghost use Rattle.blk_entry.specs.Keys.{may_hold, most_key};
@@ -9,8 +9,7 @@ use crate::folders::{SIZE, put_files};
 use blk_addr::{Addr, Kind};
 use blk_disk::BlockFiles;
 use blk_entry::{
-    NewEntry, field, key_equals, key_piece, long_key, may_have, read_data, read_head, set_clean,
-    set_dirty, write_data, write_entry,
+    NewEntry, field, key_equals, key_piece, long_key, may_have, set_clean, set_dirty, write_entry,
 };
 use blk_io::{Failed, Fault, FileId, Folder, MemFolder, SilentFolder};
 use blk_record::{EntryMut, NodeMut, RecordMut, super_fast_hash};
@@ -136,7 +135,7 @@ fn node_of(files: &BlockFiles, word: u32) -> Option<Addr>
 }
 
 // Whether an entry has a key.
-fn equals<F: Folder>(f: &mut F, word: u32, key: &[u8]) -> Result<bool, Fault> {
+fn equals(f: &mut Mem, word: u32, key: &[u8]) -> Result<bool, Fault> {
     let files = BlockFiles::load(f)?;
     match entry_of(&files, word) {
         Some(entry) => key_equals(f, &files, entry, key),
@@ -162,7 +161,7 @@ fn equals_in_cut_file(f: &mut Mem, word: u32, key: &[u8], length: u64) -> Result
 }
 
 // A piece of the key of an entry.
-fn piece<F: Folder>(f: &mut F, word: u32, at: u32, out: &mut [u8]) -> Result<usize, Fault> {
+fn piece(f: &mut Mem, word: u32, at: u32, out: &mut [u8]) -> Result<usize, Fault> {
     let files = BlockFiles::load(f)?;
     match entry_of(&files, word) {
         Some(entry) => key_piece(f, &files, entry, at, out),
@@ -180,7 +179,7 @@ fn length(f: &mut Mem, word: u32) -> Result<u32, Fault> {
 }
 
 // Marks the first node with a number, or clean with 0.
-fn mark<F: Folder>(f: &mut F, number: u32) -> Result<(), Fault> {
+fn mark(f: &mut Mem, number: u32) -> Result<(), Fault> {
     let files = BlockFiles::load(f)?;
     match node_of(&files, NODE) {
         Some(node) => {
@@ -189,19 +188,6 @@ fn mark<F: Folder>(f: &mut F, number: u32) -> Result<(), Fault> {
             } else {
                 set_dirty(f, &files, node, number)
             }
-        }
-        None => Err(Fault::Device),
-    }
-}
-
-// The words that a record's head has of its key and of its second stream, and the word of its node.
-fn head<F: Folder>(f: &mut F, word: u32) -> Result<(u32, u32, u32, u32), Fault> {
-    let files = BlockFiles::load(f)?;
-    match entry_of(&files, word) {
-        Some(entry) => {
-            let head = read_head(f, &files, entry)?;
-            let node = blk_entry::node_of(f, &files, entry)?;
-            Ok((head.key_len, head.sizes[1], head.addrs[1], node.word()))
         }
         None => Err(Fault::Device),
     }
@@ -220,85 +206,6 @@ fn folder_with(alloc: Global, long_key: u32, key: &[u8]) -> Result<Mem, Failed> 
     put_record(&mut f, long_key, key)?;
     put_key(&mut f, long_key, key)?;
     Ok(f)
-}
-
-// The length of the key of an entry, and whether the key is this one, and the front of it.
-fn compared(f: &mut Mem, entry: u32, key: &[u8]) -> Result<(u32, [bool; 2]), Fault> {
-    let front = &key[..key.len().saturating_sub(1)];
-    let key_len = length(f, entry)?;
-    Ok((key_len, [equals(f, entry, key)?, equals(f, entry, front)?]))
-}
-
-// Reads a whole key, its last byte where there is room for three, and none behind it: how many bytes are read each time,
-// and the three.
-fn pieces(f: &mut Mem, entry: u32, out: &mut [u8]) -> Result<([usize; 3], [u8; 3]), Fault> {
-    let key_len = (out.len() % 0x1_0000_0000) as u32;
-    let all = piece(f, entry, 0, out)?;
-    let mut end = [9; 3];
-    let last = piece(f, entry, key_len.saturating_sub(1), &mut end)?;
-    let none = piece(f, entry, key_len, &mut end)?;
-    Ok(([all, last, none], end))
-}
-
-// Whether an entry has a key of another last byte; first with the hash of its own key in its record, and then with that of
-// the other.
-fn compared_with_another(
-    f: &mut Mem,
-    entry: u32,
-    long_key: u32,
-    key: &mut [u8],
-) -> Result<[bool; 2], Fault> {
-    if let Some(byte) = key.last_mut() {
-        *byte ^= 1;
-    }
-    let first = equals(f, entry, key)?;
-    put_record(f, long_key, key)?;
-    Ok([first, equals(f, entry, key)?])
-}
-
-#[test]
-fn keys_of_each_storage_are_read_and_compared(rt: HostRuntime) -> Result<(), Fail> {
-    for (key_len, entry, long_key) in ENTRIES {
-        let size = key_len as usize;
-        let mut key = key_of(rt.alloc(), size)?;
-        let mut f = folder_with(rt.alloc(), long_key, &key)?;
-        let same = Ok((key_len, [true, false]));
-        assert!(rt; compared(&mut f, entry, &key) == same, "{size} bytes");
-
-        // All of it, and a piece of which only the front is there.
-        let mut all = key_of(rt.alloc(), size)?;
-        all.fill(0);
-        let last = key.last().copied().unwrap_or(0);
-        let read = Ok(([size, 1, 0], [last, 9, 9]));
-        assert!(rt; pieces(&mut f, entry, &mut all) == read, "{size} bytes");
-        assert!(rt; all == key);
-        let other = compared_with_another(&mut f, entry, long_key, &mut key);
-        assert!(rt; other == Ok([false, false]), "{size} bytes");
-    }
-    Ok(())
-}
-
-// Whether the entry in the first block has a key, the bytes that are read of it, and its head, once its node was marked and
-// is clean again.
-fn read_and_marked<F: Folder>(
-    f: &mut F,
-    key: &[u8],
-) -> Result<(bool, usize, (u32, u32, u32, u32)), Fault> {
-    let mut out = [0; 8];
-    let same = equals(f, 0xA001_0000, key)?;
-    let read = piece(f, 0xA001_0000, 0, &mut out)?;
-    mark(f, 7)?;
-    mark(f, 0)?;
-    Ok((same, read, head(f, 0xA001_0000)?))
-}
-
-#[test]
-fn a_folder_that_tells_its_files_is_read_and_marked(rt: HostRuntime) -> Result<(), Fail> {
-    let key = key_of(rt.alloc(), 20)?;
-    let mut f = folder_with(rt.alloc(), 0, &key)?.into_inner();
-    let read = (true, 8, (20, 5, 0x8000_0002, NODE));
-    assert!(rt; read_and_marked(&mut f, &key) == Ok(read));
-    Ok(())
 }
 
 // The mark and the seal of the first node.
@@ -668,15 +575,9 @@ fn new_entries_are_written_and_read(rt: HostRuntime) -> Result<(), Fail> {
 
         // Eight calls load the files, and four write.
         let calls = calls_of_writing(&mut f, words, child, &key);
-        assert_eq!(rt; calls, Ok(8 + 4), "{key_len} bytes");
-        assert!(rt;
-            is_written(&mut f, words, child, &key, &mut read)?,
-            "{key_len} bytes"
-        );
-        assert!(rt;
-            spares_the_rest(rt.alloc(), &mut f, long_key, key_len)?,
-            "{key_len} bytes"
-        );
+        assert_eq!(rt; calls, Ok(8 + 4));
+        assert!(rt; is_written(&mut f, words, child, &key, &mut read)?);
+        assert!(rt; spares_the_rest(rt.alloc(), &mut f, long_key, key_len)?);
 
         // The key is read in two pieces.
         read.fill(0);
@@ -688,56 +589,7 @@ fn new_entries_are_written_and_read(rt: HostRuntime) -> Result<(), Fail> {
         // differ the key isn't read.
         let pieces = if key_len > 16398 { 2 } else { 1 };
         let answers = [(true, 8 + 1 + pieces), (false, 8 + 1), (false, 8 + 1)];
-        assert!(rt;
-            counted_three(&mut f, entry, &mut key) == Ok(answers),
-            "{key_len} bytes"
-        );
+        assert!(rt; counted_three(&mut f, entry, &mut key) == Ok(answers));
     }
-    Ok(())
-}
-
-// A new plain entry with a key of three bytes, in the first block and with the first node, where they stand.
-fn short_entry(files: &BlockFiles, key: &[u8]) -> Option<NewEntry>
-    requires { length key.now ≡ 3 }
-    ensures fits { IfSome result (λ new. FitsKey files.now new key.now) }
-    ensures short { IfSome result (λ new. new.long_key ≡ None) }
-{
-    let entry = entry_of(files, 0xA001_0000)?;
-    let node = node_of(files, NODE)?;
-    if !may_have(entry, 3) {
-        return None;
-    }
-    Some(NewEntry {
-        entry,
-        node,
-        long_key: None,
-        child: false,
-        dirty: MARK,
-        next: NEXT,
-    })
-}
-
-// Writes that entry, writes its key once more as data of its block, and reads it there.
-fn write_and_read<F: Folder>(f: &mut F, key: &[u8], out: &mut [u8]) -> Result<bool, Fault>
-    requires key { length key.now ≡ 3 }
-    requires out { length out.old ≡ 3 }
-{
-    let files = BlockFiles::load(f)?;
-    let Some(new) = short_entry(&files, key) else {
-        return Ok(false);
-    };
-    write_entry(f, &files, &new, key, MOMENT)?;
-    write_data(f, &files, new.entry, 96, key)?;
-    read_data(f, &files, new.entry, 96, out)?;
-    Ok(true)
-}
-
-#[test]
-fn a_folder_that_tells_its_files_gets_an_entry(rt: HostRuntime) -> Result<(), Fail> {
-    let mut f = folder(rt.alloc())?.into_inner();
-    let mut out = [0; 3];
-    assert_eq!(rt; write_and_read(&mut f, b"key", &mut out), Ok(true));
-    assert_eq!(rt; out, *b"key");
-    assert_eq!(rt; equals(&mut f, 0xA001_0000, b"key"), Ok(true));
     Ok(())
 }

@@ -1,10 +1,5 @@
 // The index and the block files of a folder that tells nothing.
-ghost use Rattle.std.specs.Prelude.{IfOk, IfSome};
-ghost use Rattle.std.specs.Option.{ForSome};
-ghost use Rattle.blk_disk.specs.Open.{IsOpen};
-
-use blk_disk::BlockFiles;
-use blk_io::{Failed, Fault, FileId, Folder, SilentFolder, write_word};
+use blk_io::{Failed, FileId, Folder, SilentFolder, write_word};
 
 // The length of a whole index, and that of each block file, which has 36864 bytes of blocks.
 pub(crate) const INDEX_LEN: u64 = 262512;
@@ -51,15 +46,4 @@ fn put_file<F: Folder>(
         write_word(f, file, *at, word)?;
     }
     Ok(())
-}
-
-// The block files of a folder whose index has its length.
-pub(crate) fn opened<F: Folder>(f: &mut F) -> Result<Option<BlockFiles>, Fault>
-    ensures is_open { IfOk result (λ files. IfSome files (λ files. ForSome (F.told f.new).files (IsOpen files))) }
-{
-    if f.length(FileId::Index)? != Some(INDEX_LEN) {
-        return Ok(None);
-    }
-    let files = BlockFiles::load(f)?;
-    Ok(Some(files))
 }

@@ -7,8 +7,6 @@ mod audit;
 #[cfg(test)]
 mod chain;
 #[cfg(test)]
-mod chain_told;
-#[cfg(test)]
 mod entry;
 #[cfg(test)]
 mod folders;

@@ -1,10 +1,8 @@
 // The use list of three nodes in a folder in memory, that tells nothing or all.
-ghost use Rattle.std.specs.Prelude.{IfOk, IfSome, IsTrue};
-ghost use Rattle.std.specs.Option.{ForSome};
+ghost use Rattle.std.specs.Prelude.{IfSome, IsTrue};
 ghost use Rattle.blk_disk.specs.Tables.{is_node_among};
-ghost use Rattle.blk_disk.specs.Open.{IsOpen};
 
-use crate::folders::{opened, put_all};
+use crate::folders::put_all;
 use blk_addr::Addr;
 use blk_disk::BlockFiles;
 use blk_io::{
@@ -18,12 +16,10 @@ use std::test::Fail;
 
 pub(crate) const NODES: [u32; 3] = [0x9000_0000, 0x9000_0001, 0x9000_0002];
 
-// The place of the first node, the bytes of a node, and the place of its seal.
+// The place of the first node, and the bytes of a node.
 const NODES_AT: u64 = 8192;
 
 const NODE_LEN: usize = 36;
-
-const SEAL: u32 = 32;
 
 // The moment of a touch, and the four words of the times that it sets.
 const MOMENT: u64 = 0x0123_4567_89AB_CDEF;
@@ -41,13 +37,6 @@ fn stopping(inner: MemFolder, steps: u64) -> Silent {
 // The folder with what was written, where so many more steps pass.
 fn again(f: Silent, steps: u64) -> Silent {
     stopping(f.into_inner().into_inner(), steps)
-}
-
-// A folder with an index of zeros and four block files, of which the first has nodes, and which tells its files.
-fn telling(alloc: Global) -> Result<MemFolder, Failed> {
-    let mut f = SilentFolder::new(MemFolder::new(alloc));
-    put_all(&mut f, [1024, 0, 0, 0])?;
-    Ok(f.into_inner())
 }
 
 // Such a folder, which tells nothing.
@@ -98,12 +87,11 @@ fn times<F: Folder>(f: &mut F, node: u32) -> Result<[u32; 4], Fault> {
     Ok(words)
 }
 
-// The links and the seal of a node.
+// The links of a node.
 #[derive(Clone, Copy)]
 struct Node {
     next: u32,
     prev: u32,
-    seal: u32,
 }
 
 // A node, where it checks.
@@ -119,21 +107,7 @@ fn checked<F: Folder>(f: &mut F, word: u32) -> Result<Option<Node>, Fault> {
     Ok(Some(Node {
         next: view.word(NodeView::NEXT as usize),
         prev: view.word(NodeView::PREV as usize),
-        seal: view.word(SEAL as usize),
     }))
-}
-
-// Whether each of these nodes checks by a seal that isn't 0.
-fn are_sealed<F: Folder>(f: &mut F, nodes: &[u32]) -> Result<bool, Fault> {
-    for word in nodes {
-        let Some(node) = checked(f, *word)? else {
-            return Ok(false);
-        };
-        if node.seal == 0 {
-            return Ok(false);
-        }
-    }
-    Ok(true)
 }
 
 // A change of the list.
@@ -394,90 +368,6 @@ fn completing_a_touch_may_be_stopped_twice(rt: HostRuntime) -> Result<(), Fail> 
     Ok(())
 }
 
-#[test]
-fn written_nodes_are_sealed(rt: HostRuntime) -> Result<(), Fail> {
-    let [zero, one, two] = NODES;
-    for (listed, change, word) in [
-        (&NODES[..2], Change::Insert, two),
-        (&NODES[..], Change::Remove, one),
-        (&NODES[..], Change::Touch, zero),
-    ] {
-        let (mut f, _) = stopped(rt.alloc(), listed, change, word, u64::MAX)?;
-        assert_eq!(rt; are_sealed(&mut f, &NODES), Ok(true));
-    }
-    Ok(())
-}
-
-// Completes the operation in flight, and says whether these nodes are sealed then.
-fn completed_and_sealed(f: Silent, files: &BlockFiles, nodes: &[u32]) -> Result<bool, Fault> {
-    let mut f = again(f, u64::MAX);
-    complete(&mut f, files)?;
-    are_sealed(&mut f, nodes)
-}
-
-#[test]
-fn completing_seals_the_nodes_of_the_list(rt: HostRuntime) -> Result<(), Fail> {
-    let [zero, one, two] = NODES;
-    let left = [zero, two];
-    for (listed, change, word, new) in [
-        (&NODES[..2], Change::Insert, two, &NODES[..]),
-        (&NODES[..], Change::Remove, one, &left[..]),
-        (&NODES[..], Change::Touch, zero, &NODES[..]),
-    ] {
-        for steps in 2..22 {
-            let (f, files) = stopped(rt.alloc(), listed, change, word, steps)?;
-            assert_eq!(rt; completed_and_sealed(f, &files, new), Ok(true));
-        }
-    }
-    Ok(())
-}
-
-// A folder whose list has the three nodes, with an operation in flight on a node; another one, if it is given, has a wrong seal.
-fn in_flight(
-    alloc: Global,
-    transaction: u32,
-    operation: u32,
-    broken: Option<u32>,
-) -> Result<(Silent, BlockFiles), Fail> {
-    let (mut f, files) = listing(alloc, &NODES)?;
-    write_word(&mut f, FileId::Index, IndexHead::OPERATION, operation)?;
-    write_word(&mut f, FileId::Index, IndexHead::TRANSACTION, transaction)?;
-    if let Some(node) = broken {
-        let seal = 1u32.to_le_bytes();
-        f.write_at(FileId::Block(0), place_of(node, SEAL), &seal)?;
-    }
-    Ok((f, files))
-}
-
-// Completes the operation: the number of folder calls, the words of the index then, and whether no node was linked anew.
-fn given_up(f: &mut Silent, files: &BlockFiles) -> Result<(u64, [u32; 4], bool), Fault> {
-    let (_, nexts, prevs) = shown(f)?;
-    let start = f.calls();
-    complete(f, files)?;
-    let calls = f.calls().wrapping_sub(start);
-    let (words, next, prev) = shown(f)?;
-    Ok((calls, words, next == nexts && prev == prevs))
-}
-
-#[test]
-fn operation_that_does_not_count_is_given_up(rt: HostRuntime) -> Result<(), Fail> {
-    let [zero, one, two] = NODES;
-    for (transaction, operation, broken, calls) in [
-        (0x9000_0400, 1, None, 2),
-        (0x1234, 3, None, 2),
-        (one, 4, None, 4),
-        (zero, 0, None, 4),
-        (one, 2, Some(one), 3),
-        (zero, 1, Some(two), 6),
-        (one, 2, Some(zero), 5),
-    ] {
-        let (mut f, files) = in_flight(rt.alloc(), transaction, operation, broken)?;
-        let words = [two, zero, 0, operation];
-        assert!(rt; given_up(&mut f, &files) == Ok((calls, words, true)));
-    }
-    Ok(())
-}
-
 // The number of folder calls that complete the operation, and of those that find none then.
 fn calls_of_completing(f: Silent, files: &BlockFiles) -> Result<[u64; 2], Fault> {
     let mut f = again(f, u64::MAX);
@@ -527,78 +417,12 @@ fn outcome(f: &mut Silent, files: &BlockFiles, call: Call, word: u32) -> Result<
     }
 }
 
-// What a call on node 1 of three listed ones answers, where a word of a file is another one.
-fn with_word(
-    alloc: Global,
-    call: Call,
-    file: FileId,
-    at: u64,
-    word: u32,
-) -> Result<Result<(), Fault>, Fail> {
-    let (mut f, files) = listing(alloc, &NODES)?;
-    f.write_at(file, at, &word.to_le_bytes())?;
-    Ok(outcome(&mut f, &files, call, NODES[1]))
-}
-
 // And where a file is cut.
 fn cut(alloc: Global, call: Call, file: FileId, size: u64) -> Result<Result<(), Fault>, Fail> {
     let (mut f, files) = listing(alloc, &NODES)?;
     write_word(&mut f, FileId::Index, IndexHead::TRANSACTION, NODES[1])?;
     f.set_len(file, size)?;
     Ok(outcome(&mut f, &files, call, NODES[1]))
-}
-
-#[test]
-fn words_that_name_no_node_are_damages(rt: HostRuntime) -> Result<(), Fail> {
-    let nodes = FileId::Block(0);
-    let prev = place_of(NODES[1], NodeView::PREV);
-    let next = place_of(NODES[1], NodeView::NEXT);
-    for (call, file, at) in [
-        (Call::First, FileId::Index, IndexHead::HEADS),
-        (Call::Last, FileId::Index, IndexHead::TAILS),
-        (Call::Before, nodes, prev),
-        (Call::After, nodes, next),
-        (Call::Insert, FileId::Index, IndexHead::HEADS),
-        (Call::Remove, nodes, prev),
-        (Call::Remove, nodes, next),
-        (Call::Touch, FileId::Index, IndexHead::HEADS),
-        (Call::Touch, nodes, prev),
-    ] {
-        let found = 0x9000_0400;
-        let damage = Fault::Damaged(Damage { file, at, found });
-        assert_eq!(rt; with_word(rt.alloc(), call, file, at, found)?, Err(damage));
-    }
-    Ok(())
-}
-
-#[test]
-fn links_of_a_node_that_is_not_listed_are_damages(rt: HostRuntime) -> Result<(), Fail> {
-    let file = FileId::Block(0);
-    let at = place_of(NODES[1], NodeView::NEXT);
-    for call in [Call::After, Call::Remove, Call::Touch] {
-        let damage = Fault::Damaged(Damage { file, at, found: 0 });
-        assert_eq!(rt; with_word(rt.alloc(), call, file, at, 0)?, Err(damage));
-    }
-    Ok(())
-}
-
-#[test]
-fn nodes_that_do_not_check_are_not_written(rt: HostRuntime) -> Result<(), Fail> {
-    let file = FileId::Block(0);
-    for (call, node) in [
-        (Call::Insert, NODES[1]),
-        (Call::Insert, NODES[2]),
-        (Call::Remove, NODES[0]),
-        (Call::Remove, NODES[1]),
-        (Call::Remove, NODES[2]),
-        (Call::Touch, NODES[1]),
-        (Call::Touch, NODES[2]),
-    ] {
-        let at = place_of(node, SEAL);
-        let damage = Fault::Damaged(Damage { file, at, found: 1 });
-        assert_eq!(rt; with_word(rt.alloc(), call, file, at, 1)?, Err(damage));
-    }
-    Ok(())
 }
 
 #[test]
@@ -622,49 +446,5 @@ fn short_reads_are_damages(rt: HostRuntime) -> Result<(), Fail> {
         let damage = Fault::Damaged(Damage { file, at, found });
         assert_eq!(rt; cut(rt.alloc(), call, file, size)?, Err(damage));
     }
-    Ok(())
-}
-
-// Inserts three nodes, touches the last one, and takes the first two out but for that one.
-fn change_each<F: Folder>(f: &mut F) -> Result<Option<BlockFiles>, Fault>
-    ensures is_open { IfOk result (λ files. IfSome files (λ files. ForSome (F.told f.new).files (IsOpen files))) }
-{
-    let Some(files) = opened(f)? else {
-        return Ok(None);
-    };
-    let Some((zero, one, two)) = three(&files) else {
-        return Ok(None);
-    };
-    insert_front(f, &files, zero)?;
-    insert_front(f, &files, one)?;
-    insert_front(f, &files, two)?;
-    touch(f, &files, zero, MOMENT)?;
-    remove(f, &files, two)?;
-    complete(f, &files)?;
-    Ok(Some(files))
-}
-
-// Each call once, on a folder whose conditions are checked: the first, the last, those beside the nodes 0 and 1, and the number of pending writes.
-fn each_call<F: Folder>(f: &mut F) -> Result<Option<([Option<u32>; 4], usize)>, Fault> {
-    let Some(files) = change_each(f)? else {
-        return Ok(None);
-    };
-    let Some((zero, one, _)) = three(&files) else {
-        return Ok(None);
-    };
-    let pending = pending(f, &files)?.len();
-    let first = first(f, &files)?.map(|node| node.word());
-    let last = last(f, &files)?.map(|node| node.word());
-    let before = before(f, &files, one)?.map(|node| node.word());
-    let after = after(f, &files, zero)?.map(|node| node.word());
-    Ok(Some(([first, last, before, after], pending)))
-}
-
-#[test]
-fn each_call_on_a_folder_that_tells_its_files(rt: HostRuntime) -> Result<(), Fail> {
-    let [zero, one, _] = NODES;
-    let mut f = telling(rt.alloc())?;
-    let words = [Some(zero), Some(one), Some(zero), Some(one)];
-    assert_eq!(rt; each_call(&mut f), Ok(Some((words, 0))));
     Ok(())
 }

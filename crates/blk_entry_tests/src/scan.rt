@@ -1,13 +1,12 @@
 // The verdict on a node, in a small folder in memory that tells nothing.
-ghost use Rattle.std.specs.Prelude.{◌<◌, ◌≤◌, length};
+ghost use Rattle.std.specs.Prelude.{◌<◌, length};
 
-use crate::folders::{INDEX_LEN, put_files};
+use crate::folders::put_files;
 use blk_addr::{Addr, Kind};
-use blk_audit::{Lists, ScanFault, WalkedNode, read_lists};
+use blk_audit::WalkedNode;
 use blk_disk::BlockFiles;
-use blk_entry::LONGEST_NAME;
-use blk_io::{Failed, Fault, FileId, Folder, MemFolder, SilentFolder, StopFolder, write_word};
-use blk_verdict::{Role, Verdict, has_part, is_child, load, load_walked, unlisted};
+use blk_io::{Failed, Fault, FileId, Folder, MemFolder, SilentFolder};
+use blk_verdict::{Role, Verdict, has_part, load};
 use std::alloc::Global;
 use std::test::Fail;
 
@@ -138,7 +137,7 @@ fn a_wrong_word_is_a_reason(rt: HostRuntime) -> Result<(), Fail> {
         (72, 0, 1, 12),
         (72, 0, 2, 12),
     ] {
-        assert_eq!(rt; reason_of(&mut f, at, old, word), Ok(reason), "{at}");
+        assert_eq!(rt; reason_of(&mut f, at, old, word), Ok(reason));
     }
     assert_eq!(rt; reasons_of_a_file(&mut f), Ok([11, 0]));
     Ok(())
@@ -195,99 +194,5 @@ fn a_parent_and_a_part_have_their_index(rt: HostRuntime) -> Result<(), Fail> {
     let mut f = part(rt.alloc())?;
     assert_eq!(rt; part_of(&mut f), Ok(Some(0)));
     assert_eq!(rt; reason_of_a_shorter_part(&mut f), Ok(12));
-    Ok(())
-}
-
-type Counted = SilentFolder<StopFolder>;
-
-// The entries of the larger folder, and the blocks of its files of nodes and of records.
-const ENTRIES: u32 = 4000;
-
-const ROOM: u32 = 4096;
-
-// A folder of many plain entries, which are one chain, and of one record behind them that no node names.
-fn many(alloc: Global) -> Result<Counted, Failed> {
-    let inner = StopFolder::new(MemFolder::without_trail(alloc), u64::MAX);
-    let mut f = SilentFolder::new(inner);
-    f.set_len(FileId::Index, INDEX_LEN)?;
-    put_files(&mut f, 8192 + 256 * u64::from(ROOM), [ROOM; 4])?;
-    write_word(&mut f, FileId::Index, 288, 0x9000_0000)?;
-    write_word(&mut f, FileId::Index, 368 + 4 * 0x198A, ENTRY)?;
-    for i in 0..ENTRIES {
-        put_entry(&mut f, i)?;
-    }
-    put_linked(&mut f, ENTRIES, 0x9000_0000, 0)?;
-    Ok(f)
-}
-
-// Writes an entry whose node is walked behind that of the one before it.
-fn put_entry(f: &mut Counted, i: u32) -> Result<(), Failed>
-    requires { i < 4000 }
-{
-    let place = 8192 + 36 * u64::from(i);
-    let node = 0x9000_0000 + i;
-    let next = if i + 1 == ENTRIES { node } else { node + 1 };
-    let prev = if i == 0 { node } else { node - 1 };
-    for (at, word) in [(16, next), (20, prev), (24, ENTRY + i)] {
-        write_word(f, FileId::Block(0), place + at, word)?;
-    }
-    put_linked(f, i, node, ENTRY + i + 1)
-}
-
-// Writes a record with the key abc.
-fn put_linked(f: &mut Counted, i: u32, node: u32, next: u32) -> Result<(), Failed>
-    requires { i ≤ 4000 }
-{
-    let place = 8192 + 256 * u64::from(i);
-    for (at, word) in [(0, 0xD2BE_198A), (4, next), (8, node), (32, 3)] {
-        write_word(f, RECORDS, place + at, word)?;
-    }
-    f.write_at(RECORDS, place + 96, b"abc")
-}
-
-// How many of the walked nodes are loaded and name no part.
-fn count_loaded(f: &mut Counted, files: &BlockFiles, lists: &Lists) -> Result<u32, Fault> {
-    let mut count: u32 = 0;
-    for i in 0..lists.walked.count() {
-        if is_loaded(f, files, lists, i)? {
-            count = count.wrapping_add(1);
-        }
-    }
-    Ok(count)
-}
-
-// Whether one of the walked nodes is.
-fn is_loaded(f: &mut Counted, files: &BlockFiles, lists: &Lists, i: usize) -> Result<bool, Fault> {
-    let Some(node) = lists.node(i) else {
-        return Ok(false);
-    };
-    if is_child(f, files, lists, &node)? {
-        return Ok(false);
-    }
-    let mut name = [0u8; LONGEST_NAME as usize];
-    match load_walked(f, files, lists, &node, &mut name)? {
-        Verdict::Loaded(_) => Ok(true),
-        Verdict::Dropped(_) => Ok(false),
-    }
-}
-
-// The numbers of the nodes that are loaded and of the records that are unlisted.
-fn judged_alone(alloc: Global, f: &mut Counted) -> Result<(u32, usize), ScanFault> {
-    let files = BlockFiles::load(f)?;
-    let lists = read_lists(alloc, f, &files)?;
-    let loaded = count_loaded(f, &files, &lists)?;
-    let others = unlisted(alloc, f, &files, &lists)?;
-    Ok((loaded, others.len()))
-}
-
-#[test]
-fn plain_entries_are_judged_in_memory(rt: HostRuntime) -> Result<(), Fail> {
-    let mut f = many(rt.alloc())?;
-    let start = f.calls();
-    match judged_alone(rt.alloc(), &mut f) {
-        Ok(counts) => assert_eq!(rt; counts, (4000, 1)),
-        Err(_) => panic!(rt; "they are judged"),
-    }
-    assert!(rt; f.calls().wrapping_sub(start) <= 120);
     Ok(())
 }

@@ -223,7 +223,7 @@ fn a_stream_lies_in_the_storage_of_its_length(rt: HostRuntime) -> Result<(), Fai
         let mut f = bare(rt.alloc())?;
         let bytes = pattern(rt.alloc(), 0, size)?;
         let found = Ok(([size as u32, addr], file, owned(size)));
-        assert!(rt; stored(&mut f, false, &bytes) == found, "{size}");
+        assert!(rt; stored(&mut f, false, &bytes) == found);
     }
     Ok(())
 }
@@ -272,7 +272,7 @@ fn streams_are_grown_and_cut_into_each_other(rt: HostRuntime) -> Result<(), Fail
     for old in sizes {
         for new in sizes {
             for size in [old, new] {
-                assert!(rt; resized(rt.alloc(), &mut f, had, size)?, "{had} {size}");
+                assert!(rt; resized(rt.alloc(), &mut f, had, size)?);
                 had = size;
             }
         }
@@ -317,7 +317,7 @@ fn four_hundred_random_writes_leave_what_a_list_holds(rt: HostRuntime) -> Result
         let offset = (seed >> 8) as usize % 18000;
         let bytes = pattern(rt.alloc(), n as usize, (seed >> 4) as usize % 3000)?;
         let cut = seed >= 0xC000_0000;
-        assert!(rt; alike(&mut f, &mut list, offset, cut, &bytes)?, "{n}");
+        assert!(rt; alike(&mut f, &mut list, offset, cut, &bytes)?);
     }
     Ok(())
 }
@@ -458,11 +458,7 @@ fn at_each_word_of_a_move_the_record_names_old_bytes_or_new(rt: HostRuntime) -> 
             cut,
             bytes: pattern(rt.alloc(), 100, count)?,
         };
-        assert_eq!(rt;
-            first_wrong(rt.alloc(), &write, sized, all)?,
-            None,
-            "{had} {count}"
-        );
+        assert_eq!(rt; first_wrong(rt.alloc(), &write, sized, all)?, None);
     }
     Ok(())
 }
@@ -506,7 +502,7 @@ fn a_piece_is_read_by_two_calls(rt: HostRuntime) -> Result<(), Fail> {
     ] {
         let mut out = [7; 6];
         let read = get(&mut f, stream, offset, &mut out);
-        assert!(rt; read == Ok(answer) && out == bytes, "{stream} {offset}");
+        assert!(rt; read == Ok(answer) && out == bytes);
     }
     Ok(())
 }
@@ -573,7 +569,7 @@ fn wrong_words_are_damages(rt: HostRuntime) -> Result<(), Fail> {
         let at = 8192 + at;
         let wrong = Some(Fault::Damaged(Damage { file, at, found }));
         let faults = faults_of(&mut f, size, addr);
-        assert!(rt; faults == Ok([wrong, wrong]), "{size} {addr}");
+        assert!(rt; faults == Ok([wrong, wrong]));
     }
     Ok(())
 }
