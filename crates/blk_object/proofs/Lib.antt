@@ -11,3 +11,4 @@ pub mod RemovedObjects
 pub mod OneMoreTaken
 pub mod TakenParts
 pub mod FoundEntries
+pub mod CountsOut

@@ -127,10 +127,10 @@ counted-less counts charge from image are bytes c set =
       set = set;
     }
 
-one-less : (x n m : ℕ) → x < 2 ^ 32 → (x + 1) % 2 ^ 32 ≡ n → m + 1 ≡ n → x ≡ m
+pub one-less : (x n m : ℕ) → x < 2 ^ 32 → (x + 1) % 2 ^ 32 ≡ n → m + 1 ≡ n → x ≡ m
 one-less x n m small is less = omega (arith, small, is, less)
 
-charge-less : (x s t c : ℕ) → x < 2 ^ 32 → (x + c % 2 ^ 32) % 2 ^ 32 ≡ t % 2 ^ 32 → s + c ≡ t → x ≡ s % 2 ^ 32
+pub charge-less : (x s t c : ℕ) → x < 2 ^ 32 → (x + c % 2 ^ 32) % 2 ^ 32 ≡ t % 2 ^ 32 → s + c ≡ t → x ≡ s % 2 ^ 32
 charge-less x s t c small is less = omega (arith, small, is, less)
 
 pub less-counted : LessIsCounted

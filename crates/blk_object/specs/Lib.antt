@@ -3,6 +3,7 @@ pub mod Removing
 pub mod Freeing
 pub mod Owning
 pub mod RemovingCounts
+pub mod RemovingNext
 pub mod RemovingObjects
 pub mod RemovingParts
 pub mod RemovingFound

@@ -1,6 +1,7 @@
 //! The objects of a folder that keeps a state of the map: how one is made, and how one goes, with what is found at each word.
 #![tactic(auto)]
 
+mod counting_laws;
 mod freeing;
 mod freeing_laws;
 mod making;
@@ -11,6 +12,7 @@ mod removing_counts;
 mod removing_laws;
 mod removing_objects;
 
+pub use counting_laws::left_items_are_counted;
 pub use freeing::free_places;
 pub use freeing_laws::freed_words_are_gone;
 pub use owning::{Owned, free_owned, read_owned};
