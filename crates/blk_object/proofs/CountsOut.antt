@@ -1,8 +1,14 @@
 -- The counters while items of an object are out.
-use Rattle.std.proofs.Common.{◌≡◌, ℕ, ◌%◌, List, [], ◌∷◌, refl, ap, sym, ◌∙◌, subst, lit≤, Bool, true, false, Option, None, Some, length}
+use Rattle.std.proofs.Common.{◌≡◌, ℕ, ◌%◌, ◌<◌, List, [], ◌∷◌, refl, ap, sym, ◌∙◌, subst, lit≤, Bool, true, false, Option, None, Some, length}
 use Rattle.std.specs.Prelude.{◌^◌, filter}
 use Rattle.std.specs.List.{sum_by}
+use Rattle.std.specs.Option.{ForSome}
 use Rattle.blk_image.specs.Image.{Image}
+use Rattle.blk_image.specs.Steps.{word_step}
+use Rattle.blk_image.specs.Told.{Along, AppliesPrefix, Passes, Told}
+use Rattle.blk_image.proofs.Runs.{passes_part, some_inj}
+use Rattle.blk_disk.specs.declared.tables.BlockFiles.{BlockFiles}
+use Rattle.blk_disk.specs.Open.{IsOpen}
 use Rattle.blk_model.specs.Effects.{doomed}
 use Rattle.blk_model.specs.Items.{Item}
 use Rattle.blk_model.specs.Room.{whole, without}
@@ -30,7 +36,7 @@ use Rattle.blk_kept.proofs.PartlyOut.{partly-out-ends}
 use Rattle.blk_kept.proofs.Writes.{index-words, other-word}
 use Rattle.blk_object.specs.RemovingCounts.{AreCountedLess}
 use Rattle.blk_object.specs.RemovingNext.{CountedLessIsStillOut, CountedOutDoomsEnd, CountedOutEndsKept, CountedOutGroupsAreGone, CountsLeft, KeepsOut, KeptStatesCountAll, NextItemsAreCountedLess}
-use Rattle.blk_object.proofs.RemovingCounts.{charge-less, one-less}
+use Rattle.blk_object.proofs.RemovingCounts.{bytes-set, charge-less, counter_steps, entries-set, first, one-less, quiet-counters, second, size-set, third}
 
 -- ---- the counters that are written
 
@@ -54,6 +60,29 @@ still-out charge from image l state layout keep chains unlinked k =
     size-out l.set.second image l.size l.set.size_set state layout keep chains unlinked
     (bytes-out l.set.first l.set.second l.bytes l.set.bytes_set state layout keep chains unlinked
     (entries-out from l.set.first l.entries l.set.entries_set state layout keep chains unlinked k))
+
+module _ (files : BlockFiles) (from : Image) (entries bytes size : ℕ) (open_folder : IsOpen files from) (small_entries : entries < 2 ^ 32) (small_bytes : bytes < 2 ^ 32) (small_size : size < 2 ^ 32) where
+  first-out : KeepsOut from (first files from entries bytes size open_folder small_entries small_bytes small_size)
+  first-out = entries-out from (first files from entries bytes size open_folder small_entries small_bytes small_size) entries (entries-set files from entries bytes size open_folder small_entries small_bytes small_size)
+
+  second-out : KeepsOut from (second files from entries bytes size open_folder small_entries small_bytes small_size)
+  second-out state layout keep chains unlinked k =
+      bytes-out (first files from entries bytes size open_folder small_entries small_bytes small_size) (second files from entries bytes size open_folder small_entries small_bytes small_size) bytes (bytes-set files from entries bytes size open_folder small_entries small_bytes small_size)
+      state layout keep chains unlinked (first-out state layout keep chains unlinked k)
+
+  third-out : KeepsOut from (third files from entries bytes size open_folder small_entries small_bytes small_size)
+  third-out state layout keep chains unlinked k =
+      size-out (second files from entries bytes size open_folder small_entries small_bytes small_size) (third files from entries bytes size open_folder small_entries small_bytes small_size) size (size-set files from entries bytes size open_folder small_entries small_bytes small_size)
+      state layout keep chains unlinked (second-out state layout keep chains unlinked k)
+
+  out-along : Along (KeepsOut from) from (counter_steps entries bytes size)
+  unfolding word_step
+  out-along = ((λ state layout keep chains unlinked k. k), (first-out, (second-out, third-out)))
+
+-- at each word what is kept while some items are out is kept still
+pub counters-stop-out : (files : BlockFiles) (a b : Told) (entries bytes size : ℕ) → ForSome a.files (IsOpen files) → entries < 2 ^ 32 → bytes < 2 ^ 32 → size < 2 ^ 32 → AppliesPrefix a b (counter_steps entries bytes size) → ForSome a.files (λ from. Passes a b (KeepsOut from))
+counters-stop-out files a b entries bytes size open_folder small_entries small_bytes small_size part from there = passes_part (KeepsOut from) (KeepsOut from) part (quiet-counters entries bytes size) (λ image keeps. keeps)
+    (λ image is. subst (λ (i : Image). Along (KeepsOut from) i (counter_steps entries bytes size)) (some_inj (sym there ∙ is)) (out-along files from entries bytes size (open_folder from there) small_entries small_bytes small_size))
 
 -- ---- what is counted
 

@@ -36,28 +36,28 @@ open-word files from at x is open_folder = record {
 }
 
 module _ (files : BlockFiles) (from : Image) (entries bytes size : ℕ) (open_folder : IsOpen files from) (small_entries : entries < 2 ^ 32) (small_bytes : bytes < 2 ^ 32) (small_size : size < 2 ^ 32) where
-  abbrev first : Image
+  abbrev pub first : Image
   first = after (word_step Index 8 entries) from
 
-  abbrev second : Image
+  abbrev pub second : Image
   second = after (word_step Index 12 bytes) first
 
-  abbrev third : Image
+  abbrev pub third : Image
   third = after (word_step Index 268 size) second
 
-  entries-set : IsIndexWord 8 entries from first
+  pub entries-set : IsIndexWord 8 entries from first
   entries-set = index_word from 8 entries small_entries (subst (λ (n : ℕ). 12 ≤ n) (sym open_folder.whole_index) (lit≤ tt))
 
   first-open : IsOpen files first
   first-open = open-word files from 8 entries entries-set open_folder
 
-  bytes-set : IsIndexWord 12 bytes first second
+  pub bytes-set : IsIndexWord 12 bytes first second
   bytes-set = index_word first 12 bytes small_bytes (subst (λ (n : ℕ). 16 ≤ n) (sym first-open.whole_index) (lit≤ tt))
 
   second-open : IsOpen files second
   second-open = open-word files first 12 bytes bytes-set first-open
 
-  size-set : IsIndexWord 268 size second third
+  pub size-set : IsIndexWord 268 size second third
   size-set = index_word second 268 size small_size (subst (λ (n : ℕ). 272 ≤ n) (sym second-open.whole_index) (lit≤ tt))
 
   third-open : IsOpen files third
@@ -85,7 +85,7 @@ module _ (files : BlockFiles) (from : Image) (entries bytes size : ℕ) (open_fo
   unfolding word_step
   counters-end = record { first = first; second = second; entries_set = entries-set; bytes_set = bytes-set; size_set = size-set }
 
-quiet-counters : (entries bytes size : ℕ) → IsQuiet (counter_steps entries bytes size)
+pub quiet-counters : (entries bytes size : ℕ) → IsQuiet (counter_steps entries bytes size)
 unfolding word_step
 quiet-counters entries bytes size = tt
 

@@ -1,4 +1,5 @@
 use Rattle.std.proofs.lemmas.Result.{on_ok_weaker}
+use Rattle.blk_object.proofs.CountsOut.{counters-stop-out}
 use Rattle.blk_object.proofs.RemovingCounts.{counters-open, counters-set, counters-stop}
 use Rattle.blk_object.proofs.removing_counts.set_counts.Goals as goal
 
@@ -10,3 +11,6 @@ returns-clause-stops g c = counters-stop c.args.files.now (g.F.Folder.told c.arg
 
 pub returns-clause-is_open : goal.returns-clause-is_open
 returns-clause-is_open g c = counters-open c.args.files.now (g.F.Folder.told c.args.f.now) (g.F.Folder.told c.write_words.new.f) c.args.entries c.args.bytes c.args.size c.requires.is_open c.ranges.entries.fits c.ranges.bytes.fits c.ranges.size.fits c.write_words.ensures.prefix
+
+pub returns-clause-stops_out : goal.returns-clause-stops_out
+returns-clause-stops_out g c = counters-stop-out c.args.files.now (g.F.Folder.told c.args.f.now) (g.F.Folder.told c.write_words.new.f) c.args.entries c.args.bytes c.args.size c.requires.is_open c.ranges.entries.fits c.ranges.bytes.fits c.ranges.size.fits c.write_words.ensures.prefix
