@@ -12,3 +12,4 @@ pub mod OneMoreTaken
 pub mod TakenParts
 pub mod FoundEntries
 pub mod CountsOut
+pub mod GoingNext

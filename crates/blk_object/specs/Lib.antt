@@ -4,6 +4,7 @@ pub mod Freeing
 pub mod Owning
 pub mod RemovingCounts
 pub mod RemovingNext
+pub mod NextItems
 pub mod RemovingObjects
 pub mod RemovingParts
 pub mod RemovingFound

@@ -11,6 +11,7 @@ mod removing;
 mod removing_counts;
 mod removing_laws;
 mod removing_objects;
+mod removing_parts;
 
 pub use counting_laws::left_items_are_counted;
 pub use freeing::free_places;
@@ -24,3 +25,4 @@ pub use removing_laws::{
     taken_parts_are_out,
 };
 pub use removing_objects::remove_item;
+pub use removing_parts::remove_next;
