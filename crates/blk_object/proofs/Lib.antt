@@ -13,3 +13,4 @@ pub mod TakenParts
 pub mod FoundEntries
 pub mod CountsOut
 pub mod GoingNext
+pub mod PartNames

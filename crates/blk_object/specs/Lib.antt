@@ -5,6 +5,7 @@ pub mod Owning
 pub mod RemovingCounts
 pub mod RemovingNext
 pub mod NextItems
+pub mod ListedParts
 pub mod RemovingObjects
 pub mod RemovingParts
 pub mod RemovingFound

@@ -1,0 +1,78 @@
+-- The parts of a key in the use list, and the first of them.
+use Rattle.std.specs.Prelude.{◌≡◌, ℕ, ◌<◌, List, [], ◌∷◌, ◌++◌, Bool, Option, None, Some, Ok, false, true, if◌then◌else◌}
+use Rattle.std.specs.List.{AllByRecursion}
+use Rattle.std.specs.Option.{option_map}
+use Rattle.std.specs.Str.{bytes_eq}
+use Rattle.blk_image.specs.Image.{Image}
+use Rattle.blk_model.specs.Items.{Item, main, part}
+use Rattle.blk_model.specs.Sizes.{part_count}
+use Rattle.blk_format.specs.Address.{blocks_256, kind_of}
+use Rattle.blk_format.specs.Names.{Name}
+use Rattle.blk_volume.specs.Entries.{IsParent, IsPart, IsPlain, Role}
+use Rattle.blk_volume.specs.Layout.{Layout}
+use Rattle.blk_volume.specs.Loads.{Loaded, Rule, load}
+use Rattle.blk_volume.specs.View.{store_of}
+use Rattle.blk_disk.specs.declared.tables.BlockFiles.{BlockFiles}
+use Rattle.blk_disk.specs.Tables.{is_node_among, stands_among}
+use Rattle.blk_object.specs.declared.listed_parts.ListedPart.{ListedPart}
+
+-- What is read at a node.
+
+-- this is what a node names, by some rule
+pub record LoadsAt (node : ℕ) (loaded : Loaded) (image : Image) : Type 0 where
+  pub rule : Rule
+  pub loads : load (store_of image) rule node ≡ Ok loaded
+
+-- the number of the part of a key that a name says, if it says one
+abbrev pub number_said : List ℕ → Option Name → Option ℕ
+number_said key None = None
+number_said key (Some name) = if bytes_eq name.key key then Some name.part else None
+
+-- the number of the part of a key that a record is, if it is one
+abbrev pub part_number : List ℕ → Role → Option ℕ
+part_number key IsPlain = None
+part_number key (IsParent index) = None
+part_number key (IsPart name index) = number_said key (Some name)
+
+-- the part of a key that lies at a node, if one does
+abbrev pub part_loaded : List ℕ → ℕ → Loaded → Option ListedPart
+part_loaded key node loaded = option_map (λ number. record { node = node; entry = loaded.contents; number = number }) (part_number key loaded.role)
+
+-- the node and the record of a part are there, and its number is one of a part
+pub record IsPartThere (files : BlockFiles) (found : ListedPart) : Type 0 where
+  pub node : is_node_among files found.node ≡ true
+  pub kind : kind_of found.entry ≡ blocks_256
+  pub stands : stands_among files found.entry ≡ true
+  pub number : found.number < part_count
+
+-- What is found in a state.
+
+-- whether an item is a part of a key
+abbrev pub is_part_of : List ℕ → Item → Bool
+is_part_of key (main other) = false
+is_part_of key (part other n) = bytes_eq other key
+
+-- none of some items is a part of a key
+abbrev pub HaveNoPart : List ℕ → List Item → Type 0
+HaveNoPart key items = AllByRecursion (λ item. is_part_of key item ≡ false) items
+
+-- the first of some items that is a part of a key lies there
+pub record IsFirstPart (layout : Layout) (key : List ℕ) (items : List Item) (found : ListedPart) : Type 0 where
+  pub passed : List Item
+  pub behind : List Item
+  pub split : items ≡ passed ++ part key found.number ∷ behind
+  pub none : HaveNoPart key passed
+  pub node_is : layout.place (part key found.number) ≡ found.node
+  pub was : Loaded
+  pub here : layout.at (layout.place (part key found.number)) ≡ Some was
+  pub entry_is : was.contents ≡ found.entry
+
+-- what is found among some items is their first part of a key, or none where they have none
+abbrev pub IsFoundPart : Layout → List ℕ → List Item → Option ListedPart → Type 0
+IsFoundPart layout key items None = HaveNoPart key items
+IsFoundPart layout key items (Some found) = IsFirstPart layout key items found
+
+-- these of some items are searched: all, or those behind the one that lies at a node
+abbrev pub AreSearched : Layout → Option ℕ → (all items : List Item) → Type 0
+AreSearched layout None all items = all ≡ items
+AreSearched layout (Some node) all items = (first : List Item) × (item : Item) × (all ≡ first ++ item ∷ items) × (layout.place item ≡ node)
