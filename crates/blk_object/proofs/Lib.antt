@@ -14,3 +14,4 @@ pub mod FoundEntries
 pub mod CountsOut
 pub mod GoingNext
 pub mod PartNames
+pub mod WalkedParts

@@ -1,11 +1,12 @@
 -- The parts of a key in the use list, and the first of them.
-use Rattle.std.specs.Prelude.{◌≡◌, ℕ, ◌<◌, List, [], ◌∷◌, ◌++◌, Bool, Option, None, Some, Ok, false, true, if◌then◌else◌}
+use Rattle.std.specs.Prelude.{◌≡◌, ℕ, ◌<◌, List, [], ◌∷◌, ◌++◌, Bool, Option, None, Some, Ok, false, filter, true, if◌then◌else◌}
 use Rattle.std.specs.List.{AllByRecursion}
 use Rattle.std.specs.Option.{option_map}
 use Rattle.std.specs.Str.{bytes_eq}
 use Rattle.blk_image.specs.Image.{Image}
 use Rattle.blk_model.specs.Items.{Item, main, part}
 use Rattle.blk_model.specs.Sizes.{part_count}
+use Rattle.blk_model.specs.State.{State}
 use Rattle.blk_format.specs.Address.{blocks_256, kind_of}
 use Rattle.blk_format.specs.Names.{Name}
 use Rattle.blk_volume.specs.Entries.{IsParent, IsPart, IsPlain, Role}
@@ -14,6 +15,7 @@ use Rattle.blk_volume.specs.Loads.{Loaded, Rule, load}
 use Rattle.blk_volume.specs.View.{store_of}
 use Rattle.blk_disk.specs.declared.tables.BlockFiles.{BlockFiles}
 use Rattle.blk_disk.specs.Tables.{is_node_among, stands_among}
+use Rattle.blk_kept.specs.PartlyOut.{KeepsPartlyOut}
 use Rattle.blk_object.specs.declared.listed_parts.ListedPart.{ListedPart}
 
 -- What is read at a node.
@@ -76,3 +78,15 @@ IsFoundPart layout key items (Some found) = IsFirstPart layout key items found
 abbrev pub AreSearched : Layout → Option ℕ → (all items : List Item) → Type 0
 AreSearched layout None all items = all ≡ items
 AreSearched layout (Some node) all items = (first : List Item) × (item : Item) × (all ≡ first ++ item ∷ items) × (layout.place item ≡ node)
+
+-- what holds wherever some items of a state are out, or none, of each search of the others
+abbrev pub ForEachSearch : Option ℕ → Image → (Layout → List Item → Type 0) → Type 0
+ForEachSearch from image P =
+    (state : State) (layout : Layout) (keep : Item → Bool) (chains : ℕ → List ℕ) (unlinked : List ℕ) (items : List Item)
+    → KeepsPartlyOut state layout keep chains unlinked image → AreSearched layout from (filter keep state.uses) items
+    → P layout items
+
+-- the node of the first of some items, or none
+abbrev pub first_node : Layout → List Item → Option ℕ
+first_node layout [] = None
+first_node layout (item ∷ items) = Some (layout.place item)

@@ -17,7 +17,7 @@ mod removing_parts;
 pub use counting_laws::left_items_are_counted;
 pub use freeing::free_places;
 pub use freeing_laws::freed_words_are_gone;
-pub use listed_parts::ListedPart;
+pub use listed_parts::{ListedPart, next_part};
 pub use owning::{Owned, free_owned, read_owned};
 pub use owning_laws::entries_of_states_load;
 pub use removing::take_out;

@@ -8,17 +8,22 @@ ghost use Rattle.blk_format.specs.Names.{read_name};
 ghost use Rattle.blk_volume.specs.Loads.{Loaded};
 ghost use Rattle.blk_volume.specs.View.{node_at};
 ghost use Rattle.blk_io.specs.Faults.{IfDamaged, IfDevice};
+ghost use Rattle.blk_disk.specs.Open.{IsOpen};
 ghost use Rattle.blk_disk.specs.Tables.{Agrees, is_node_among, stands_among};
 ghost use Rattle.blk_entry.specs.Keys.{most_key};
-ghost use Rattle.blk_object.specs.ListedParts.{IsPartThere, LoadsAt, number_said, part_loaded, part_number};
+ghost use Rattle.blk_object.specs.ListedParts.{ForEachSearch, IsFoundPart, IsPartThere, LoadsAt, first_node, number_said, part_loaded, part_number};
 ghost use Rattle.blk_object.specs.Owning.{LoadsWith};
 
 use blk_addr::Addr;
 use blk_disk::{BlockFiles, file_of};
 use blk_entry::{key_piece, read_head};
 use blk_io::{Damage, Fault, Folder};
+use blk_lru::{after, first};
 use blk_ranges::read_child_name;
 use blk_record::{BlockHead, NodeView, Record};
+
+// The most nodes of a use list.
+const MOST_NODES: u32 = 131_072;
 
 // The flags of the record of a part.
 const CHILD: u32 = 2;
@@ -34,8 +39,70 @@ pub struct ListedPart {
     pub number: u32,
 }
 
+/// The first part of a key in the use list, from its front on, or behind the node of an item; `None` where there is none.
+///
+/// Nothing is changed. Of each item this takes three folder calls for its node and its record, and of a part one more for
+/// its name, which is read into `room`. At most as many items are looked at as a cache may have.
+pub fn next_part<F: Folder>(
+    f: &mut F,
+    files: &BlockFiles,
+    key: &[u8],
+    from: Option<Addr>,
+    room: &mut [u8],
+) -> Result<Option<ListedPart>, Fault>
+    requires from { IfSome from (λ node. IsTrue (is_node_among files.now node)) }
+    requires room { most_key ≤ length room.old }
+    requires is_open { ForSome (F.told f.old).files (IsOpen files.now) }
+
+    // Where some items are out, or none, it is the first part of the key among the others, or behind that one; and there is none exactly where none is found.
+    ensures part { IfOk result (λ found. ForSome (F.told f.old).files (λ image. ForEachSearch from image (λ layout items. IsFoundPart layout key.now items found))) }
+    ensures there { IfOk result (λ found. IfSome found (IsPartThere files.now)) }
+
+    ensures stays { Stays (F.told f.old) (F.told f.new) }
+
+    // A folder that tells its files, in which a state is so, gives no damage.
+    ensures untold { ForSome (F.told f.old).files (λ image. ForEachSearch from image (λ layout items. IfDamaged result (λ _. (F.told f.old).files ≡ None))) }
+
+    ensures later { F.faults f.old ≤ F.faults f.new }
+    ensures device { IfDevice result (Rises (F.faults f.old) (F.faults f.new)) }
+{
+    let mut next = node_behind(f, files, from)?;
+    for _ in 0..MOST_NODES {
+        let Some(node) = next else {
+            return Ok(None);
+        };
+        let found = part_at(f, files, key, node, room)?;
+        if found.is_some() {
+            return Ok(found);
+        }
+        next = after(f, files, node)?;
+    }
+    Ok(None)
+}
+
+// The first node of the list, or the one behind a node.
+fn node_behind<F: Folder>(
+    f: &mut F,
+    files: &BlockFiles,
+    from: Option<Addr>,
+) -> Result<Option<Addr>, Fault>
+    requires from { IfSome from (λ node. IsTrue (is_node_among files.now node)) }
+    requires is_open { ForSome (F.told f.old).files (IsOpen files.now) }
+    ensures node { IfOk result (λ node. ForSome (F.told f.old).files (λ image. ForEachSearch from image (λ layout items. node ≡ first_node layout items))) }
+    ensures stands { IfOk result (λ node. IfSome node (λ n. IsTrue (is_node_among files.now n))) }
+    ensures stays { Stays (F.told f.old) (F.told f.new) }
+    ensures untold { ForSome (F.told f.old).files (λ image. ForEachSearch from image (λ layout items. IfDamaged result (λ _. (F.told f.old).files ≡ None))) }
+    ensures later { F.faults f.old ≤ F.faults f.new }
+    ensures device { IfDevice result (Rises (F.faults f.old) (F.faults f.new)) }
+{
+    match from {
+        Some(node) => after(f, files, node),
+        None => first(f, files),
+    }
+}
+
 // The part of a key at a node, if one lies there.
-pub(crate) fn part_at<F: Folder>(
+fn part_at<F: Folder>(
     f: &mut F,
     files: &BlockFiles,
     key: &[u8],
