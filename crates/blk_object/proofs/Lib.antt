@@ -15,3 +15,4 @@ pub mod CountsOut
 pub mod GoingNext
 pub mod PartNames
 pub mod WalkedParts
+pub mod PartsLeft

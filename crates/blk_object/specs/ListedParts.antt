@@ -16,6 +16,12 @@ use Rattle.blk_volume.specs.View.{store_of}
 use Rattle.blk_disk.specs.declared.tables.BlockFiles.{BlockFiles}
 use Rattle.blk_disk.specs.Tables.{is_node_among, stands_among}
 use Rattle.blk_kept.specs.PartlyOut.{KeepsPartlyOut}
+use Rattle.blk_kept.specs.PartlyOutStops.{LeavesOtherKeys}
+use Rattle.blk_chain.specs.Unlinking.{StandsBehind}
+use Rattle.blk_volume.specs.Removal.{is_of_another}
+use Rattle.blk_volume.specs.Searches.{bucket_of_key}
+use Rattle.blk_object.specs.NextItems.{LiesNext}
+use Rattle.blk_object.specs.RemovingNext.{CountsLeft}
 use Rattle.blk_object.specs.declared.listed_parts.ListedPart.{ListedPart}
 
 -- What is read at a node.
@@ -90,3 +96,20 @@ ForEachSearch from image P =
 abbrev pub first_node : Layout → List Item → Option ℕ
 first_node layout [] = None
 first_node layout (item ∷ items) = Some (layout.place item)
+
+-- What it is to the state.
+
+-- once the main item of a key is out, and none of what is left is a part of it, all items of the key are out, and the others are counted
+abbrev pub NoPartsLeftAreAllOut : Type 0
+NoPartsLeftAreAllOut =
+    (state : State) (layout : Layout) (keep : Item → Bool) (chains : ℕ → List ℕ) (unlinked key : List ℕ) (image : Image)
+    → KeepsPartlyOut state layout keep chains unlinked image → CountsLeft state layout keep image → LeavesOtherKeys key keep → HaveNoPart key (filter keep state.uses)
+    → KeepsPartlyOut state layout (is_of_another key) chains unlinked image × CountsLeft state layout (is_of_another key) image
+
+-- the first part that is found is listed, and isn't out; so it may go next, with the record before it in its chain
+abbrev pub FirstPartsLieNext : Type 0
+FirstPartsLieNext =
+    (state : State) (layout : Layout) (keep : Item → Bool) (chains : ℕ → List ℕ) (unlinked key : List ℕ) (from : Option ℕ) (items : List Item) (found : ListedPart) (before : Option ℕ) (prefix suffix : List ℕ) (image : Image)
+    → KeepsPartlyOut state layout keep chains unlinked image → AreSearched layout from (filter keep state.uses) items → (first : IsFirstPart layout key items found)
+    → StandsBehind (chains (bucket_of_key first.was.key)) found.entry before prefix suffix
+    → LiesNext state layout keep chains (part key found.number) found.node found.entry before

@@ -14,7 +14,7 @@ mod removing_laws;
 mod removing_objects;
 mod removing_parts;
 
-pub use counting_laws::left_items_are_counted;
+pub use counting_laws::{left_items_are_counted, parts_go_until_none_is_left};
 pub use freeing::free_places;
 pub use freeing_laws::freed_words_are_gone;
 pub use listed_parts::{ListedPart, next_part};
