@@ -1,93 +1,144 @@
--- The counters of the index are written, one after another.
-use Rattle.std.proofs.Common.{◌≡◌, ℕ, ◌+◌, ◌^◌, ◌<◌, ◌≤◌, List, [], ◌∷◌, refl, sym, ◌∙◌, subst, lit≤}
+-- The counters of the index are written, and count one entry less.
+use Rattle.std.proofs.Common.{◌≡◌, ℕ, ◌+◌, ◌%◌, ◌<◌, ◌≤◌, List, [], ◌∷◌, refl, sym, ◌∙◌, subst, arith, lit≤}
+use Rattle.std.specs.Prelude.{◌^◌, ◌-◌, length}
 use Rattle.std.specs.Option.{ForSome}
-use Rattle.blk_image.specs.Image.{Image, Index, length_of}
-use Rattle.blk_image.specs.Steps.{after, word_step, word_steps}
-use Rattle.blk_image.specs.Told.{Applies, AppliesPrefix, Passes, Told, Until}
 use Rattle.blk_image.specs.Footprint.{one_word}
-use Rattle.blk_image.proofs.Runs.{passes_part, told_part, told_whole, some_inj}
-use Rattle.blk_image.proofs.WordSteps.{quiet-word_steps}
-use Rattle.blk_format.specs.Headers.{HasWholeIndex}
-use Rattle.blk_laws.specs.IndexWrites.{IsIndexWord}
+use Rattle.blk_image.specs.Image.{AreBytes, Image, Index}
+use Rattle.blk_image.proofs.ByteSteps.{word-small}
+use Rattle.blk_image.specs.Bytes.{word_bytes}
+use Rattle.blk_image.specs.Steps.{TrailStep, after, word_step, word_steps}
+use Rattle.blk_image.specs.Told.{Along, Applies, AppliesPrefix, IsQuiet, Passes, Told}
+use Rattle.blk_image.proofs.Images.{length-after_write}
+use Rattle.blk_image.proofs.Runs.{passes_part, some_inj, told_part, told_whole}
 use Rattle.blk_disk.specs.declared.tables.BlockFiles.{BlockFiles}
 use Rattle.blk_disk.specs.Open.{IsOpen}
 use Rattle.blk_disk.proofs.Agreeing.{agrees_still}
 use Rattle.blk_chain.proofs.Links.{index_spares, index_word}
+use Rattle.blk_laws.specs.IndexWrites.{IsIndexWord}
 use Rattle.blk_kept.specs.Changes.{KeepsWith}
-use Rattle.blk_kept.proofs.Counters.{counter-keeps}
-use Rattle.blk_object.specs.Counters.{AreCountersWritten}
+use Rattle.blk_kept.proofs.Counters.{counter-keeps, counters-count}
+use Rattle.blk_object.specs.Counters.{AreCountedLess, AreCountersWritten, AreCounters, LessIsCounted, charges}
+use Rattle.blk_object.specs.declared.counters.Counters.{Counters}
 
--- the words that count
-abbrev pub counted : ℕ → ℕ → ℕ → List (ℕ × ℕ)
-counted x y z = (8, x) ∷ (12, y) ∷ (268, z) ∷ []
+-- the words that are written
+abbrev pub counter_words : (entries bytes size : ℕ) → List (ℕ × ℕ)
+counter_words entries bytes size = (8, entries) ∷ (12, bytes) ∷ (268, size) ∷ []
 
--- an open folder is open once a word of its index is written
-word-open : (files : BlockFiles) (at x : ℕ) (from image : Image) → IsIndexWord at x from image → IsOpen files from → IsOpen files image
-word-open files at x from image w is_open = record {
-  agrees = agrees_still (one_word Index at) from image (index_spares at) w.outside files (λ n. refl) is_open.agrees;
-  whole_index = w.outside.lengths Index refl ∙ is_open.whole_index;
+abbrev pub counter_steps : (entries bytes size : ℕ) → List TrailStep
+counter_steps entries bytes size = word_steps Index (counter_words entries bytes size)
+
+-- one word that is written leaves the folder open
+open-word : (files : BlockFiles) (from : Image) (at x : ℕ) → IsIndexWord at x from (after (word_step Index at x) from) → IsOpen files from → IsOpen files (after (word_step Index at x) from)
+unfolding word_step
+open-word files from at x is open_folder = record {
+  agrees = agrees_still (one_word Index at) from (after (word_step Index at x) from) (index_spares at) is.outside files (λ n. refl) open_folder.agrees;
+  whole_index = length-after_write from Index Index at (word_bytes x) ∙ open_folder.whole_index;
 }
 
-module _ (from : Image) (whole : HasWholeIndex from) (x y z : ℕ) (x-small : x < 2 ^ 32) (y-small : y < 2 ^ 32) (z-small : z < 2 ^ 32) where
-  abbrev first : Image
-  first = after (word_step Index 8 x) from
+module _ (files : BlockFiles) (from : Image) (entries bytes size : ℕ) (open_folder : IsOpen files from) (small_entries : entries < 2 ^ 32) (small_bytes : bytes < 2 ^ 32) (small_size : size < 2 ^ 32) where
+  abbrev pub first : Image
+  first = after (word_step Index 8 entries) from
 
-  abbrev second : Image
-  second = after (word_step Index 12 y) first
+  abbrev pub second : Image
+  second = after (word_step Index 12 bytes) first
 
-  abbrev third : Image
-  third = after (word_step Index 268 z) second
+  abbrev pub third : Image
+  third = after (word_step Index 268 size) second
 
-  inside : (at : ℕ) (image : Image) → at + 4 ≤ 262512 → length_of image Index ≡ 262512 → at + 4 ≤ length_of image Index
-  inside at image low long = subst (λ (n : ℕ). at + 4 ≤ n) (sym long) low
+  pub entries-set : IsIndexWord 8 entries from first
+  entries-set = index_word from 8 entries small_entries (subst (λ (n : ℕ). 12 ≤ n) (sym open_folder.whole_index) (lit≤ tt))
 
-  one : IsIndexWord 8 x from first
-  one = index_word from 8 x x-small (inside 8 from (lit≤ tt) whole)
+  first-open : IsOpen files first
+  first-open = open-word files from 8 entries entries-set open_folder
 
-  two : IsIndexWord 12 y first second
-  two = index_word first 12 y y-small (inside 12 first (lit≤ tt) (one.outside.lengths Index refl ∙ whole))
+  pub bytes-set : IsIndexWord 12 bytes first second
+  bytes-set = index_word first 12 bytes small_bytes (subst (λ (n : ℕ). 16 ≤ n) (sym first-open.whole_index) (lit≤ tt))
 
-  three : IsIndexWord 268 z second third
-  three = index_word second 268 z z-small (inside 268 second (lit≤ tt) (two.outside.lengths Index refl ∙ one.outside.lengths Index refl ∙ whole))
+  second-open : IsOpen files second
+  second-open = open-word files first 12 bytes bytes-set first-open
 
-  pub counters-written : AreCountersWritten x y z from third
-  counters-written = record { first = first; second = second; entries_written = one; bytes_written = two; size_written = three }
+  pub size-set : IsIndexWord 268 size second third
+  size-set = index_word second 268 size small_size (subst (λ (n : ℕ). 272 ≤ n) (sym second-open.whole_index) (lit≤ tt))
 
-  keeps-first : KeepsWith [] [] from first
-  keeps-first = counter-keeps from first 8 x refl one
+  third-open : IsOpen files third
+  third-open = open-word files second 268 size size-set second-open
 
-  keeps-second : KeepsWith [] [] from second
-  keeps-second state layout unlinked k = counter-keeps first second 12 y refl two state layout unlinked (keeps-first state layout unlinked k)
+  first-keeps : KeepsWith [] [] from first
+  first-keeps = counter-keeps from first 8 entries refl entries-set
 
-  keeps-third : KeepsWith [] [] from third
-  keeps-third state layout unlinked k = counter-keeps second third 268 z refl three state layout unlinked (keeps-second state layout unlinked k)
+  second-keeps : KeepsWith [] [] from second
+  second-keeps state layout unlinked k = counter-keeps first second 12 bytes refl bytes-set state layout unlinked (first-keeps state layout unlinked k)
 
-  pub counters-keep : Until (KeepsWith [] [] from) (KeepsWith [] [] from) from (word_steps Index (counted x y z))
+  third-keeps : KeepsWith [] [] from third
+  third-keeps state layout unlinked k = counter-keeps second third 268 size refl size-set state layout unlinked (second-keeps state layout unlinked k)
+
+  -- at each word the state is kept
+  pub counters-along : Along (KeepsWith [] [] from) from (counter_steps entries bytes size)
   unfolding word_step
-  counters-keep = ((λ state layout unlinked k. k), (keeps-first, (keeps-second, keeps-third)))
+  counters-along = ((λ state layout unlinked k. k), (first-keeps, (second-keeps, third-keeps)))
 
-  pub counters-open : (files : BlockFiles) → IsOpen files from → Until (IsOpen files) (IsOpen files) from (word_steps Index (counted x y z))
+  pub opens-along : Along (IsOpen files) from (counter_steps entries bytes size)
   unfolding word_step
-  counters-open files is_open =
-      let a = word-open files 8 x from first one is_open in
-      let b = word-open files 12 y first second two a in
-      (is_open, (a, (b, word-open files 268 z second third three b)))
+  opens-along = (open_folder, (first-open, (second-open, third-open)))
 
-  pub counters-end : after (word_steps Index (counted x y z)) from ≡ third
+  pub counters-end : AreCountersWritten entries bytes size from (after (counter_steps entries bytes size) from)
   unfolding word_step
-  counters-end = refl
+  counters-end = record { first = first; second = second; entries_written = entries-set; bytes_written = bytes-set; size_written = size-set }
 
-module _ (a b : Told) (files : BlockFiles) (open_folder : ForSome a.files (IsOpen files)) (x y z : ℕ) (x-small : x < 2 ^ 32) (y-small : y < 2 ^ 32) (z-small : z < 2 ^ 32) (part : AppliesPrefix a b (word_steps Index (counted x y z))) where
-  pub counting-keeps : ForSome a.files (λ from. Passes a b (KeepsWith [] [] from))
-  counting-keeps from there =
-      passes_part (KeepsWith [] [] from) (KeepsWith [] [] from) part (quiet-word_steps Index (counted x y z)) (λ image k. k)
-      (λ image is. subst (λ (i : Image). Until (KeepsWith [] [] from) (KeepsWith [] [] from) i (word_steps Index (counted x y z))) (some_inj (sym there ∙ is)) (counters-keep from (open_folder from there).whole_index x y z x-small y-small z-small))
+pub quiet-counters : (entries bytes size : ℕ) → IsQuiet (counter_steps entries bytes size)
+unfolding word_step
+quiet-counters entries bytes size = tt
 
-  pub counting-open : ForSome b.files (IsOpen files)
-  counting-open = told_part (IsOpen files) part (λ from there. counters-open from (open_folder from there).whole_index x y z x-small y-small z-small files (open_folder from there))
+module _ (files : BlockFiles) (a b : Told) (entries bytes size : ℕ) (open_folder : ForSome a.files (IsOpen files)) (small_entries : entries < 2 ^ 32) (small_bytes : bytes < 2 ^ 32) (small_size : size < 2 ^ 32) where
+  pub counters-set : Applies a b (counter_steps entries bytes size) → ForSome a.files (λ from. ForSome b.files (AreCountersWritten entries bytes size from))
+  counters-set applies from there = told_whole (AreCountersWritten entries bytes size from) applies (λ image is. subst (λ (i : Image). AreCountersWritten entries bytes size from (after (counter_steps entries bytes size) i)) (some_inj (sym there ∙ is)) (counters-end files from entries bytes size (open_folder from there) small_entries small_bytes small_size))
 
-pub counting-written : (a b : Told) (files : BlockFiles) → ForSome a.files (IsOpen files) → (x y z : ℕ) → x < 2 ^ 32 → y < 2 ^ 32 → z < 2 ^ 32 → Applies a b (word_steps Index (counted x y z)) → ForSome a.files (λ from. ForSome b.files (AreCountersWritten x y z from))
-counting-written a b files open_folder x y z x-small y-small z-small steps from there =
-    told_whole (AreCountersWritten x y z from) steps
-    (λ image is. subst (λ (i : Image). AreCountersWritten x y z from (after (word_steps Index (counted x y z)) i)) (some_inj (sym there ∙ is))
-    (subst (AreCountersWritten x y z from) (sym (counters-end from (open_folder from there).whole_index x y z x-small y-small z-small)) (counters-written from (open_folder from there).whole_index x y z x-small y-small z-small)))
+  pub counters-stop : AppliesPrefix a b (counter_steps entries bytes size) → ForSome a.files (λ from. Passes a b (KeepsWith [] [] from))
+  counters-stop part from there = passes_part (KeepsWith [] [] from) (KeepsWith [] [] from) part (quiet-counters entries bytes size) (λ image keeps. keeps)
+      (λ image is. subst (λ (i : Image). Along (KeepsWith [] [] from) i (counter_steps entries bytes size)) (some_inj (sym there ∙ is)) (counters-along files from entries bytes size (open_folder from there) small_entries small_bytes small_size))
+
+  pub counters-open : AppliesPrefix a b (counter_steps entries bytes size) → ForSome b.files (IsOpen files)
+  counters-open part = told_part (IsOpen files) part (λ from there. opens-along files from entries bytes size (open_folder from there) small_entries small_bytes small_size)
+
+-- ---- what they count
+
+-- what is less by a number modulo 2 ^ 32, and more by it again, is as it was
+pub less-and-more : (x y : ℕ) → x < 2 ^ 32 → y < 2 ^ 32 → ((x + (2 ^ 32 - y)) % 2 ^ 32 + y) % 2 ^ 32 ≡ x
+less-and-more x y one other = omega (arith, one, other)
+
+pub below-word : (x : ℕ) → x % 2 ^ 32 < 2 ^ 32
+below-word x = omega arith
+
+-- the counters that were read are written less
+pub counted-less : (counters : Counters) (charge : ℕ) (from image : Image) → AreCounters counters from → AreBytes from → charge < 2 ^ 32
+    → AreCountersWritten ((counters.entries + (2 ^ 32 - 1)) % 2 ^ 32) ((counters.bytes + (2 ^ 32 - charge)) % 2 ^ 32) ((counters.size + (2 ^ 32 - 1)) % 2 ^ 32) from image → AreCountedLess charge from image
+counted-less counters charge from image are bytes c set =
+    let e : counters.entries < 2 ^ 32 = subst (λ (x : ℕ). x < 2 ^ 32) (sym are.entries) (word-small from Index 8 bytes) in
+    let b : counters.bytes < 2 ^ 32 = subst (λ (x : ℕ). x < 2 ^ 32) (sym are.bytes) (word-small from Index 12 bytes) in
+    let s : counters.size < 2 ^ 32 = subst (λ (x : ℕ). x < 2 ^ 32) (sym are.size) (word-small from Index 268 bytes) in
+    record {
+      entries = (counters.entries + (2 ^ 32 - 1)) % 2 ^ 32;
+      bytes = (counters.bytes + (2 ^ 32 - charge)) % 2 ^ 32;
+      size = (counters.size + (2 ^ 32 - 1)) % 2 ^ 32;
+      small = (below-word (counters.entries + (2 ^ 32 - 1)), (below-word (counters.bytes + (2 ^ 32 - charge)), below-word (counters.size + (2 ^ 32 - 1))));
+      entries_less = less-and-more counters.entries 1 e (omega arith) ∙ are.entries;
+      bytes_less = less-and-more counters.bytes charge b c ∙ are.bytes;
+      size_less = less-and-more counters.size 1 s (omega arith) ∙ are.size;
+      written = set;
+    }
+
+pub one-less : (x n m : ℕ) → x < 2 ^ 32 → (x + 1) % 2 ^ 32 ≡ n → m + 1 ≡ n → x ≡ m
+one-less x n m small is less = omega (arith, small, is, less)
+
+pub charge-less : (x s t c : ℕ) → x < 2 ^ 32 → (x + c % 2 ^ 32) % 2 ^ 32 ≡ t % 2 ^ 32 → s + c ≡ t → x ≡ s % 2 ^ 32
+charge-less x s t c small is less = omega (arith, small, is, less)
+
+pub less-counted : LessIsCounted
+less-counted state after layout now unlinked charge from image counts less k l =
+    let same_entries = one-less l.entries (length state.uses) (length after.uses) l.small.0 (l.entries_less ∙ counts.num_entries) less.items in
+    let same_size = one-less l.size (length state.uses) (length after.uses) l.small.1.1 (l.size_less ∙ counts.sizes) less.items in
+    let same_bytes = charge-less l.bytes (charges after now) (charges state layout) charge l.small.1.0 (l.bytes_less ∙ counts.num_bytes) less.bytes in
+    counters-count after now unlinked from l.written.first l.written.second image k
+    (subst (λ (x : ℕ). IsIndexWord 8 x from l.written.first) same_entries l.written.entries_written)
+    (subst (λ (x : ℕ). IsIndexWord 12 x l.written.first l.written.second) same_bytes l.written.bytes_written)
+    (subst (λ (x : ℕ). IsIndexWord 268 x l.written.second image) same_size l.written.size_written)

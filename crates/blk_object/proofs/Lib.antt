@@ -13,10 +13,14 @@ pub mod TakenItems
 pub mod FreedPlaces
 pub mod FreeingRuns
 pub mod OwnedPlaces
-pub mod CountedLess
 pub mod OwnedCharges
 pub mod PlainObjects
 pub mod RemovedObjects
 pub mod OneMoreTaken
 pub mod TakenParts
 pub mod FoundEntries
+pub mod CountsOut
+pub mod GoingNext
+pub mod PartNames
+pub mod WalkedParts
+pub mod PartsLeft

@@ -40,7 +40,7 @@ stored-length image size w bytes e = go (is_storage size w) (size == 0) refl (st
   go true false is true false x h = ranged (block_bytes image w) (place w) h
 
 -- a stored key has the length that its record says
-key-length : (image : Image) (w : ℕ) (e : RecordFields) (key : List ℕ) → stored_key (store_of image) w e ≡ Some key → length key ≡ e.key_len
+pub key-length : (image : Image) (w : ℕ) (e : RecordFields) (key : List ℕ) → stored_key (store_of image) w e ≡ Some key → length key ≡ e.key_len
 unfolding stored_key store_of key_place_at
 key-length image w e key is = by (nat_le e.key_len 927) (e.long_key == 0) is where
   long : (o : Option (List ℕ)) → stored_at image (e.key_len + 1) e.long_key ≡ o → option_map (take e.key_len) o ≡ Some key → length key ≡ e.key_len

@@ -30,7 +30,7 @@ use Rattle.blk_object.specs.Counters.{AreCountedLess, IsOneItemLess}
 use Rattle.blk_object.specs.RemovingObjects.{FindsEither, GoesAlone, IsGoneUncounted, IsRemovedWhole}
 use Rattle.blk_object.proofs.FreedPlaces as freed
 use Rattle.blk_object.proofs.OwnedPlaces.{kept-load}
-use Rattle.blk_object.proofs.CountedLess.{less-counted}
+use Rattle.blk_object.proofs.CounterWords.{less-counted}
 use Rattle.blk_object.proofs.TakenItems as taken
 
 -- where the counters stay, they count what they did

@@ -3,6 +3,9 @@ pub mod Removing
 pub mod Freeing
 pub mod Owning
 pub mod Counters
+pub mod RemovingNext
+pub mod NextItems
+pub mod ListedParts
 pub mod RemovingObjects
 pub mod RemovingParts
 pub mod RemovingFound

@@ -7,6 +7,7 @@ ghost use Rattle.blk_io.specs.Faults.{IfDamaged, IfDevice};
 ghost use Rattle.blk_disk.specs.Open.{IsOpen};
 ghost use Rattle.blk_kept.specs.Changes.{KeepsWith};
 ghost use Rattle.blk_object.specs.Counters.{AreCountedLess, AreCounters, AreCountersWritten};
+ghost use Rattle.blk_object.specs.RemovingNext.{KeepsOut};
 
 use blk_disk::BlockFiles;
 use blk_index::word;
@@ -68,6 +69,7 @@ pub fn count_less<F: Folder>(f: &mut F, files: &BlockFiles, charge: u32) -> Resu
     requires is_open { ForSome (F.told f.old).files (IsOpen files.now) }
     ensures counted { OnOk result (ForSome (F.told f.old).files (λ from. ForSome (F.told f.new).files (AreCountedLess charge from))) }
     ensures stops { ForSome (F.told f.old).files (λ from. Passes (F.told f.old) (F.told f.new) (KeepsWith [] [] from)) }
+    ensures stops_out { ForSome (F.told f.old).files (λ from. Passes (F.told f.old) (F.told f.new) (KeepsOut from)) }
     ensures is_open { ForSome (F.told f.new).files (IsOpen files.now) }
     ensures untold { IfDamaged result (λ _. (F.told f.old).files ≡ None) }
     ensures silent { (F.told f.old).files ≡ None → (F.told f.new).files ≡ None }
@@ -93,6 +95,7 @@ fn set_counters<F: Folder>(
     requires is_open { ForSome (F.told f.old).files (IsOpen files.now) }
     ensures written { OnOk result (ForSome (F.told f.old).files (λ from. ForSome (F.told f.new).files (AreCountersWritten entries bytes size from))) }
     ensures stops { ForSome (F.told f.old).files (λ from. Passes (F.told f.old) (F.told f.new) (KeepsWith [] [] from)) }
+    ensures stops_out { ForSome (F.told f.old).files (λ from. Passes (F.told f.old) (F.told f.new) (KeepsOut from)) }
     ensures is_open { ForSome (F.told f.new).files (IsOpen files.now) }
     ensures silent { (F.told f.old).files ≡ None → (F.told f.new).files ≡ None }
     ensures later { F.faults f.old ≤ F.faults f.new }

@@ -2,8 +2,10 @@
 #![tactic(auto)]
 
 mod counters;
+mod counting_laws;
 mod freeing;
 mod freeing_laws;
+mod listed_parts;
 mod making;
 mod making_places;
 mod owning;
@@ -11,10 +13,13 @@ mod owning_laws;
 mod removing;
 mod removing_laws;
 mod removing_objects;
+mod removing_parts;
 
 pub use counters::count_less;
+pub use counting_laws::{left_items_are_counted, parts_go_until_none_is_left};
 pub use freeing::free_places;
 pub use freeing_laws::freed_words_are_gone;
+pub use listed_parts::{ListedPart, next_part};
 pub use making::{Made, creates_can_have_new, make_entry};
 pub use owning::{Owned, free_owned, read_owned};
 pub use owning_laws::entries_of_states_load;
@@ -24,3 +29,4 @@ pub use removing_laws::{
     taken_parts_are_out,
 };
 pub use removing_objects::remove_item;
+pub use removing_parts::remove_next;

@@ -6,6 +6,7 @@ ghost use Rattle.blk_format.specs.Address.{blocks_256, kind_of};
 ghost use Rattle.blk_io.specs.Faults.{IfDamaged, IfDevice};
 ghost use Rattle.blk_disk.specs.Open.{IsOpen};
 ghost use Rattle.blk_disk.specs.Tables.{is_node_among, stands_among};
+ghost use Rattle.blk_object.specs.NextItems.{ForEachNext, IsGoingNext, IsOutUncounted};
 ghost use Rattle.blk_object.specs.RemovingObjects.{FindsEither, ForEachAlone, IsGoneUncounted, IsRemovedWhole};
 
 use crate::counters::count_less;
@@ -52,7 +53,7 @@ pub fn remove_item<F: Folder>(
 }
 
 // Takes an item out, and frees its places. Its charge is given.
-fn take_away<F: Folder>(
+pub(crate) fn take_away<F: Folder>(
     f: &mut F,
     files: &BlockFiles,
     found: &Found,
@@ -66,8 +67,11 @@ fn take_away<F: Folder>(
     requires is_open { ForSome (F.told f.old).files (IsOpen files.now) }
     ensures gone { IfOk result (λ charge. ForSome (F.told f.old).files (λ from. ForEachAlone node found.now.entry found.now.before from (λ state after layout unlinked. ForSome (F.told f.new).files (IsGoneUncounted state after layout unlinked node found.now.entry charge)))) }
     ensures stops { ForSome (F.told f.old).files (λ from. ForEachAlone node found.now.entry found.now.before from (λ state after layout unlinked. Passes (F.told f.old) (F.told f.new) (FindsEither state after))) }
+    ensures out { IfOk result (λ charge. ForSome (F.told f.old).files (λ from. ForEachNext node found.now.entry found.now.before from (λ state layout keep chains unlinked item. ForSome (F.told f.new).files (IsOutUncounted state layout keep chains unlinked item found.now.entry charge from)))) }
+    ensures going { ForSome (F.told f.old).files (λ from. ForEachNext node found.now.entry found.now.before from (λ state layout keep chains unlinked item. Passes (F.told f.old) (F.told f.new) (IsGoingNext state layout keep chains unlinked item node found.now.entry found.now.before from))) }
     ensures is_open { ForSome (F.told f.new).files (IsOpen files.now) }
     ensures untold { ForSome (F.told f.old).files (λ from. ForEachAlone node found.now.entry found.now.before from (λ state after layout unlinked. IfDamaged result (λ _. (F.told f.old).files ≡ None))) }
+    ensures untold_out { ForSome (F.told f.old).files (λ from. ForEachNext node found.now.entry found.now.before from (λ state layout keep chains unlinked item. IfDamaged result (λ _. (F.told f.old).files ≡ None))) }
     ensures silent { (F.told f.old).files ≡ None → (F.told f.new).files ≡ None }
     ensures later { F.faults f.old ≤ F.faults f.new }
     ensures device { IfDevice result (Rises (F.faults f.old) (F.faults f.new)) }

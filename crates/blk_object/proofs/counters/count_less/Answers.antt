@@ -2,7 +2,7 @@ use Rattle.std.proofs.Common.{sym, subst, ap, ◌∙◌}
 use Rattle.std.specs.Option.{ForSome}
 use Rattle.blk_image.specs.Told.{Told}
 use Rattle.blk_disk.specs.Open.{IsOpen}
-use Rattle.blk_object.proofs.CountedLess.{counted-less}
+use Rattle.blk_object.proofs.CounterWords.{counted-less}
 use Rattle.blk_object.proofs.counters.count_less.Goals as goal
 
 pub returns-in_err-counters-clause-is_open : goal.returns-in_err-counters-clause-is_open

@@ -1,0 +1,161 @@
+-- The next item of an object goes: what each call adds.
+use Rattle.std.proofs.Common.{◌≡◌, ◌⊎◌, inl, inr, ℕ, ◌%◌, List, [], ◌∷◌, ◌++◌, refl, ap, sym, ◌∙◌, subst, Bool, true, Option, Some}
+use Rattle.std.specs.Prelude.{◌^◌}
+use Rattle.std.specs.Option.{ForSome}
+use Rattle.blk_image.specs.Image.{Image}
+use Rattle.blk_image.specs.Told.{Passes, Told}
+use Rattle.blk_image.proofs.Runs.{passes_stayed, passes_then, passes_weaker}
+use Rattle.blk_model.specs.Effects.{doomed}
+use Rattle.blk_model.specs.Holding.{rest}
+use Rattle.blk_model.specs.Items.{Item, main, part}
+use Rattle.blk_model.specs.State.{Object, State, object_at}
+use Rattle.blk_volume.specs.Found.{charge_of}
+use Rattle.blk_volume.specs.Layout.{Layout}
+use Rattle.blk_volume.specs.Sound.{words_of}
+use Rattle.blk_kept.specs.Changes.{Finds, SameCounters}
+use Rattle.blk_kept.specs.Keeping.{KeepsUncounted}
+use Rattle.blk_kept.specs.PartlyOut.{KeepsPartlyOut, chains_but, keeps_but}
+use Rattle.blk_kept.specs.PartlyOutStops.{LeavesOtherKeys}
+use Rattle.blk_kept.proofs.Free.{then-found}
+use Rattle.blk_kept.proofs.PartlyOut.{kept-begin}
+use Rattle.blk_kept.proofs.PartlyOutStops.{own-items-leave, partly-out-finds}
+use Rattle.blk_stream.proofs.Joined.{IsTold, told_then}
+use Rattle.blk_object.specs.Freeing.{AreFreeable, AreGoing, Removes}
+use Rattle.blk_object.specs.NextItems.{IsBeingFreed, IsGoingNext, IsOutAndCounted, IsOutUncounted, LiesNext}
+use Rattle.blk_object.specs.Owning.{LoadsWith}
+use Rattle.blk_object.specs.Removing.{IsGoingOut, IsTakenOut, MayGoOut}
+use Rattle.blk_object.specs.Counters.{AreCountedLess}
+use Rattle.blk_object.specs.RemovingFound.{LiesAsFound}
+use Rattle.blk_object.specs.RemovingNext.{CountsLeft, KeepsOut}
+use Rattle.blk_object.specs.RemovingObjects.{FindsEither}
+use Rattle.blk_object.proofs.CountsOut.{next-counted, still-counted, still-out}
+use Rattle.blk_object.proofs.FreedPlaces as freed
+use Rattle.blk_object.proofs.OwnedPlaces.{left-load}
+use Rattle.blk_object.proofs.TakenItems.{counters-left}
+use Rattle.blk_object.proofs.TakenParts.{going-mains, going-parts, left-may, left-out}
+
+then-counters : (from mid image : Image) → SameCounters from mid → SameCounters mid image → SameCounters from image
+then-counters from mid image a b = record { sizes = b.sizes ∙ a.sizes; num_entries = b.num_entries ∙ a.num_entries; num_bytes = b.num_bytes ∙ a.num_bytes }
+
+module _ (state : State) (layout : Layout) (keep : Item → Bool) (chains : ℕ → List ℕ) (unlinked : List ℕ) (item : Item) (node entry : ℕ) (before : Option ℕ) (from : Image) (k : KeepsPartlyOut state layout keep chains unlinked from) (p : LiesNext state layout keep chains item node entry before) where
+  abbrev its : ℕ
+  its = layout.place item
+
+  -- what the calls ask
+  pub next-may-go : MayGoOut node entry before from
+  next-may-go = subst (λ (n : ℕ). MayGoOut n entry before from) p.node_is (subst (λ (e : ℕ). MayGoOut its e before from) p.entry_is (left-may state layout keep chains unlinked item p.was before from k p.lies))
+
+  pub next-loads : LoadsWith entry p.was from
+  next-loads = subst (λ (e : ℕ). LoadsWith e p.was from) p.entry_is (left-load state layout keep chains unlinked from item p.was k p.lies.lies.listed p.lies.stays p.lies.lies.here)
+
+  -- once it is taken out
+  module _ (mid : Image) (t : IsTakenOut node entry before from mid) where
+    out-mid : KeepsPartlyOut state layout (keeps_but keep item) (chains_but chains entry) (words_of p.was ++ unlinked) mid
+    out-mid = subst (λ (e : ℕ). KeepsPartlyOut state layout (keeps_but keep item) (chains_but chains e) (words_of p.was ++ unlinked) mid) p.entry_is
+        (left-out state layout keep chains unlinked item p.was before from mid k p.lies (subst (λ (n : ℕ). IsTakenOut n p.was.contents before from mid) (sym p.node_is) (subst (λ (e : ℕ). IsTakenOut node e before from mid) (sym p.entry_is) t)))
+
+    -- its words may be freed
+    module _ (words : List ℕ) (are : words ≡ words_of p.was) where
+      kept-mid : KeepsPartlyOut state layout (keeps_but keep item) (chains_but chains entry) (words ++ unlinked) mid
+      kept-mid = subst (λ (ws : List ℕ). KeepsPartlyOut state layout (keeps_but keep item) (chains_but chains entry) (ws ++ unlinked) mid) (sym are) out-mid
+
+      pub words-may : AreFreeable words mid
+      words-may = record { state = state; layout = layout; keep = keeps_but keep item; chains = chains_but chains entry; others = unlinked; kept = kept-mid }
+
+      -- while they are
+      pub being-freed : (image : Image) → AreGoing words mid image → IsGoingNext state layout keep chains unlinked item node entry before from image
+      being-freed image going = inr (inr (record { words = words; mid = mid; out = kept-mid; going = going }))
+
+      -- once they are
+      pub out-uncounted : (charge : ℕ) → charge ≡ charge_of p.was % 2 ^ 32 → (image : Image) → Removes words mid image → IsOutUncounted state layout keep chains unlinked item entry charge from image
+      out-uncounted charge is image r = record {
+        out = freed.all-out state layout (keeps_but keep item) (chains_but chains entry) words unlinked mid image r kept-mid;
+        counters = then-counters from mid image (counters-left node entry before from mid t) (freed.all-counted words mid image r);
+        was = p.was;
+        here = p.lies.lies.here;
+        charge_is = is;
+      }
+
+  -- once it is counted no longer
+  pub out-and-counted : (charge : ℕ) (mid image : Image) → CountsLeft state layout keep from → IsOutUncounted state layout keep chains unlinked item entry charge from mid → AreCountedLess charge mid image → IsOutAndCounted state layout keep chains unlinked item entry image
+  out-and-counted charge mid image c u less = record {
+    out = still-out charge mid image less state layout (keeps_but keep item) (chains_but chains entry) unlinked u.out;
+    counted = next-counted state layout keep item u.was mid image k.valid p.lies.lies.listed p.lies.stays u.here (still-counted state layout keep from mid u.counters c) (subst (λ (w : ℕ). AreCountedLess w mid image) u.charge_is less);
+  }
+
+-- ---- what is told
+
+-- of a folder that is told, read without a change, then changed by the call that takes out
+module _ (a r m : Told) (stays : r ≡ a) (state : State) (layout : Layout) (keep : Item → Bool) (chains : ℕ → List ℕ) (unlinked : List ℕ) (item : Item) (node entry : ℕ) (before : Option ℕ) (from : Image) (there : a.files ≡ Some from) (k : KeepsPartlyOut state layout keep chains unlinked from)
+    (p : LiesNext state layout keep chains item node entry before) (stops : ForSome r.files (λ at. MayGoOut node entry before at → Passes r m (IsGoingOut node entry before at))) where
+  still-there : r.files ≡ Some from
+  still-there = ap (λ (t : Told). t.files) stays ∙ there
+
+  taking : Passes r m (IsGoingOut node entry before from)
+  taking = stops from still-there (next-may-go state layout keep chains unlinked item node entry before from k p)
+
+  pub next-taking : Passes a m (IsGoingNext state layout keep chains unlinked item node entry before from)
+  next-taking = passes_stayed stays (passes_weaker taking (λ image going. inr (inl going)) (λ image going. inr (inl going)))
+
+  pub next-on : IsTold m (IsGoingOut node entry before from)
+  next-on = told_then r m from (IsGoingOut node entry before from) still-there taking
+
+  -- then the places are freed
+  module _ (b : Told) (words : List ℕ) (are : words ≡ words_of p.was) (taken_out : ForSome r.files (λ at. MayGoOut node entry before at → ForSome m.files (IsTakenOut node entry before at))) where
+    out : IsTakenOut node entry before from next-on.image
+    out = taken_out from still-there (next-may-go state layout keep chains unlinked item node entry before from k p) next-on.image next-on.is
+
+    pub next-they-may : AreFreeable words next-on.image
+    next-they-may = words-may state layout keep chains unlinked item node entry before from k p next-on.image out words are
+
+    pub next-freeing : ForSome m.files (λ at. AreFreeable words at → Passes m b (AreGoing words at)) → Passes a b (IsGoingNext state layout keep chains unlinked item node entry before from)
+    next-freeing frees = passes_then next-taking (passes_weaker (frees next-on.image next-on.is next-they-may)
+        (being-freed state layout keep chains unlinked item node entry before from k p next-on.image out words are) (being-freed state layout keep chains unlinked item node entry before from k p next-on.image out words are))
+
+    pub next-out : ForSome m.files (λ at. AreFreeable words at → ForSome b.files (Removes words at)) → (charge : ℕ) → charge ≡ charge_of p.was % 2 ^ 32 → ForSome b.files (IsOutUncounted state layout keep chains unlinked item entry charge from)
+    next-out frees charge is image at = out-uncounted state layout keep chains unlinked item node entry before from k p next-on.image out words are charge is image (frees next-on.image next-on.is next-they-may image at)
+
+-- ---- what is found
+
+-- once an item is out, and no main item of its key is left
+module _ (state : State) (layout : Layout) (keep : Item → Bool) (chains : ℕ → List ℕ) (unlinked : List ℕ) (item : Item) (entry : ℕ) (number : ℕ) (object : Object) (at : object_at state number ≡ Some object) (others : LeavesOtherKeys object.key (keeps_but keep item)) where
+  pub freed-finds : (image : Image) → IsBeingFreed state layout keep chains unlinked item entry image → Finds (rest (doomed number state (Some object))) image
+  freed-finds image f = freed.going-finds-doomed state layout number object (keeps_but keep item) (chains_but chains entry) f.words unlinked f.mid image at others f.out f.going
+
+  pub counting-finds : (charge : ℕ) (from mid image : Image) → IsOutUncounted state layout keep chains unlinked item entry charge from mid → KeepsOut mid image → Finds (rest (doomed number state (Some object))) image
+  counting-finds charge from mid image u keeps = partly-out-finds state layout number object (keeps_but keep item) (chains_but chains entry) unlinked image at others (keeps state layout (keeps_but keep item) (chains_but chains entry) unlinked u.out)
+
+-- a main item that is found lies next
+pub main-next : (state : State) (layout : Layout) (key : List ℕ) (node entry : ℕ) (before : Option ℕ) → LiesAsFound state layout key node entry before → LiesNext state layout (λ item. true) layout.chains (main key) node entry before
+main-next state layout key node entry before p = record {
+  was = p.was;
+  lies = record { stays = refl; lies = record { listed = p.lies.listed; here = p.lies.here; prefix = p.lies.prefix; suffix = p.lies.suffix; stands = p.lies.stands } };
+  node_is = p.node_is;
+  entry_is = p.entry_is;
+}
+
+pub main-leaves : (key : List ℕ) → LeavesOtherKeys key (keeps_but (λ item. true) (main key))
+main-leaves key = (own-items-leave key).0
+
+pub part-leaves : (key : List ℕ) (keep : Item → Bool) (n : ℕ) → LeavesOtherKeys key keep → LeavesOtherKeys key (keeps_but keep (part key n))
+part-leaves key keep n others = (own-items-leave key).1 keep n others
+
+-- while a main item goes
+pub main-going : (state : State) (layout : Layout) (unlinked : List ℕ) (number : ℕ) (object : Object) (node entry : ℕ) (before : Option ℕ) (from image : Image) → KeepsUncounted state layout unlinked from → object_at state number ≡ Some object → object.live ≡ true → LiesAsFound state layout object.key node entry before
+    → IsGoingNext state layout (λ item. true) layout.chains unlinked (main object.key) node entry before from image → FindsEither state (doomed number state (Some object)) image
+main-going state layout unlinked number object node entry before from image k at live p (inl is) =
+    subst (FindsEither state (doomed number state (Some object))) (sym is) (inl (then-found [] [] from from (λ s l u kept. kept) state layout unlinked k))
+main-going state layout unlinked number object node entry before from image k at live p (inr (inl going)) =
+    going-mains state layout unlinked p.was before number object from image k p.lies at live (subst (λ (n : ℕ). IsGoingOut n p.was.contents before from image) (sym p.node_is) (subst (λ (e : ℕ). IsGoingOut node e before from image) (sym p.entry_is) going))
+main-going state layout unlinked number object node entry before from image k at live p (inr (inr f)) =
+    inr (freed-finds state layout (λ item. true) layout.chains unlinked (main object.key) entry number object at (main-leaves object.key) image f)
+
+-- while a part does
+pub part-going : (state : State) (layout : Layout) (keep : Item → Bool) (chains : ℕ → List ℕ) (unlinked : List ℕ) (number : ℕ) (object : Object) (n : ℕ) (node entry : ℕ) (before : Option ℕ) (from image : Image) → KeepsPartlyOut state layout keep chains unlinked from → object_at state number ≡ Some object → LeavesOtherKeys object.key keep
+    → LiesNext state layout keep chains (part object.key n) node entry before → IsGoingNext state layout keep chains unlinked (part object.key n) node entry before from image → Finds (rest (doomed number state (Some object))) image
+part-going state layout keep chains unlinked number object n node entry before from image k at others p (inl is) =
+    subst (Finds (rest (doomed number state (Some object)))) (sym is) (partly-out-finds state layout number object keep chains unlinked from at others k)
+part-going state layout keep chains unlinked number object n node entry before from image k at others p (inr (inl going)) =
+    going-parts state layout keep chains unlinked n p.was before number object from image k p.lies at others (subst (λ (m : ℕ). IsGoingOut m p.was.contents before from image) (sym p.node_is) (subst (λ (e : ℕ). IsGoingOut node e before from image) (sym p.entry_is) going))
+part-going state layout keep chains unlinked number object n node entry before from image k at others p (inr (inr f)) =
+    freed-finds state layout keep chains unlinked (part object.key n) entry number object at (part-leaves object.key keep n others) image f

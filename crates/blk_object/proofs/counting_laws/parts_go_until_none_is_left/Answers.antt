@@ -1,0 +1,5 @@
+use Rattle.blk_object.proofs.PartsLeft.{first-next, none-left}
+use Rattle.blk_object.proofs.counting_laws.parts_go_until_none_is_left.Goals as goal
+
+pub returns : goal.returns
+returns c = record { none = none-left; next = first-next }

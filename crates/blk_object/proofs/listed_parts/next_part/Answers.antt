@@ -1,0 +1,74 @@
+use Rattle.std.proofs.Common.{rules, ◌≡◌, ◌∙◌, None, Option, ℕ, true, false, sym, ap, subst, arith}
+use Rattle.std.specs.Option.{ForSome}
+use Rattle.std.specs.Prelude.{filter, is_some}
+use Rattle.blk_image.specs.Image.{Image}
+use Rattle.blk_image.specs.Told.{Told}
+use Rattle.blk_image.proofs.Runs.{some_inj}
+use Rattle.blk_io.specs.Faults.{IfDamaged}
+use Rattle.blk_io.proofs.Carried.{carried}
+use Rattle.blk_volume.specs.Loads.{Loaded}
+use Rattle.blk_disk.specs.Tables.{Agrees}
+use Rattle.blk_lru.specs.Lists.{IsListed}
+use Rattle.blk_object.specs.ListedParts.{LoadsAt}
+use Rattle.blk_object.proofs.WalkedParts.{IsWalkedTo, found-none, found-some, step-finds, step-listed, step-loads, step-walks, turns-ended, walk-begun, walk-ended}
+use Rattle.blk_object.proofs.listed_parts.next_part.Goals as goal
+
+pub returns-in_err-next-clause-untold : goal.returns-in_err-next-clause-untold
+returns-in_err-next-clause-untold g c from there state layout keep chains unlinked items k are =
+    carried c.node_behind.result c.from_residual.result c.in_err-next.field-0.0 (λ _. (g.F.Folder.told c.args.f.now).files ≡ None) c.in_err-next.was c.from_residual.ensures.1
+    (c.node_behind.ensures.untold from there state layout keep chains unlinked items k are)
+
+pub loop-init : goal.loop-init
+loop-init g c = record {
+  walks = λ image there. walk-begun c.args.from c.args.key.now c.in_ok-next.next image (c.in_ok-next.ensures.node image there);
+  stands = c.in_ok-next.ensures.stands;
+  room = c.requires.room;
+  stays = c.in_ok-next.ensures.stays;
+  later = c.in_ok-next.ensures.later;
+}
+
+pub returns-in_default-clause-part : goal.returns-in_default-clause-part
+returns-in_default-clause-part g c from there state layout keep chains unlinked items k are =
+    let none : c.loop.next ≡ None = search rules in
+    walk-ended layout c.args.key.now (filter keep state.uses) items c.loop.counter (subst (λ (o : Option ℕ). IsWalkedTo layout c.args.key.now (filter keep state.uses) items o c.loop.counter) none (c.loop.invariant.walks from there state layout keep chains unlinked items k are))
+
+pub returns-in_err-found-clause-untold : goal.returns-in_err-found-clause-untold
+returns-in_err-found-clause-untold g c from there state layout keep chains unlinked items k are =
+    subst (λ (t : Told). IfDamaged c.from_residual-in_err-found.result (λ _. t.files ≡ None)) c.loop.invariant.stays
+    (carried c.part_at.result c.from_residual-in_err-found.result c.in_err-found.field-0.0 (λ _. (g.F.Folder.told c.loop.f).files ≡ None) c.in_err-found.was c.from_residual-in_err-found.ensures.1
+    (c.part_at.ensures.untold (subst (λ (t : Told). ForSome t.files (Agrees c.args.files.now)) (sym c.loop.invariant.stays) (λ image is. (c.requires.is_open image is).agrees))
+    (λ image now. subst (λ (i : Image). (loaded : Loaded) × LoadsAt c.in-Some.node loaded i) (some_inj (sym there ∙ ap (λ (t : Told). t.files) (sym c.loop.invariant.stays) ∙ now))
+    (step-loads state layout keep chains unlinked c.args.key.now items c.in-Some.node c.loop.counter from k (subst (λ (o : Option ℕ). IsWalkedTo layout c.args.key.now (filter keep state.uses) items o c.loop.counter) c.in-Some.is (c.loop.invariant.walks from there state layout keep chains unlinked items k are))))))
+
+pub returns-then-is_some-clause-part : goal.returns-then-is_some-clause-part
+returns-then-is_some-clause-part g c from there state layout keep chains unlinked items k are =
+    let some : is_some c.in_ok-found.found ≡ true = search rules in
+    found-some layout c.args.key.now items c.in_ok-found.found some
+    (λ found is. step-finds state layout keep chains unlinked c.args.key.now items c.in-Some.node c.loop.counter from k (subst (λ (o : Option ℕ). IsWalkedTo layout c.args.key.now (filter keep state.uses) items o c.loop.counter) c.in-Some.is (c.loop.invariant.walks from there state layout keep chains unlinked items k are)) found
+    (λ loaded at. sym is ∙ c.in_ok-found.ensures.part from (ap (λ (t : Told). t.files) c.loop.invariant.stays ∙ there) loaded at))
+
+pub returns-in_err-next-2-clause-untold : goal.returns-in_err-next-2-clause-untold
+returns-in_err-next-2-clause-untold g c from there state layout keep chains unlinked items k are =
+    let stays = c.in_ok-found.ensures.stays ∙ c.loop.invariant.stays in
+    subst (λ (t : Told). IfDamaged c.from_residual-in_err-next-2.result (λ _. t.files ≡ None)) stays
+    (carried c.after.result c.from_residual-in_err-next-2.result c.in_err-next-2.field-0.0 (λ _. (g.F.Folder.told c.part_at.new.f).files ≡ None) c.in_err-next-2.was c.from_residual-in_err-next-2.ensures.1
+    (c.after.ensures.untold (subst (λ (t : Told). ForSome t.files (Agrees c.args.files.now)) (sym stays) (λ image is. (c.requires.is_open image is).agrees))
+    (λ image now. subst (IsListed c.in-Some.node) (some_inj (sym there ∙ ap (λ (t : Told). t.files) (sym stays) ∙ now))
+    (step-listed state layout keep chains unlinked c.args.key.now items c.in-Some.node c.loop.counter from k (subst (λ (o : Option ℕ). IsWalkedTo layout c.args.key.now (filter keep state.uses) items o c.loop.counter) c.in-Some.is (c.loop.invariant.walks from there state layout keep chains unlinked items k are))))))
+
+pub loop-preserved : goal.loop-preserved
+loop-preserved g c = record {
+  walks = λ from there state layout keep chains unlinked items k are.
+      let none : is_some c.in_ok-found.found ≡ false = search rules in
+      step-walks state layout keep chains unlinked c.args.key.now items c.in-Some.node c.loop.counter from k (subst (λ (o : Option ℕ). IsWalkedTo layout c.args.key.now (filter keep state.uses) items o c.loop.counter) c.in-Some.is (c.loop.invariant.walks from there state layout keep chains unlinked items k are)) c.in_ok-next-2.next
+      (λ loaded at. sym (found-none c.in_ok-found.found none) ∙ c.in_ok-found.ensures.part from (ap (λ (t : Told). t.files) c.loop.invariant.stays ∙ there) loaded at)
+      (c.in_ok-next-2.ensures.node from (ap (λ (t : Told). t.files) (c.in_ok-found.ensures.stays ∙ c.loop.invariant.stays) ∙ there) (c.requires.is_open from there).agrees);
+  stands = c.in_ok-next-2.ensures.stands;
+  room = (let one = c.part_at.auto.room in let two = c.loop.invariant.room in omega (arith, one, two));
+  stays = c.in_ok-next-2.ensures.stays ∙ c.in_ok-found.ensures.stays ∙ c.loop.invariant.stays;
+  later = (let one = c.loop.invariant.later in let two = c.in_ok-found.ensures.later in let three = c.in_ok-next-2.ensures.later in omega (arith, one, two, three));
+}
+
+pub returns-clause-part : goal.returns-clause-part
+returns-clause-part g c from there state layout keep chains unlinked items k are =
+    turns-ended layout c.args.key.now (filter keep state.uses) items c.loop.next c.loop.counter from k.list (search rules) (c.loop.invariant.walks from there state layout keep chains unlinked items k are)

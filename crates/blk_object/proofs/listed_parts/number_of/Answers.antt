@@ -1,0 +1,33 @@
+use Rattle.std.proofs.Common.{rules, ◌≡◌, ◌∙◌, None, Some, sym, ap, subst}
+use Rattle.blk_image.specs.Told.{Told}
+use Rattle.blk_io.specs.Faults.{IfDamaged}
+use Rattle.blk_io.proofs.Carried.{carried}
+use Rattle.blk_object.proofs.OwnedPlaces.{loaded-checks}
+use Rattle.blk_object.proofs.PartNames.{key-readable, not-a-part, part-read}
+use Rattle.blk_object.proofs.listed_parts.number_of.Goals as goal
+
+pub returns-in_err-head-clause-untold : goal.returns-in_err-head-clause-untold
+returns-in_err-head-clause-untold g c agrees lies =
+    carried c.read_head.result c.from_residual.result c.in_err-head.field-0.0 (λ _. (g.F.Folder.told c.args.f.now).files ≡ None) c.in_err-head.was c.from_residual.ensures.1
+    (c.read_head.ensures.untold agrees (λ image there. loaded-checks image c.args.entry (lies image there).0 (g.met.F.Folder.are_bytes c.args.f.now image there) (lies image there).1))
+
+pub returns-then-head-ne-CHILD-clause-number : goal.returns-then-head-ne-CHILD-clause-number
+returns-then-head-ne-CHILD-clause-number g c image there loaded lies = sym (not-a-part c.args.key.now image c.args.entry c.in_ok-head.head loaded (c.in_ok-head.ensures.head image there) lies (search rules))
+
+pub returns-in_err-len-clause-untold : goal.returns-in_err-len-clause-untold
+returns-in_err-len-clause-untold g c agrees lies =
+    subst (λ (t : Told). IfDamaged c.from_residual-in_err-len.result (λ _. t.files ≡ None)) c.in_ok-head.ensures.stays
+    (carried c.key_piece.result c.from_residual-in_err-len.result c.in_err-len.field-0.0 (λ _. (g.F.Folder.told c.read_head.new.f).files ≡ None) c.in_err-len.was c.from_residual-in_err-len.ensures.1
+    (c.key_piece.ensures.untold (λ image now.
+    let there : (g.F.Folder.told c.args.f.now).files ≡ Some image = ap (λ (t : Told). t.files) (sym c.in_ok-head.ensures.stays) ∙ now in
+    record {
+      agrees = agrees image there;
+      checks = loaded-checks image c.args.entry (lies image there).0 (g.met.F.Folder.are_bytes c.args.f.now image there) (lies image there).1;
+      key = key-readable image c.args.entry (lies image there).0 (lies image there).1;
+    })))
+
+pub returns-clause-number : goal.returns-clause-number
+returns-clause-number g c image there loaded lies =
+    c.part_named.ensures.number
+    ∙ part-read c.args.key.now image c.args.entry c.in_ok-head.head loaded c.args.room.now c.key_piece.new.out c.in_ok-len.len (c.in_ok-head.ensures.head image there) lies (search rules) c.requires.room
+    (c.in_ok-len.ensures.piece image (ap (λ (t : Told). t.files) c.in_ok-head.ensures.stays ∙ there))

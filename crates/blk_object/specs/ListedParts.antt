@@ -1,0 +1,115 @@
+-- The parts of a key in the use list, and the first of them.
+use Rattle.std.specs.Prelude.{◌≡◌, ℕ, ◌<◌, List, [], ◌∷◌, ◌++◌, Bool, Option, None, Some, Ok, false, filter, true, if◌then◌else◌}
+use Rattle.std.specs.List.{AllByRecursion}
+use Rattle.std.specs.Option.{option_map}
+use Rattle.std.specs.Str.{bytes_eq}
+use Rattle.blk_image.specs.Image.{Image}
+use Rattle.blk_model.specs.Items.{Item, main, part}
+use Rattle.blk_model.specs.Sizes.{part_count}
+use Rattle.blk_model.specs.State.{State}
+use Rattle.blk_format.specs.Address.{blocks_256, kind_of}
+use Rattle.blk_format.specs.Names.{Name}
+use Rattle.blk_volume.specs.Entries.{IsParent, IsPart, IsPlain, Role}
+use Rattle.blk_volume.specs.Layout.{Layout}
+use Rattle.blk_volume.specs.Loads.{Loaded, Rule, load}
+use Rattle.blk_volume.specs.View.{store_of}
+use Rattle.blk_disk.specs.declared.tables.BlockFiles.{BlockFiles}
+use Rattle.blk_disk.specs.Tables.{is_node_among, stands_among}
+use Rattle.blk_kept.specs.PartlyOut.{KeepsPartlyOut}
+use Rattle.blk_kept.specs.PartlyOutStops.{LeavesOtherKeys}
+use Rattle.blk_chain.specs.Unlinking.{StandsBehind}
+use Rattle.blk_volume.specs.Removal.{is_of_another}
+use Rattle.blk_volume.specs.Searches.{bucket_of_key}
+use Rattle.blk_object.specs.NextItems.{LiesNext}
+use Rattle.blk_object.specs.RemovingNext.{CountsLeft}
+use Rattle.blk_object.specs.declared.listed_parts.ListedPart.{ListedPart}
+
+-- What is read at a node.
+
+-- this is what a node names, by some rule
+pub record LoadsAt (node : ℕ) (loaded : Loaded) (image : Image) : Type 0 where
+  pub rule : Rule
+  pub loads : load (store_of image) rule node ≡ Ok loaded
+
+-- the number of the part of a key that a name says, if it says one
+abbrev pub number_said : List ℕ → Option Name → Option ℕ
+number_said key None = None
+number_said key (Some name) = if bytes_eq name.key key then Some name.part else None
+
+-- the number of the part of a key that a record is, if it is one
+abbrev pub part_number : List ℕ → Role → Option ℕ
+part_number key IsPlain = None
+part_number key (IsParent index) = None
+part_number key (IsPart name index) = number_said key (Some name)
+
+-- the part of a key that lies at a node, if one does
+abbrev pub part_loaded : List ℕ → ℕ → Loaded → Option ListedPart
+part_loaded key node loaded = option_map (λ number. record { node = node; entry = loaded.contents; number = number }) (part_number key loaded.role)
+
+-- the node and the record of a part are there, and its number is one of a part
+pub record IsPartThere (files : BlockFiles) (found : ListedPart) : Type 0 where
+  pub node : is_node_among files found.node ≡ true
+  pub kind : kind_of found.entry ≡ blocks_256
+  pub stands : stands_among files found.entry ≡ true
+  pub number : found.number < part_count
+
+-- What is found in a state.
+
+-- whether an item is a part of a key
+abbrev pub is_part_of : List ℕ → Item → Bool
+is_part_of key (main other) = false
+is_part_of key (part other n) = bytes_eq other key
+
+-- none of some items is a part of a key
+abbrev pub HaveNoPart : List ℕ → List Item → Type 0
+HaveNoPart key items = AllByRecursion (λ item. is_part_of key item ≡ false) items
+
+-- the first of some items that is a part of a key lies there
+pub record IsFirstPart (layout : Layout) (key : List ℕ) (items : List Item) (found : ListedPart) : Type 0 where
+  pub passed : List Item
+  pub behind : List Item
+  pub split : items ≡ passed ++ part key found.number ∷ behind
+  pub none : HaveNoPart key passed
+  pub node_is : layout.place (part key found.number) ≡ found.node
+  pub was : Loaded
+  pub here : layout.at (layout.place (part key found.number)) ≡ Some was
+  pub entry_is : was.contents ≡ found.entry
+
+-- what is found among some items is their first part of a key, or none where they have none
+abbrev pub IsFoundPart : Layout → List ℕ → List Item → Option ListedPart → Type 0
+IsFoundPart layout key items None = HaveNoPart key items
+IsFoundPart layout key items (Some found) = IsFirstPart layout key items found
+
+-- these of some items are searched: all, or those behind the one that lies at a node
+abbrev pub AreSearched : Layout → Option ℕ → (all items : List Item) → Type 0
+AreSearched layout None all items = all ≡ items
+AreSearched layout (Some node) all items = (first : List Item) × (item : Item) × (all ≡ first ++ item ∷ items) × (layout.place item ≡ node)
+
+-- what holds wherever some items of a state are out, or none, of each search of the others
+abbrev pub ForEachSearch : Option ℕ → Image → (Layout → List Item → Type 0) → Type 0
+ForEachSearch from image P =
+    (state : State) (layout : Layout) (keep : Item → Bool) (chains : ℕ → List ℕ) (unlinked : List ℕ) (items : List Item)
+    → KeepsPartlyOut state layout keep chains unlinked image → AreSearched layout from (filter keep state.uses) items
+    → P layout items
+
+-- the node of the first of some items, or none
+abbrev pub first_node : Layout → List Item → Option ℕ
+first_node layout [] = None
+first_node layout (item ∷ items) = Some (layout.place item)
+
+-- What it is to the state.
+
+-- once the main item of a key is out, and none of what is left is a part of it, all items of the key are out, and the others are counted
+abbrev pub NoPartsLeftAreAllOut : Type 0
+NoPartsLeftAreAllOut =
+    (state : State) (layout : Layout) (keep : Item → Bool) (chains : ℕ → List ℕ) (unlinked key : List ℕ) (image : Image)
+    → KeepsPartlyOut state layout keep chains unlinked image → CountsLeft state layout keep image → LeavesOtherKeys key keep → HaveNoPart key (filter keep state.uses)
+    → KeepsPartlyOut state layout (is_of_another key) chains unlinked image × CountsLeft state layout (is_of_another key) image
+
+-- the first part that is found is listed, and isn't out; so it may go next, with the record before it in its chain
+abbrev pub FirstPartsLieNext : Type 0
+FirstPartsLieNext =
+    (state : State) (layout : Layout) (keep : Item → Bool) (chains : ℕ → List ℕ) (unlinked key : List ℕ) (from : Option ℕ) (items : List Item) (found : ListedPart) (before : Option ℕ) (prefix suffix : List ℕ) (image : Image)
+    → KeepsPartlyOut state layout keep chains unlinked image → AreSearched layout from (filter keep state.uses) items → (first : IsFirstPart layout key items found)
+    → StandsBehind (chains (bucket_of_key first.was.key)) found.entry before prefix suffix
+    → LiesNext state layout keep chains (part key found.number) found.node found.entry before

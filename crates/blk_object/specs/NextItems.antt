@@ -1,0 +1,69 @@
+-- The next item of an object goes, while others are out: it is taken out, what it has is freed, and it is counted no longer.
+use Rattle.std.specs.Prelude.{◌≡◌, ◌⊎◌, ℕ, ◌%◌, ◌^◌, List, ◌++◌, Bool, Option, Some, true}
+use Rattle.blk_image.specs.Image.{Image}
+use Rattle.blk_model.specs.Items.{Item, part}
+use Rattle.blk_model.specs.State.{Object, State, object_at}
+use Rattle.blk_volume.specs.Found.{charge_of}
+use Rattle.blk_volume.specs.Layout.{Layout}
+use Rattle.blk_volume.specs.Loads.{Loaded}
+use Rattle.blk_kept.specs.Changes.{SameCounters}
+use Rattle.blk_kept.specs.Keeping.{KeepsUncounted}
+use Rattle.blk_kept.specs.PartlyOut.{KeepsPartlyOut, chains_but, keeps_but}
+use Rattle.blk_kept.specs.PartlyOutStops.{LeavesOtherKeys}
+use Rattle.blk_object.specs.Freeing.{AreGoing}
+use Rattle.blk_object.specs.Removing.{IsGoingOut}
+use Rattle.blk_object.specs.RemovingFound.{LiesAsFound}
+use Rattle.blk_object.specs.RemovingNext.{CountsLeft}
+use Rattle.blk_object.specs.RemovingParts.{LiesLeft}
+
+-- an item that isn't out lies at this node with this record, which stands in its chain, of the chains as they are, behind this one, or is the first
+pub record LiesNext (state : State) (layout : Layout) (keep : Item → Bool) (chains : ℕ → List ℕ) (item : Item) (node entry : ℕ) (before : Option ℕ) : Type 0 where
+  pub was : Loaded
+  pub lies : LiesLeft state layout keep chains item was before
+  pub node_is : layout.place item ≡ node
+  pub entry_is : was.contents ≡ entry
+
+-- what holds wherever some items of a state are out, or none, of each other item that lies there
+abbrev pub ForEachNext : (node entry : ℕ) (before : Option ℕ) → Image → (State → Layout → (keep : Item → Bool) → (chains : ℕ → List ℕ) → List ℕ → Item → Type 0) → Type 0
+ForEachNext node entry before from P =
+    (state : State) (layout : Layout) (keep : Item → Bool) (chains : ℕ → List ℕ) (unlinked : List ℕ) (item : Item)
+    → KeepsPartlyOut state layout keep chains unlinked from → LiesNext state layout keep chains item node entry before
+    → P state layout keep chains unlinked item
+
+-- what holds wherever a state is kept, of each live object whose main item lies there
+abbrev pub ForEachMain : (node entry : ℕ) (before : Option ℕ) → Image → (State → ℕ → Object → Type 0) → Type 0
+ForEachMain node entry before from P =
+    (state : State) (layout : Layout) (unlinked : List ℕ) (number : ℕ) (object : Object)
+    → KeepsUncounted state layout unlinked from → object_at state number ≡ Some object → object.live ≡ true → LiesAsFound state layout object.key node entry before
+    → P state number object
+
+-- what holds wherever the main item of an object is out, and perhaps parts of it, of each other part of it that lies there
+abbrev pub ForEachPart : (node entry : ℕ) (before : Option ℕ) → Image → (State → ℕ → Object → Type 0) → Type 0
+ForEachPart node entry before from P =
+    (state : State) (layout : Layout) (keep : Item → Bool) (chains : ℕ → List ℕ) (unlinked : List ℕ) (number : ℕ) (object : Object) (n : ℕ)
+    → KeepsPartlyOut state layout keep chains unlinked from → object_at state number ≡ Some object → LeavesOtherKeys object.key keep → LiesNext state layout keep chains (part object.key n) node entry before
+    → P state number object
+
+-- the item is out, what it had is freed, and the counters of the index are as they were; its charge as a word is this
+pub record IsOutUncounted (state : State) (layout : Layout) (keep : Item → Bool) (chains : ℕ → List ℕ) (unlinked : List ℕ) (item : Item) (entry charge : ℕ) (from image : Image) : Type 0 where
+  pub out : KeepsPartlyOut state layout (keeps_but keep item) (chains_but chains entry) unlinked image
+  pub counters : SameCounters from image
+  pub was : Loaded
+  pub here : layout.at (layout.place item) ≡ Some was
+  pub charge_is : charge ≡ charge_of was % 2 ^ 32
+
+-- the item is out, what it had is freed, and the items that are left are counted
+pub record IsOutAndCounted (state : State) (layout : Layout) (keep : Item → Bool) (chains : ℕ → List ℕ) (unlinked : List ℕ) (item : Item) (entry : ℕ) (image : Image) : Type 0 where
+  pub out : KeepsPartlyOut state layout (keeps_but keep item) (chains_but chains entry) unlinked image
+  pub counted : CountsLeft state layout (keeps_but keep item) image
+
+-- the item is out, and its words, which are unlinked, are being freed
+pub record IsBeingFreed (state : State) (layout : Layout) (keep : Item → Bool) (chains : ℕ → List ℕ) (unlinked : List ℕ) (item : Item) (entry : ℕ) (image : Image) : Type 0 where
+  pub words : List ℕ
+  pub mid : Image
+  pub out : KeepsPartlyOut state layout (keeps_but keep item) (chains_but chains entry) (words ++ unlinked) mid
+  pub going : AreGoing words mid image
+
+-- nothing has changed, or the item is going out, or it is out and its words are being freed
+abbrev pub IsGoingNext : State → Layout → (keep : Item → Bool) → (chains : ℕ → List ℕ) → List ℕ → Item → (node entry : ℕ) (before : Option ℕ) → (from image : Image) → Type 0
+IsGoingNext state layout keep chains unlinked item node entry before from image = (image ≡ from) ⊎ (IsGoingOut node entry before from image ⊎ IsBeingFreed state layout keep chains unlinked item entry image)

@@ -1,0 +1,62 @@
+-- What the index counts while items of an object are out, each freed and counted less before the next.
+use Rattle.std.specs.Prelude.{◌≡◌, ℕ, ◌%◌, ◌^◌, List, [], ◌∷◌, ◌++◌, Bool, Option, None, Some, false, filter, length, true}
+use Rattle.blk_image.specs.Image.{Image, Index, byte}
+use Rattle.blk_model.specs.Items.{Item}
+use Rattle.blk_model.specs.Refusals.{refused}
+use Rattle.blk_model.specs.Request.{Request}
+use Rattle.blk_model.specs.Room.{Group, whole, without}
+use Rattle.blk_model.specs.State.{IsValidState, Object, State, is_named, object_at}
+use Rattle.blk_model.specs.Step.{step}
+use Rattle.blk_format.specs.Headers.{num_bytes_of, num_entries_of, sizes_of}
+use Rattle.blk_volume.specs.Found.{charge_of}
+use Rattle.blk_volume.specs.Layout.{Layout, is_listed, nodes_of}
+use Rattle.blk_volume.specs.Loads.{Loaded}
+use Rattle.blk_volume.specs.Removal.{is_of_another, without_items}
+use Rattle.blk_kept.specs.CommandStates.{IsDoomOf}
+use Rattle.blk_kept.specs.CountsOfParts.{charges_at}
+use Rattle.blk_kept.specs.GroupLaws.{IsLess, gone_nodes, layout_less}
+use Rattle.blk_kept.specs.Keeping.{Keeps}
+use Rattle.blk_kept.specs.PartlyOut.{KeepsPartlyOut, keeps_but}
+use Rattle.blk_object.specs.Counters.{AreCountedLess}
+
+-- the counters of the index count the items that are still listed, and sum their charges
+pub record CountsLeft (state : State) (layout : Layout) (keep : Item → Bool) (image : Image) : Type 0 where
+  pub sizes : sizes_of (byte image Index) 0 ≡ length (filter keep state.uses)
+  pub num_entries : num_entries_of (byte image Index) ≡ length (filter keep state.uses)
+  pub num_bytes : num_bytes_of (byte image Index) ≡ charges_at layout (nodes_of layout (filter keep state.uses)) % 2 ^ 32
+
+-- whatever is kept while some items are out is kept still
+abbrev pub KeepsOut : Image → Image → Type 0
+KeepsOut from image = (state : State) (layout : Layout) (keep : Item → Bool) (chains : ℕ → List ℕ) (unlinked : List ℕ) → KeepsPartlyOut state layout keep chains unlinked from → KeepsPartlyOut state layout keep chains unlinked image
+
+-- at first all items are counted
+abbrev pub KeptStatesCountAll : Type 0
+KeptStatesCountAll = (state : State) (layout : Layout) (unlinked : List ℕ) (image : Image) → Keeps state layout unlinked image → CountsLeft state layout (λ item. true) image
+
+-- once an item more is out and counted less, with its charge, those that are left are counted
+abbrev pub NextItemsAreCountedLess : Type 0
+NextItemsAreCountedLess = (state : State) (layout : Layout) (keep : Item → Bool) (item : Item) (was : Loaded) (from image : Image) → IsValidState state → is_listed state item ≡ true → keep item ≡ true → layout.at (layout.place item) ≡ Some was
+    → CountsLeft state layout keep from → AreCountedLess (charge_of was % 2 ^ 32) from image → CountsLeft state layout (keeps_but keep item) image
+
+-- and what is kept is kept still
+abbrev pub CountedLessIsStillOut : Type 0
+CountedLessIsStillOut = (charge : ℕ) (from image : Image) → AreCountedLess charge from image → KeepsOut from image
+
+-- once all items that go are out, the state without them is kept and counted
+abbrev pub CountedOutEndsKept : Type 0
+CountedOutEndsKept = (state : State) (layout : Layout) (unlinked : List ℕ) (objects : List (Option Object)) (keep : Item → Bool) (chains : ℕ → List ℕ) (image : Image) → KeepsPartlyOut state layout keep chains unlinked image → CountsLeft state layout keep image → IsLess state objects keep
+    → Keeps (without_items state objects keep) (layout_less layout (gone_nodes state layout keep) chains) unlinked image
+
+-- so a DoomKey of an object that no handle names ends once its items are out
+abbrev pub CountedOutDoomsEnd : Type 0
+CountedOutDoomsEnd = (state : State) (moment : ℕ) (request : Request) (layout : Layout) (unlinked : List ℕ) (chains : ℕ → List ℕ) (image : Image) (number : ℕ) (object : Object) → refused moment request state ≡ None → IsDoomOf request state number
+    → object_at state number ≡ Some object → object.live ≡ true → is_named state number ≡ false → KeepsPartlyOut state layout (is_of_another object.key) chains unlinked image → CountsLeft state layout (is_of_another object.key) image
+    → Keeps (step state moment request).state (layout_less layout (gone_nodes state layout (is_of_another object.key)) chains) unlinked image
+
+-- and the next group is gone
+abbrev pub CountedOutGroupsAreGone : Type 0
+CountedOutGroupsAreGone =
+    (state : State) (first : List Group) (layout : Layout) (unlinked : List ℕ) (chains : ℕ → List ℕ) (image : Image) (number : ℕ) (object : Object) (parts : List ℕ)
+    → object_at (without first state) number ≡ Some object → object.live ≡ true → is_named (without first state) number ≡ false
+    → KeepsPartlyOut (without first state) layout (is_of_another object.key) chains unlinked image → CountsLeft (without first state) layout (is_of_another object.key) image
+    → Keeps (without (first ++ whole object.key parts ∷ []) state) (layout_less layout (gone_nodes (without first state) layout (is_of_another object.key)) chains) unlinked image

@@ -1,0 +1,195 @@
+// The parts of a key in the use list.
+ghost use Rattle.std.specs.Prelude.{◌≡◌, ◌≤◌, ℕ, List, ◌<◌, IfOk, IfSome, IsTrue, None, length, true};
+ghost use Rattle.std.specs.Option.{ForSome};
+ghost use Rattle.blk_image.specs.Told.{Rises, Stays};
+ghost use Rattle.blk_model.specs.Sizes.{part_count};
+ghost use Rattle.blk_format.specs.Address.{blocks_256, kind_of};
+ghost use Rattle.blk_format.specs.Names.{read_name};
+ghost use Rattle.blk_volume.specs.Loads.{Loaded};
+ghost use Rattle.blk_volume.specs.View.{node_at};
+ghost use Rattle.blk_io.specs.Faults.{IfDamaged, IfDevice};
+ghost use Rattle.blk_disk.specs.Open.{IsOpen};
+ghost use Rattle.blk_disk.specs.Tables.{Agrees, is_node_among, stands_among};
+ghost use Rattle.blk_entry.specs.Keys.{most_key};
+ghost use Rattle.blk_object.specs.ListedParts.{ForEachSearch, IsFoundPart, IsPartThere, LoadsAt, first_node, number_said, part_loaded, part_number};
+ghost use Rattle.blk_object.specs.Owning.{LoadsWith};
+
+use blk_addr::Addr;
+use blk_disk::{BlockFiles, file_of};
+use blk_entry::{key_piece, read_head};
+use blk_io::{Damage, Fault, Folder};
+use blk_lru::{after, first};
+use blk_ranges::read_child_name;
+use blk_record::{BlockHead, NodeView, Record};
+
+// The most nodes of a use list.
+const MOST_NODES: u32 = 131_072;
+
+// The flags of the record of a part.
+const CHILD: u32 = 2;
+
+// Where the parent's key begins in the name of a part.
+const KEY_OF_NAME: usize = 6;
+
+/// A part in the use list: its node, its record, and its number.
+#[derive(Clone, Copy, Debug, PartialEq, Eq)]
+pub struct ListedPart {
+    pub node: Addr,
+    pub entry: Addr,
+    pub number: u32,
+}
+
+/// The first part of a key in the use list, from its front on, or behind the node of an item; `None` where there is none.
+///
+/// Nothing is changed. Of each item this takes three folder calls for its node and its record, and of a part one more for
+/// its name, which is read into `room`. At most as many items are looked at as a cache may have.
+pub fn next_part<F: Folder>(
+    f: &mut F,
+    files: &BlockFiles,
+    key: &[u8],
+    from: Option<Addr>,
+    room: &mut [u8],
+) -> Result<Option<ListedPart>, Fault>
+    requires from { IfSome from (λ node. IsTrue (is_node_among files.now node)) }
+    requires room { most_key ≤ length room.old }
+    requires is_open { ForSome (F.told f.old).files (IsOpen files.now) }
+
+    // Where some items are out, or none, it is the first part of the key among the others, or behind that one; and there is none exactly where none is found.
+    ensures part { IfOk result (λ found. ForSome (F.told f.old).files (λ image. ForEachSearch from image (λ layout items. IsFoundPart layout key.now items found))) }
+    ensures there { IfOk result (λ found. IfSome found (IsPartThere files.now)) }
+
+    ensures stays { Stays (F.told f.old) (F.told f.new) }
+
+    // A folder that tells its files, in which a state is so, gives no damage.
+    ensures untold { ForSome (F.told f.old).files (λ image. ForEachSearch from image (λ layout items. IfDamaged result (λ _. (F.told f.old).files ≡ None))) }
+
+    ensures later { F.faults f.old ≤ F.faults f.new }
+    ensures device { IfDevice result (Rises (F.faults f.old) (F.faults f.new)) }
+{
+    let mut next = node_behind(f, files, from)?;
+    for _ in 0..MOST_NODES {
+        let Some(node) = next else {
+            return Ok(None);
+        };
+        let found = part_at(f, files, key, node, room)?;
+        if found.is_some() {
+            return Ok(found);
+        }
+        next = after(f, files, node)?;
+    }
+    Ok(None)
+}
+
+// The first node of the list, or the one behind a node.
+fn node_behind<F: Folder>(
+    f: &mut F,
+    files: &BlockFiles,
+    from: Option<Addr>,
+) -> Result<Option<Addr>, Fault>
+    requires from { IfSome from (λ node. IsTrue (is_node_among files.now node)) }
+    requires is_open { ForSome (F.told f.old).files (IsOpen files.now) }
+    ensures node { IfOk result (λ node. ForSome (F.told f.old).files (λ image. ForEachSearch from image (λ layout items. node ≡ first_node layout items))) }
+    ensures stands { IfOk result (λ node. IfSome node (λ n. IsTrue (is_node_among files.now n))) }
+    ensures stays { Stays (F.told f.old) (F.told f.new) }
+    ensures untold { ForSome (F.told f.old).files (λ image. ForEachSearch from image (λ layout items. IfDamaged result (λ _. (F.told f.old).files ≡ None))) }
+    ensures later { F.faults f.old ≤ F.faults f.new }
+    ensures device { IfDevice result (Rises (F.faults f.old) (F.faults f.new)) }
+{
+    match from {
+        Some(node) => after(f, files, node),
+        None => first(f, files),
+    }
+}
+
+// The part of a key at a node, if one lies there.
+fn part_at<F: Folder>(
+    f: &mut F,
+    files: &BlockFiles,
+    key: &[u8],
+    node: Addr,
+    room: &mut [u8],
+) -> Result<Option<ListedPart>, Fault>
+    requires node { IsTrue (is_node_among files.now node) }
+    requires room { most_key ≤ length room.old }
+    ensures part { IfOk result (λ found. ForSome (F.told f.old).files (λ image. (loaded : Loaded) → LoadsAt node loaded image → found ≡ part_loaded key.now node loaded)) }
+    ensures there { IfOk result (λ found. IfSome found (IsPartThere files.now)) }
+    ensures stays { Stays (F.told f.old) (F.told f.new) }
+    ensures untold { ForSome (F.told f.old).files (Agrees files.now) → ForSome (F.told f.old).files (λ image. (loaded : Loaded) × LoadsAt node loaded image) → IfDamaged result (λ _. (F.told f.old).files ≡ None) }
+    ensures later { F.faults f.old ≤ F.faults f.new }
+    ensures device { IfDevice result (Rises (F.faults f.old) (F.faults f.new)) }
+{
+    let entry = entry_named(f, files, node)?;
+    match number_of(f, files, key, entry, room)? {
+        Some(number) => Ok(Some(ListedPart {
+            node,
+            entry,
+            number,
+        })),
+        None => Ok(None),
+    }
+}
+
+// The record that a node names, by one folder call.
+fn entry_named<F: Folder>(f: &mut F, files: &BlockFiles, node: Addr) -> Result<Addr, Fault>
+    requires node { IsTrue (is_node_among files.now node) }
+    ensures entry { IfOk result (λ entry. ForSome (F.told f.old).files (λ image. entry ≡ (node_at image node).contents)) }
+    ensures kind { IfOk result (λ entry. kind_of entry ≡ blocks_256) }
+    ensures stands { IfOk result (λ entry. IsTrue (stands_among files.now entry)) }
+    ensures stays { Stays (F.told f.old) (F.told f.new) }
+    ensures untold { ForSome (F.told f.old).files (Agrees files.now) → ForSome (F.told f.old).files (λ image. (loaded : Loaded) × LoadsAt node loaded image) → IfDamaged result (λ _. (F.told f.old).files ≡ None) }
+    ensures later { F.faults f.old ≤ F.faults f.new }
+    ensures device { IfDevice result (Rises (F.faults f.old) (F.faults f.new)) }
+{
+    let mut bytes = [0u8; 4];
+    files.read_block(f, node, NodeView::CONTENTS, &mut bytes)?;
+    let found = u32::from_le_bytes(bytes);
+    let Some(entry) = files.entry(found) else {
+        let file = file_of(node);
+        let at = BlockHead::HEADER_LEN
+            + u64::from(node.start()) * NodeView::SIZE as u64
+            + u64::from(NodeView::CONTENTS);
+        return Err(Fault::Damaged(Damage { file, at, found }));
+    };
+    Ok(entry)
+}
+
+// The number of the part of a key that a record is, if it is one.
+fn number_of<F: Folder>(
+    f: &mut F,
+    files: &BlockFiles,
+    key: &[u8],
+    entry: Addr,
+    room: &mut [u8],
+) -> Result<Option<u32>, Fault>
+    requires kind { kind_of entry ≡ blocks_256 }
+    requires stands { IsTrue (stands_among files.now entry) }
+    requires room { most_key ≤ length room.old }
+    ensures number { IfOk result (λ number. ForSome (F.told f.old).files (λ image. (loaded : Loaded) → LoadsWith entry loaded image → number ≡ part_number key.now loaded.role)) }
+    ensures small { IfOk result (λ number. IfSome number (λ n. n < part_count)) }
+    ensures stays { Stays (F.told f.old) (F.told f.new) }
+    ensures untold { ForSome (F.told f.old).files (Agrees files.now) → ForSome (F.told f.old).files (λ image. (loaded : Loaded) × LoadsWith entry loaded image) → IfDamaged result (λ _. (F.told f.old).files ≡ None) }
+    ensures later { F.faults f.old ≤ F.faults f.new }
+    ensures device { IfDevice result (Rises (F.faults f.old) (F.faults f.new)) }
+{
+    let head = read_head(f, files, entry)?;
+    if head.flags != CHILD {
+        return Ok(None);
+    }
+    let len = key_piece(f, files, entry, 0, room)?;
+    Ok(part_named(&room[..len], key))
+}
+
+// The number of the part of a key that a name says, if it says one.
+fn part_named(name: &[u8], key: &[u8]) -> Option<u32>
+    ensures number { result ≡ number_said key.now (read_name name.now) }
+    ensures small { IfSome result (λ n. n < part_count) }
+{
+    let child = read_child_name(name)?;
+    let behind = &name[KEY_OF_NAME..];
+    let parent = &behind[..child.key_len];
+    if *parent == *key {
+        Some(child.part)
+    } else {
+        None
+    }
+}
