@@ -1,0 +1,76 @@
+use Rattle.std.proofs.Common.{◌≡◌, None, refl, sym, ◌∙◌, ap, subst}
+use Rattle.std.specs.Option.{ForSome}
+use Rattle.blk_image.specs.Image.{Index, byte}
+use Rattle.blk_image.specs.Told.{Passes, Told}
+use Rattle.blk_io.proofs.Carried.{carried, if_damaged_weaker}
+use Rattle.blk_format.specs.Address.{blocks_256, rankings}
+use Rattle.blk_format.specs.Headers.{this_id_of}
+use Rattle.blk_disk.specs.Open.{IsOpen}
+use Rattle.blk_object.specs.Making.{AreCounters, FindsWhileMade, HasNewObjects, HasRoomForNew}
+use Rattle.blk_object.proofs.MakingMade.{among-names, can-list, counting-made, listing-made, nothing-made, object-made, room-three, taking-made, tells-late, tells-mid, writing-made}
+use Rattle.blk_object.proofs.making.make_entry.Goals as goal
+
+pub returns-in_err-counters-clause-stops : goal.returns-in_err-counters-clause-stops
+returns-in_err-counters-clause-stops g c from there room = nothing-made c.args.key.now (g.F.Folder.told c.args.f.now) (g.F.Folder.told c.read_counters.new.f) c.in_err-counters.ensures.stays from there
+
+pub take_places-requires-clause-is_open : goal.take_places-requires-clause-is_open
+take_places-requires-clause-is_open g c = subst (λ (t : Told). ForSome t.files (IsOpen c.args.files.now)) (sym c.in_ok-counters.ensures.stays) c.requires.is_open
+
+pub returns-in_err-places-clause-stops : goal.returns-in_err-places-clause-stops
+returns-in_err-places-clause-stops g c =
+    subst (λ (t : Told). ForSome t.files (λ from. HasRoomForNew c.args.key.now c.args.mark from → Passes t (g.F.Folder.told c.take_places.new.f) (FindsWhileMade c.args.key.now from))) c.in_ok-counters.ensures.stays
+    (taking-made (g.F.Folder.told c.read_counters.new.f) (g.F.Folder.told c.take_places.new.f) c.args.key.now c.args.mark c.take_places.ensures.stops)
+
+pub returns-in_err-write_new-clause-stops : goal.returns-in_err-write_new-clause-stops
+returns-in_err-write_new-clause-stops g c =
+    subst (λ (t : Told). ForSome t.files (λ from. HasRoomForNew c.args.key.now c.args.mark from → Passes t (g.F.Folder.told c.write_new.new.f) (FindsWhileMade c.args.key.now from))) c.in_ok-counters.ensures.stays
+    (writing-made (g.F.Folder.told c.read_counters.new.f) (g.F.Folder.told c.take_places.new.f) c.args.key.now c.args.mark c.take_places.ensures.stops c.in_ok-places.places c.in_ok-places.ensures.taken (g.F.Folder.told c.write_new.new.f) c.write_new.ensures.stops)
+
+pub returns-in_err-list_entry-clause-stops : goal.returns-in_err-list_entry-clause-stops
+returns-in_err-list_entry-clause-stops g c =
+    subst (λ (t : Told). ForSome t.files (λ from. HasRoomForNew c.args.key.now c.args.mark from → Passes t (g.F.Folder.told c.list_entry.new.f) (FindsWhileMade c.args.key.now from))) c.in_ok-counters.ensures.stays
+    (listing-made (g.F.Folder.told c.read_counters.new.f) (g.F.Folder.told c.take_places.new.f) c.args.key.now c.args.mark c.take_places.ensures.stops c.in_ok-places.places c.in_ok-places.ensures.taken (g.F.Folder.told c.write_new.new.f) c.write_new.ensures.stops c.in_ok-write_new.ensures.written (g.F.Folder.told c.list_entry.new.f) c.list_entry.ensures.stops)
+
+pub returns-in_err-count_entry-clause-stops : goal.returns-in_err-count_entry-clause-stops
+returns-in_err-count_entry-clause-stops g c =
+    subst (λ (t : Told). ForSome t.files (λ from. HasRoomForNew c.args.key.now c.args.mark from → Passes t (g.F.Folder.told c.count_entry.new.f) (FindsWhileMade c.args.key.now from))) c.in_ok-counters.ensures.stays
+    (counting-made (g.F.Folder.told c.read_counters.new.f) (g.F.Folder.told c.take_places.new.f) c.args.key.now c.args.mark c.take_places.ensures.stops c.in_ok-places.places c.in_ok-places.ensures.taken (g.F.Folder.told c.write_new.new.f) c.write_new.ensures.stops c.in_ok-write_new.ensures.written (g.F.Folder.told c.list_entry.new.f) c.list_entry.ensures.stops c.in_ok-list_entry.ensures.listed (g.F.Folder.told c.count_entry.new.f) c.count_entry.ensures.stops)
+
+pub returns-clause-stops : goal.returns-clause-stops
+returns-clause-stops g c =
+    subst (λ (t : Told). ForSome t.files (λ from. HasRoomForNew c.args.key.now c.args.mark from → Passes t (g.F.Folder.told c.count_entry.new.f) (FindsWhileMade c.args.key.now from))) c.in_ok-counters.ensures.stays
+    (counting-made (g.F.Folder.told c.read_counters.new.f) (g.F.Folder.told c.take_places.new.f) c.args.key.now c.args.mark c.take_places.ensures.stops c.in_ok-places.places c.in_ok-places.ensures.taken (g.F.Folder.told c.write_new.new.f) c.write_new.ensures.stops c.in_ok-write_new.ensures.written (g.F.Folder.told c.list_entry.new.f) c.list_entry.ensures.stops c.in_ok-list_entry.ensures.listed (g.F.Folder.told c.count_entry.new.f) c.count_entry.ensures.stops)
+
+pub returns-in_err-places-clause-untold : goal.returns-in_err-places-clause-untold
+returns-in_err-places-clause-untold g c room =
+    carried c.take_places.result c.from_residual-in_err-places.result c.in_err-places.field-0.0 (λ _. (g.F.Folder.told c.args.f.now).files ≡ None) c.in_err-places.was c.from_residual-in_err-places.ensures.1
+    (if_damaged_weaker c.take_places.result (λ _. (g.F.Folder.told c.read_counters.new.f).files ≡ None) (λ _. (g.F.Folder.told c.args.f.now).files ≡ None) (λ damage none. ap (λ (t : Told). t.files) (sym c.in_ok-counters.ensures.stays) ∙ none) (c.take_places.ensures.untold (λ from there. room-three c.args.key.now c.args.mark from ((subst (λ (t : Told). ForSome t.files (HasRoomForNew c.args.key.now c.args.mark)) (sym c.in_ok-counters.ensures.stays) room) from there))))
+
+pub returns-in_err-write_new-clause-untold : goal.returns-in_err-write_new-clause-untold
+returns-in_err-write_new-clause-untold g c room =
+    carried c.write_new.result c.from_residual-in_err-write_new.result c.in_err-write_new.field-0.0 (λ _. (g.F.Folder.told c.args.f.now).files ≡ None) c.in_err-write_new.was c.from_residual-in_err-write_new.ensures.1
+    (if_damaged_weaker c.write_new.result (λ _. (g.F.Folder.told c.take_places.new.f).files ≡ None) (λ _. (g.F.Folder.told c.args.f.now).files ≡ None) (λ damage none. ap (λ (t : Told). t.files) (sym c.in_ok-counters.ensures.stays) ∙ tells-mid (g.F.Folder.told c.read_counters.new.f) (g.F.Folder.told c.take_places.new.f) c.args.key.now c.args.mark c.take_places.ensures.stops (subst (λ (t : Told). ForSome t.files (HasRoomForNew c.args.key.now c.args.mark)) (sym c.in_ok-counters.ensures.stays) room) none) c.write_new.ensures.untold)
+
+pub returns-in_err-list_entry-clause-untold : goal.returns-in_err-list_entry-clause-untold
+returns-in_err-list_entry-clause-untold g c room =
+    carried c.list_entry.result c.from_residual-in_err-list_entry.result c.in_err-list_entry.field-0.0 (λ _. (g.F.Folder.told c.args.f.now).files ≡ None) c.in_err-list_entry.was c.from_residual-in_err-list_entry.ensures.1
+    (if_damaged_weaker c.list_entry.result (λ _. (g.F.Folder.told c.write_new.new.f).files ≡ None) (λ _. (g.F.Folder.told c.args.f.now).files ≡ None) (λ damage none. ap (λ (t : Told). t.files) (sym c.in_ok-counters.ensures.stays) ∙ tells-late (g.F.Folder.told c.read_counters.new.f) (g.F.Folder.told c.take_places.new.f) c.args.key.now c.args.mark c.take_places.ensures.stops c.in_ok-places.places c.in_ok-places.ensures.taken (g.F.Folder.told c.write_new.new.f) c.write_new.ensures.stops (subst (λ (t : Told). ForSome t.files (HasRoomForNew c.args.key.now c.args.mark)) (sym c.in_ok-counters.ensures.stays) room) none)
+    (c.list_entry.ensures.untold (can-list (g.F.Folder.told c.read_counters.new.f) (g.F.Folder.told c.take_places.new.f) c.args.key.now c.args.mark c.take_places.ensures.stops c.in_ok-places.places c.in_ok-places.ensures.taken (g.F.Folder.told c.write_new.new.f) c.write_new.ensures.stops c.in_ok-write_new.ensures.written (subst (λ (t : Told). ForSome t.files (HasRoomForNew c.args.key.now c.args.mark)) (sym c.in_ok-counters.ensures.stays) room) (λ none. c.write_new.ensures.silent (c.take_places.ensures.silent none)))))
+
+pub list_entry-requires-clause-stands : goal.list_entry-requires-clause-stands
+list_entry-requires-clause-stands g c = among-names c.take_places.new.files blocks_256 c.in_ok-places.places.entry c.in_ok-places.ensures.entry.2 c.in_ok-places.ensures.entry.0 c.in_ok-places.ensures.entry.3
+
+pub list_entry-requires-clause-node : goal.list_entry-requires-clause-node
+list_entry-requires-clause-node g c = among-names c.take_places.new.files rankings c.in_ok-places.places.node c.in_ok-places.ensures.node.1 c.in_ok-places.ensures.node.0 c.in_ok-places.ensures.node.2
+
+pub returns-clause-stands : goal.returns-clause-stands
+returns-clause-stands g c = (
+  among-names c.take_places.new.files blocks_256 c.in_ok-places.places.entry c.in_ok-places.ensures.entry.2 c.in_ok-places.ensures.entry.0 c.in_ok-places.ensures.entry.3,
+  among-names c.take_places.new.files rankings c.in_ok-places.places.node c.in_ok-places.ensures.node.1 c.in_ok-places.ensures.node.0 c.in_ok-places.ensures.node.2,
+)
+
+pub returns-clause-made : goal.returns-clause-made
+returns-clause-made g c =
+    subst (λ (t : Told). ForSome t.files (λ from. this_id_of (byte from Index) ≡ c.args.mark → ForSome (g.F.Folder.told c.count_entry.new.f).files (HasNewObjects c.args.key.now (record { entry = c.in_ok-places.places.entry; node = c.in_ok-places.places.node }) from))) c.in_ok-counters.ensures.stays
+    (object-made (g.F.Folder.told c.read_counters.new.f) (g.F.Folder.told c.take_places.new.f) c.args.key.now c.args.mark c.take_places.ensures.stops c.in_ok-places.places c.in_ok-places.ensures.taken (g.F.Folder.told c.write_new.new.f) c.write_new.ensures.stops c.in_ok-write_new.ensures.written (g.F.Folder.told c.list_entry.new.f) c.list_entry.ensures.stops c.in_ok-list_entry.ensures.listed (g.F.Folder.told c.count_entry.new.f) c.count_entry.ensures.stops c.in_ok-counters.counters
+    (subst (λ (t : Told). ForSome t.files (AreCounters c.in_ok-counters.counters)) (sym c.in_ok-counters.ensures.stays) c.in_ok-counters.ensures.read) _ refl c.in_ok-count_entry.ensures.written (record { entry = c.in_ok-places.places.entry; node = c.in_ok-places.places.node }) refl refl)

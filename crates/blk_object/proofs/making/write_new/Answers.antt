@@ -1,0 +1,49 @@
+use Rattle.std.proofs.Common.{◌≡◌, refl, sym, subst}
+use Rattle.std.specs.Option.{ForSome}
+use Rattle.blk_image.specs.Image.{Image}
+use Rattle.blk_volume.specs.Searches.{bucket_of_key}
+use Rattle.blk_volume.specs.View.{store_of}
+use Rattle.blk_image.specs.Told.{Passes, Told}
+use Rattle.blk_disk.specs.Open.{IsOpen}
+use Rattle.blk_kept.specs.Changes.{StillFinds}
+use Rattle.blk_object.specs.Making.{IsEntryOfKept, words_at}
+use Rattle.blk_object.proofs.MakingTaken.{nothing-finds}
+use Rattle.blk_object.proofs.MakingWritten.{bucket-is, entry-written, fits-next, on-ok-three, writing-finds}
+use Rattle.blk_object.proofs.making.write_new.Goals as goal
+
+pub returns-in_err-next-clause-stops : goal.returns-in_err-next-clause-stops
+returns-in_err-next-clause-stops g c = nothing-finds (words_at c.args.places.now) (g.F.Folder.told c.args.f.now) (g.F.Folder.told c.bucket.new.f) c.in_err-next.ensures.stays
+
+pub returns-in_err-next-clause-is_open : goal.returns-in_err-next-clause-is_open
+returns-in_err-next-clause-is_open g c = subst (λ (t : Told). ForSome t.files (IsOpen c.args.files.now)) (sym c.in_err-next.ensures.stays) c.requires.is_open
+
+pub write_entry-requires-clause-agrees : goal.write_entry-requires-clause-agrees
+write_entry-requires-clause-agrees g c from there = (subst (λ (t : Told). ForSome t.files (IsOpen c.args.files.now)) (sym c.in_ok-next.ensures.stays) c.requires.is_open from there).agrees
+
+pub returns-clause-is_open : goal.returns-clause-is_open
+returns-clause-is_open g c image now = record {
+  agrees = c.write_entry.ensures.agrees image now;
+  whole_index = c.write_entry.ensures.complete (λ from there. (subst (λ (t : Told). ForSome t.files (IsOpen c.args.files.now)) (sym c.in_ok-next.ensures.stays) c.requires.is_open from there).whole_index) image now;
+}
+
+pub returns-clause-stops : goal.returns-clause-stops
+returns-clause-stops g c =
+    let b : Told = g.F.Folder.told c.bucket.new.f in
+    let d : Told = g.F.Folder.told c.write_entry.new.f in
+    subst (λ (t : Told). ForSome t.files (λ from. Passes t d (StillFinds (words_at c.args.places.now) from))) c.in_ok-next.ensures.stays
+    (writing-finds b d c.args.files.now c.args.places.now c.args.mark c.in_ok-next.next c.args.key.now (fits-next c.args.files.now c.args.places.now c.args.mark c.in_ok-next.next c.args.key.now c.requires.fits) c.write_entry.ensures.words
+    (λ from there. (subst (λ (t : Told). ForSome t.files (IsOpen c.args.files.now)) (sym c.in_ok-next.ensures.stays) c.requires.is_open from there).agrees) c.write_entry.ensures.stops)
+
+pub returns-clause-written : goal.returns-clause-written
+returns-clause-written g c =
+    let a : Told = g.F.Folder.told c.args.f.now in
+    let b : Told = g.F.Folder.told c.bucket.new.f in
+    let d : Told = g.F.Folder.told c.write_entry.new.f in
+    on-ok-three c.write_entry.result
+    (λ written shown loads.
+    subst (λ (t : Told). ForSome t.files (λ from. ForSome d.files (IsEntryOfKept c.args.places.now c.args.mark c.args.key.now from))) c.in_ok-next.ensures.stays
+    (entry-written b d c.args.files.now c.args.places.now c.args.mark c.in_ok-next.next c.args.key.now (fits-next c.args.files.now c.args.places.now c.args.mark c.in_ok-next.next c.args.key.now c.requires.fits) c.write_entry.ensures.words
+    (λ from there. (subst (λ (t : Told). ForSome t.files (IsOpen c.args.files.now)) (sym c.in_ok-next.ensures.stays) c.requires.is_open from there).agrees) c.write_entry.ensures.stops c.args.moment
+    (subst (λ (t : Told). ForSome t.files (λ (i : Image). c.in_ok-next.next ≡ (store_of i).table (bucket_of_key c.args.key.now))) (sym c.in_ok-next.ensures.stays) (λ from there. bucket-is from c.args.key.now c.super_fast_hash-hash.result _ c.in_ok-next.next c.super_fast_hash-hash.ensures refl (c.in_ok-next.ensures.word from there)))
+    written shown (loads refl)))
+    c.write_entry.ensures.written c.write_entry.ensures.shown c.write_entry.ensures.loads

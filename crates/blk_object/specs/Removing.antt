@@ -1,0 +1,1 @@
+-- What an object leaves that goes.

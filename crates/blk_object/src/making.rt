@@ -1,0 +1,132 @@
+// A new object is made.
+ghost use Rattle.std.specs.Prelude.{◌≡◌, ◌≢◌, ◌≤◌, None, IfOk, IsTrue, OnOk, length};
+ghost use Rattle.std.specs.Option.{ForSome};
+ghost use Rattle.blk_image.specs.Image.{Index as index, byte};
+ghost use Rattle.blk_image.specs.Told.{Passes, Rises};
+ghost use Rattle.blk_format.specs.Headers.{this_id_of};
+ghost use Rattle.blk_io.specs.Faults.{IfDamaged, IfDevice};
+ghost use Rattle.blk_disk.specs.Open.{IsOpen};
+ghost use Rattle.blk_disk.specs.Tables.{is_node_among, is_record_among};
+ghost use Rattle.blk_entry.specs.Writing.{FitsKey, HoldsLongKey, LiesApart};
+ghost use Rattle.blk_alloc.specs.Extending.{KeepsStanding};
+ghost use Rattle.blk_kept.specs.Changes.{StillFinds};
+ghost use Rattle.blk_object.specs.Making.{CanBeListed, FindsUntilListed, FindsWhileMade, HasNewObjects, HasRoomForNew, IsEntryOfKept, IsListed, new_entry, words_at};
+
+use crate::making_counts::{count_entry, read_counters};
+use crate::making_places::{Places, take_places};
+use blk_addr::Addr;
+use blk_chain::link_front;
+use blk_disk::BlockFiles;
+use blk_entry::{NewEntry, write_entry};
+use blk_index::bucket;
+use blk_io::{Fault, Folder};
+use blk_lru::insert_front;
+use blk_record::{IndexHead, super_fast_hash};
+
+/// Where a new object lies.
+#[derive(Clone, Copy, Debug)]
+pub struct Made {
+    /// Its record.
+    pub entry: Addr,
+    /// Its rankings node.
+    pub node: Addr,
+}
+
+/// Makes a new object without streams, with a key that no other has: its places are taken, its entry is written, with
+/// the number of the session as its mark, then its node comes in front of the use list and its record in front of its
+/// chain, and the index counts it.
+pub fn make_entry<F: Folder>(
+    f: &mut F,
+    files: &mut BlockFiles,
+    key: &[u8],
+    mark: u32,
+    moment: u64,
+) -> Result<Made, Fault>
+    requires some { 1 ≤ length key.now }
+    requires most { length key.now ≤ 32768 }
+    requires mark { mark ≢ 0 }
+    requires is_open { ForSome (F.told f.old).files (IsOpen files.old) }
+
+    // Each state that was kept, that can have the object, in a session of this number, is kept with it in the end.
+    ensures made { IfOk result (λ made. ForSome (F.told f.old).files (λ from. this_id_of (byte from index) ≡ mark → ForSome (F.told f.new).files (HasNewObjects key.now made from))) }
+
+    // At each word what was at rest is found: the new object is dirty, and so it isn't.
+    ensures stops { ForSome (F.told f.old).files (λ from. HasRoomForNew key.now mark from → Passes (F.told f.old) (F.told f.new) (FindsWhileMade key.now from)) }
+
+    // What stood still does, and so do the record and the node.
+    ensures keeps { KeepsStanding files.old files.new }
+    ensures stands { IfOk result (λ made. IsTrue (is_record_among files.new made.entry) × IsTrue (is_node_among files.new made.node)) }
+    ensures is_open { OnOk result (ForSome (F.told f.new).files (IsOpen files.new)) }
+
+    // A folder that tells its files, and keeps such a state, gives no damage.
+    ensures untold { ForSome (F.told f.old).files (HasRoomForNew key.now mark) → IfDamaged result (λ _. (F.told f.old).files ≡ None) }
+    ensures silent { (F.told f.old).files ≡ None → (F.told f.new).files ≡ None }
+    ensures later { F.faults f.old ≤ F.faults f.new }
+    ensures device { IfDevice result (Rises (F.faults f.old) (F.faults f.new)) }
+{
+    let counters = read_counters(f)?;
+    let places = take_places(f, files, key.len() as u32)?;
+    write_new(f, files, &places, key, mark, moment)?;
+    list_entry(f, files, places.entry, places.node)?;
+    count_entry(f, files, &counters, key.len() as u32)?;
+    Ok(Made {
+        entry: places.entry,
+        node: places.node,
+    })
+}
+
+// Writes the entry of a new object at its places, in front of the chain of its key.
+fn write_new<F: Folder>(
+    f: &mut F,
+    files: &BlockFiles,
+    places: &Places,
+    key: &[u8],
+    mark: u32,
+    moment: u64,
+) -> Result<(), Fault>
+    requires fits { FitsKey files.now (new_entry places.now mark 0) key.now }
+    requires holds { ForSome (F.told f.old).files (HoldsLongKey places.now.long_key (length key.now)) }
+    requires apart { LiesApart places.now.entry places.now.long_key }
+    requires is_open { ForSome (F.told f.old).files (IsOpen files.now) }
+    ensures written { OnOk result (ForSome (F.told f.old).files (λ from. ForSome (F.told f.new).files (IsEntryOfKept places.now mark key.now from))) }
+    ensures stops { ForSome (F.told f.old).files (λ from. Passes (F.told f.old) (F.told f.new) (StillFinds (words_at places.now) from)) }
+    ensures is_open { ForSome (F.told f.new).files (IsOpen files.now) }
+    ensures untold { IfDamaged result (λ _. (F.told f.old).files ≡ None) }
+    ensures silent { (F.told f.old).files ≡ None → (F.told f.new).files ≡ None }
+    ensures later { F.faults f.old ≤ F.faults f.new }
+    ensures device { IfDevice result (Rises (F.faults f.old) (F.faults f.new)) }
+{
+    let hash = super_fast_hash(key);
+    let next = bucket(f, (hash % IndexHead::BUCKETS) as u16)?;
+    let new = NewEntry {
+        entry: places.entry,
+        node: places.node,
+        long_key: places.long_key,
+        child: false,
+        dirty: mark,
+        next,
+    };
+    write_entry(f, files, &new, key, moment)
+}
+
+// Puts the node of an entry that is written in front of the use list, and then its record in front of its chain.
+fn list_entry<F: Folder>(
+    f: &mut F,
+    files: &BlockFiles,
+    entry: Addr,
+    node: Addr,
+) -> Result<(), Fault>
+    requires stands { IsTrue (is_record_among files.now entry) }
+    requires node { IsTrue (is_node_among files.now node) }
+    requires is_open { ForSome (F.told f.old).files (IsOpen files.now) }
+    ensures listed { OnOk result (ForSome (F.told f.old).files (λ from. ForSome (F.told f.new).files (IsListed entry node from))) }
+    ensures stops { ForSome (F.told f.old).files (λ from. CanBeListed entry node from → Passes (F.told f.old) (F.told f.new) (FindsUntilListed entry node from)) }
+    ensures is_open { ForSome (F.told f.new).files (IsOpen files.now) }
+    ensures untold { ForSome (F.told f.old).files (CanBeListed entry node) → IfDamaged result (λ _. (F.told f.old).files ≡ None) }
+    ensures silent { (F.told f.old).files ≡ None → (F.told f.new).files ≡ None }
+    ensures later { F.faults f.old ≤ F.faults f.new }
+    ensures device { IfDevice result (Rises (F.faults f.old) (F.faults f.new)) }
+{
+    insert_front(f, files, node)?;
+    link_front(f, files, entry)
+}
