@@ -5,3 +5,11 @@ pub mod MakingCounts
 pub mod MakingListed
 pub mod MakingWritten
 pub mod MakingMade
+pub mod TakingOut
+pub mod ChainsOut
+pub mod TakenItems
+pub mod FreedPlaces
+pub mod FreeingRuns
+pub mod OwnedPlaces
+pub mod RemovingCounts
+pub mod OwnedCharges

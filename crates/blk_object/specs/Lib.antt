@@ -1,2 +1,5 @@
 pub mod Making
 pub mod Removing
+pub mod Freeing
+pub mod Owning
+pub mod RemovingCounts

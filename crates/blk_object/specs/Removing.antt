@@ -1,1 +1,89 @@
--- What an object leaves that goes.
+-- An object goes: the node of an item is taken out of the use list, and its record out of its chain.
+use Rattle.std.specs.Prelude.{◌≡◌, ◌⊎◌, ℕ, List, [], Option, None, Some, false, true}
+use Rattle.blk_image.specs.Image.{AreBytes, Image}
+use Rattle.blk_model.specs.Effects.{doomed}
+use Rattle.blk_model.specs.Holding.{rest}
+use Rattle.blk_model.specs.Items.{Item, main}
+use Rattle.blk_model.specs.State.{Object, State, is_named, object_at}
+use Rattle.blk_volume.specs.Completion.{remove}
+use Rattle.blk_volume.specs.Layout.{Layout, is_listed}
+use Rattle.blk_volume.specs.ListPlans.{writes_of}
+use Rattle.blk_volume.specs.ListSteps.{IsPartly}
+use Rattle.blk_volume.specs.Loads.{Loaded}
+use Rattle.blk_volume.specs.Searches.{bucket_of_key}
+use Rattle.blk_volume.specs.View.{list_of}
+use Rattle.blk_chain.specs.Unlinking.{BeforeChecks, CanBeUnlinked, IsSealedAgain, IsStillLinked, IsUnlinked, StandsBehind}
+use Rattle.blk_kept.specs.Changes.{Finds, SameCounters}
+use Rattle.blk_kept.specs.Keeping.{KeepsUncounted}
+use Rattle.blk_kept.specs.PlainRemovals.{IsRemoved, IsRemoving}
+use Rattle.blk_kept.specs.RemovalLaws.{IsRemovalDone, chains_without}
+use Rattle.blk_kept.specs.WordStops.{IsMidRemoval}
+use Rattle.blk_kept_calls.specs.Lists.{IsAmidList}
+
+-- What the call does.
+
+-- an item may go out, by its node, its record and the record before that: the node is in the use list, and once it is out the record can be unlinked, and the record before it checks
+pub record MayGoOut (node entry : ℕ) (before : Option ℕ) (from : Image) : Type 0 where
+  pub listed : IsAmidList node from
+  pub chained : (between : Image) → AreBytes between → IsRemovalDone from node between → CanBeUnlinked entry before between × BeforeChecks before between
+
+-- the node is out of the use list, the record is out of its chain, and the record before it is sealed
+pub record IsTakenOut (node entry : ℕ) (before : Option ℕ) (from image : Image) : Type 0 where
+  pub between : Image
+  pub unlisted : IsRemovalDone from node between
+  pub unlinked : IsUnlinked between entry before image
+  pub sealed : IsSealedAgain between entry before image
+  pub bytes : AreBytes image
+
+-- the record is in its chain yet: nothing has changed, or the record before it is being changed
+abbrev pub IsYetLinked : Image → ℕ → Option ℕ → Image → Type 0
+IsYetLinked between entry None image = image ≡ between
+IsYetLinked between entry (Some before) image = IsStillLinked between entry (Some before) image
+
+-- the node is out of the use list, and the record is in its chain yet, or out of it
+pub record IsBeingUnlinked (node entry : ℕ) (before : Option ℕ) (from image : Image) : Type 0 where
+  pub between : Image
+  pub unlisted : IsRemovalDone from node between
+  pub moment : IsYetLinked between entry before image ⊎ IsUnlinked between entry before image
+
+-- a front of the writes of the removal from the use list is made, or the record is being unlinked
+abbrev pub IsGoingOut : ℕ → ℕ → Option ℕ → Image → Image → Type 0
+IsGoingOut node entry before from image = IsPartly from (writes_of remove node (list_of from)) image ⊎ IsBeingUnlinked node entry before from image
+
+-- What it is to the state that was kept.
+
+-- a listed item lies at its node, and its record stands in its chain behind this one, or is the first
+pub record LiesBehind (state : State) (layout : Layout) (item : Item) (was : Loaded) (before : Option ℕ) : Type 0 where
+  pub listed : is_listed state item ≡ true
+  pub here : layout.at (layout.place item) ≡ Some was
+  pub prefix : List ℕ
+  pub suffix : List ℕ
+  pub stands : StandsBehind (layout.chains (bucket_of_key was.key)) was.contents before prefix suffix
+
+-- such an item may go out
+abbrev pub ListedItemsMayGoOut : Type 0
+ListedItemsMayGoOut = (state : State) (layout : Layout) (unlinked : List ℕ) (item : Item) (was : Loaded) (before : Option ℕ) (from : Image) → KeepsUncounted state layout unlinked from → LiesBehind state layout item was before
+    → MayGoOut (layout.place item) was.contents before from
+
+-- once it is taken out it is removed
+abbrev pub TakenOutItemsAreRemoved : Type 0
+TakenOutItemsAreRemoved = (state : State) (layout : Layout) (unlinked : List ℕ) (item : Item) (was : Loaded) (before : Option ℕ) (from image : Image) → KeepsUncounted state layout unlinked from → LiesBehind state layout item was before
+    → IsTakenOut (layout.place item) was.contents before from image → IsRemoved layout item was from image
+
+-- and the counters of the index are as they were
+abbrev pub TakenOutItemsLeaveCounters : Type 0
+TakenOutItemsLeaveCounters = (node entry : ℕ) (before : Option ℕ) (from image : Image) → IsTakenOut node entry before from image → SameCounters from image
+
+-- an image is at a word of the removal of an item, with its record in its chain yet, or out of it
+abbrev pub IsMidRemoving : Layout → Item → Loaded → Image → Image → Type 0
+IsMidRemoving layout item was from image = IsMidRemoval layout item from image ⊎ (IsRemoving layout item was layout.chains from image ⊎ IsRemoving layout item was (chains_without layout was.contents) from image)
+
+-- at each word it is being removed
+abbrev pub GoingOutIsRemoving : Type 0
+GoingOutIsRemoving = (state : State) (layout : Layout) (unlinked : List ℕ) (item : Item) (was : Loaded) (before : Option ℕ) (from image : Image) → KeepsUncounted state layout unlinked from → LiesBehind state layout item was before
+    → IsGoingOut (layout.place item) was.contents before from image → IsMidRemoving layout item was from image
+
+-- so while a plain object that no handle names goes out, what was at rest is found, or what is at rest with it doomed
+abbrev pub GoingOutFindsEither : Type 0
+GoingOutFindsEither = (state : State) (layout : Layout) (unlinked : List ℕ) (from image : Image) (number : ℕ) (object : Object) (was : Loaded) → KeepsUncounted state layout unlinked from → object_at state number ≡ Some object → object.live ≡ true → object.parts ≡ [] → is_named state number ≡ false
+    → IsMidRemoving layout (main object.key) was from image → Finds (rest state) image ⊎ Finds (rest (doomed number state (Some object))) image

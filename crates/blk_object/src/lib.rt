@@ -1,9 +1,21 @@
 //! The objects of a folder that keeps a state of the map: how one is made, and how one goes, with what is found at each word.
 #![tactic(auto)]
 
+mod freeing;
+mod freeing_laws;
 mod making;
 mod making_counts;
 mod making_places;
+mod owning;
+mod owning_laws;
 mod removing;
+mod removing_counts;
+mod removing_laws;
 
+pub use freeing::free_places;
+pub use freeing_laws::freed_words_are_gone;
 pub use making::{Made, make_entry};
+pub use owning::{Owned, free_owned, read_owned};
+pub use owning_laws::entries_of_states_load;
+pub use removing::take_out;
+pub use removing_laws::{less_is_counted, taken_items_are_removed};

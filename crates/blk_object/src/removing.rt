@@ -1,1 +1,52 @@
-// An object goes.
+// An object goes: an item is taken out of the use list and of its chain.
+ghost use Rattle.std.specs.Prelude.{◌≡◌, ◌≤◌, IfSome, IsTrue, None, OnOk};
+ghost use Rattle.std.specs.Option.{ForSome};
+ghost use Rattle.blk_image.specs.Told.{Passes, Rises};
+ghost use Rattle.blk_format.specs.Address.{blocks_256, kind_of};
+ghost use Rattle.blk_io.specs.Faults.{IfDamaged, IfDevice};
+ghost use Rattle.blk_disk.specs.Open.{IsOpen};
+ghost use Rattle.blk_disk.specs.Tables.{is_node_among, stands_among};
+ghost use Rattle.blk_object.specs.Removing.{IsGoingOut, IsTakenOut, MayGoOut};
+
+use blk_addr::Addr;
+use blk_chain::{Found, unlink};
+use blk_disk::BlockFiles;
+use blk_io::{Fault, Folder};
+use blk_lru::remove;
+
+/// Takes an item out: its node out of the use list, and then its record out of its chain, in which it stands behind
+/// the record before, or is the first.
+///
+/// This takes at most 17 folder calls for the list, and then three for the first of a chain, or six for another record.
+/// A damage is one of the removal from the list or of the unlinking.
+pub fn take_out<F: Folder>(
+    f: &mut F,
+    files: &BlockFiles,
+    found: &Found,
+    node: Addr,
+) -> Result<(), Fault>
+    requires node { IsTrue (is_node_among files.now node) }
+    requires kind { kind_of found.now.entry ≡ blocks_256 }
+    requires stands { IsTrue (stands_among files.now found.now.entry) }
+    requires kind_before { IfSome found.now.before (λ before. kind_of before ≡ blocks_256) }
+    requires stands_before { IfSome found.now.before (λ before. IsTrue (stands_among files.now before)) }
+    requires is_open { ForSome (F.told f.old).files (IsOpen files.now) }
+
+    // An item that may go out is taken out.
+    ensures taken { OnOk result (ForSome (F.told f.old).files (λ from. MayGoOut node found.now.entry found.now.before from → ForSome (F.told f.new).files (IsTakenOut node found.now.entry found.now.before from))) }
+
+    // At each word a front of the writes of the list is made, or the node is out of it and the record is in its chain yet, or out of it.
+    ensures stops { ForSome (F.told f.old).files (λ from. MayGoOut node found.now.entry found.now.before from → Passes (F.told f.old) (F.told f.new) (IsGoingOut node found.now.entry found.now.before from)) }
+
+    ensures is_open { ForSome (F.told f.new).files (IsOpen files.now) }
+
+    // A folder that tells its files gives a damage only for an item that may not go out.
+    ensures untold { ForSome (F.told f.old).files (MayGoOut node found.now.entry found.now.before) → IfDamaged result (λ _. (F.told f.old).files ≡ None) }
+
+    ensures silent { (F.told f.old).files ≡ None → (F.told f.new).files ≡ None }
+    ensures later { F.faults f.old ≤ F.faults f.new }
+    ensures device { IfDevice result (Rises (F.faults f.old) (F.faults f.new)) }
+{
+    remove(f, files, node)?;
+    unlink(f, files, found)
+}

@@ -1,0 +1,50 @@
+use Rattle.std.proofs.Common.{◌≡◌, ◌∙◌, None}
+use Rattle.blk_io.proofs.Carried.{carried, untold_where}
+use Rattle.blk_entry.proofs.KeyPlaces.{damaged_any}
+use Rattle.blk_stream.proofs.StreamPlaces.{clash}
+use Rattle.blk_object.proofs.OwnedPlaces.{are-there, loaded-checks, owned-words}
+use Rattle.blk_object.proofs.OwnedCharges.{owned-charge}
+use Rattle.blk_object.proofs.owning.read_owned.Goals as goal
+
+pub returns-in_err-head-clause-untold : goal.returns-in_err-head-clause-untold
+returns-in_err-head-clause-untold g c agrees lies =
+    carried c.read_head.result c.from_residual.result c.in_err-head.field-0.0 (λ _. (g.F.Folder.told c.args.f.now).files ≡ None) c.in_err-head.was c.from_residual.ensures.1
+    (c.read_head.ensures.untold agrees (λ image there. loaded-checks image c.args.entry (lies image there).0 (g.met.F.Folder.are_bytes c.args.f.now image there) (lies image there).1))
+
+pub returns-in_err-node-clause-untold : goal.returns-in_err-node-clause-untold
+returns-in_err-node-clause-untold g c agrees lies =
+    damaged_any c.from_residual-in_err-node.result ((g.F.Folder.told c.args.f.now).files ≡ None)
+    (untold_where (g.F.Folder.told c.args.f.now).files (λ image there.
+    clash (c.in_err-node.ensures.right (are-there c.args.files.now image c.args.entry c.in_ok-head.head (lies image there).0 (agrees image there) (c.in_ok-head.ensures.head image there) (lies image there).1).node)))
+
+pub returns-in_err-long_key-clause-untold : goal.returns-in_err-long_key-clause-untold
+returns-in_err-long_key-clause-untold g c agrees lies =
+    damaged_any c.from_residual-in_err-long_key.result ((g.F.Folder.told c.args.f.now).files ≡ None)
+    (untold_where (g.F.Folder.told c.args.f.now).files (λ image there.
+    clash (c.in_err-long_key.ensures.right (are-there c.args.files.now image c.args.entry c.in_ok-head.head (lies image there).0 (agrees image there) (c.in_ok-head.ensures.head image there) (lies image there).1).long_key)))
+
+pub returns-in_err-first-clause-untold : goal.returns-in_err-first-clause-untold
+returns-in_err-first-clause-untold g c agrees lies =
+    damaged_any c.from_residual-in_err-first.result ((g.F.Folder.told c.args.f.now).files ≡ None)
+    (untold_where (g.F.Folder.told c.args.f.now).files (λ image there.
+    clash (c.in_err-first.ensures.right (are-there c.args.files.now image c.args.entry c.in_ok-head.head (lies image there).0 (agrees image there) (c.in_ok-head.ensures.head image there) (lies image there).1).first)))
+
+pub returns-in_err-second-clause-untold : goal.returns-in_err-second-clause-untold
+returns-in_err-second-clause-untold g c agrees lies =
+    damaged_any c.from_residual-in_err-second.result ((g.F.Folder.told c.args.f.now).files ≡ None)
+    (untold_where (g.F.Folder.told c.args.f.now).files (λ image there.
+    clash (c.in_err-second.ensures.right (are-there c.args.files.now image c.args.entry c.in_ok-head.head (lies image there).0 (agrees image there) (c.in_ok-head.ensures.head image there) (lies image there).1).second)))
+
+pub returns-in_err-third-clause-untold : goal.returns-in_err-third-clause-untold
+returns-in_err-third-clause-untold g c agrees lies =
+    damaged_any c.from_residual-in_err-third.result ((g.F.Folder.told c.args.f.now).files ≡ None)
+    (untold_where (g.F.Folder.told c.args.f.now).files (λ image there.
+    clash (c.in_err-third.ensures.right (are-there c.args.files.now image c.args.entry c.in_ok-head.head (lies image there).0 (agrees image there) (c.in_ok-head.ensures.head image there) (lies image there).1).third)))
+
+pub returns-clause-words : goal.returns-clause-words
+returns-clause-words g c image there loaded lies =
+    owned-words image c.args.entry c.in_ok-head.head loaded c.in_ok-node.node c.in_ok-long_key.long_key c.in_ok-first.first c.in_ok-second.second c.in_ok-third.third (c.in_ok-head.ensures.head image there) lies
+    c.in_ok-node.ensures.place c.in_ok-long_key.ensures.place c.in_ok-first.ensures.place c.in_ok-second.ensures.place c.in_ok-third.ensures.place
+
+pub returns-clause-charge : goal.returns-clause-charge
+returns-clause-charge g c image there loaded lies = c.charge_of_head.ensures ∙ owned-charge image c.args.entry c.in_ok-head.head loaded (c.in_ok-head.ensures.head image there) lies

@@ -1,0 +1,51 @@
+-- One entry less is counted by the index.
+use Rattle.std.specs.Prelude.{◌≡◌, ℕ, ◌+◌, ◌%◌, ◌^◌, ◌<◌, List, length}
+use Rattle.std.specs.List.{sum_by}
+use Rattle.blk_image.specs.Image.{Image, Index, byte}
+use Rattle.blk_model.specs.State.{State}
+use Rattle.blk_format.specs.Headers.{num_bytes_of, num_entries_of, sizes_of}
+use Rattle.blk_laws.specs.IndexWrites.{IsIndexWord}
+use Rattle.blk_volume.specs.Found.{charge_of}
+use Rattle.blk_volume.specs.Layout.{Layout, order}
+use Rattle.blk_volume.specs.Tidy.{loaded_at}
+use Rattle.blk_object.specs.declared.removing_counts.Counts.{Counts}
+use Rattle.blk_kept.specs.Keeping.{CountsItems, Keeps, KeepsUncounted}
+
+-- the counters of the index are these
+pub record AreCounts (counts : Counts) (image : Image) : Type 0 where
+  pub entries : counts.entries ≡ num_entries_of (byte image Index)
+  pub bytes : counts.bytes ≡ num_bytes_of (byte image Index)
+  pub size : counts.size ≡ sizes_of (byte image Index) 0
+
+-- the three counters of the index are written one after another
+pub record AreCountersSet (entries bytes size : ℕ) (from image : Image) : Type 0 where
+  pub first : Image
+  pub second : Image
+  pub entries_set : IsIndexWord 8 entries from first
+  pub bytes_set : IsIndexWord 12 bytes first second
+  pub size_set : IsIndexWord 268 size second image
+
+-- as words, they are those that with one more, and with a charge more, were the old ones
+pub record AreCountedLess (charge : ℕ) (from image : Image) : Type 0 where
+  pub entries : ℕ
+  pub bytes : ℕ
+  pub size : ℕ
+  pub small : (entries < 2 ^ 32) × ((bytes < 2 ^ 32) × (size < 2 ^ 32))
+  pub entries_less : (entries + 1) % 2 ^ 32 ≡ num_entries_of (byte from Index)
+  pub bytes_less : (bytes + charge) % 2 ^ 32 ≡ num_bytes_of (byte from Index)
+  pub size_less : (size + 1) % 2 ^ 32 ≡ sizes_of (byte from Index) 0
+  pub set : AreCountersSet entries bytes size from image
+
+-- the charges of the listed items
+abbrev pub charges : State → Layout → ℕ
+charges state layout = sum_by charge_of (loaded_at layout (order state layout))
+
+-- a state lists one item less than another one, with this charge
+pub record IsOneItemLess (state after : State) (layout now : Layout) (charge : ℕ) : Type 0 where
+  pub items : length after.uses + 1 ≡ length state.uses
+  pub bytes : charges after now + charge ≡ charges state layout
+
+-- where the counters counted the one, and are counted less, and the other is kept but for them, it is kept and counted
+abbrev pub LessIsCounted : Type 0
+LessIsCounted = (state after : State) (layout now : Layout) (unlinked : List ℕ) (charge : ℕ) (from image : Image) → CountsItems from state layout → IsOneItemLess state after layout now charge → KeepsUncounted after now unlinked from
+    → AreCountedLess (charge % 2 ^ 32) from image → Keeps after now unlinked image

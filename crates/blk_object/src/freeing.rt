@@ -1,0 +1,108 @@
+// The places of an object that is gone are freed.
+ghost use Rattle.std.specs.Prelude.{◌≡◌, ◌≤◌, ◌==◌, ◌∷◌, [], All, None, OnErr, OnOk, Some, true};
+ghost use Rattle.std.specs.Option.{ForSome};
+ghost use Rattle.blk_image.specs.Told.{Passes, Rises};
+ghost use Rattle.blk_format.specs.Address.{external, kind_of};
+ghost use Rattle.blk_format.specs.BlockFiles.{stands_in, IsWellFormed};
+ghost use Rattle.blk_io.specs.Faults.{IfDamaged, IfDevice};
+ghost use Rattle.blk_disk.specs.Open.{IsOpen};
+ghost use Rattle.blk_stream.specs.Freeing.{MayBeFreed};
+ghost use Rattle.blk_object.specs.Freeing.{AreFreeable, AreGoing, IsPlaceGoing, Removes, RemovesPlace, words_at, IsPlaceAmong};
+
+use blk_addr::{Addr, Kind};
+use blk_alloc::free;
+use blk_disk::BlockFiles;
+use blk_external::delete;
+use blk_io::{Failed, Fault, Folder};
+
+/// Frees places, one after another: of blocks the allocation, of an external file the file.
+///
+/// For each place of blocks this takes at most eight folder calls, and for each external file one. A damage is one of
+/// a block file's header.
+pub fn free_places<F: Folder>(
+    f: &mut F,
+    files: &BlockFiles,
+    places: &[Option<Addr>],
+) -> Result<(), Fault>
+    requires stand { All (IsPlaceAmong files.now) places.now }
+    requires is_open { ForSome (F.told f.old).files (IsOpen files.now) }
+
+    // Places that are nobody's are freed. At each word those of a front are, and the next one is on its way.
+    ensures freed { OnOk result (ForSome (F.told f.old).files (λ from. AreFreeable (words_at places.now) from → ForSome (F.told f.new).files (Removes (words_at places.now) from))) }
+    ensures stops { ForSome (F.told f.old).files (λ from. AreFreeable (words_at places.now) from → Passes (F.told f.old) (F.told f.new) (AreGoing (words_at places.now) from)) }
+
+    ensures is_open { ForSome (F.told f.new).files (IsOpen files.now) }
+
+    // A folder that tells its files gives a damage only for a place that is somebody's.
+    ensures untold { ForSome (F.told f.old).files (AreFreeable (words_at places.now)) → IfDamaged result (λ _. (F.told f.old).files ≡ None) }
+
+    ensures silent { (F.told f.old).files ≡ None → (F.told f.new).files ≡ None }
+    ensures later { F.faults f.old ≤ F.faults f.new }
+    ensures device { IfDevice result (Rises (F.faults f.old) (F.faults f.new)) }
+{
+    for place in places {
+        free_if_any(f, files, *place)?;
+    }
+    Ok(())
+}
+
+// Frees a place, where there is one.
+fn free_if_any<F: Folder>(f: &mut F, files: &BlockFiles, place: Option<Addr>) -> Result<(), Fault>
+    requires stands { IsPlaceAmong files.now place }
+    requires is_open { ForSome (F.told f.old).files (IsOpen files.now) }
+    ensures freed { OnOk result (ForSome (F.told f.old).files (λ from. AreFreeable (words_at (place ∷ [])) from → ForSome (F.told f.new).files (Removes (words_at (place ∷ [])) from))) }
+    ensures stops { ForSome (F.told f.old).files (λ from. AreFreeable (words_at (place ∷ [])) from → Passes (F.told f.old) (F.told f.new) (AreGoing (words_at (place ∷ [])) from)) }
+    ensures is_open { ForSome (F.told f.new).files (IsOpen files.now) }
+    ensures untold { ForSome (F.told f.old).files (AreFreeable (words_at (place ∷ []))) → IfDamaged result (λ _. (F.told f.old).files ≡ None) }
+    ensures silent { (F.told f.old).files ≡ None → (F.told f.new).files ≡ None }
+    ensures back { (F.told f.new).files ≡ None → (F.told f.old).files ≡ None }
+    ensures later { F.faults f.old ≤ F.faults f.new }
+    ensures device { IfDevice result (Rises (F.faults f.old) (F.faults f.new)) }
+{
+    match place {
+        Some(addr) => free_place(f, files, addr),
+        None => Ok(()),
+    }
+}
+
+// Frees a place: its blocks, or its file.
+fn free_place<F: Folder>(f: &mut F, files: &BlockFiles, place: Addr) -> Result<(), Fault>
+    requires stands { IsPlaceAmong files.now (Some place) }
+    requires is_open { ForSome (F.told f.old).files (IsOpen files.now) }
+    ensures freed { OnOk result (ForSome (F.told f.old).files (λ from. IsWellFormed from → stands_in from place ≡ true → ForSome (F.told f.new).files (RemovesPlace place from))) }
+    ensures stops { ForSome (F.told f.old).files (λ from. Passes (F.told f.old) (F.told f.new) (IsPlaceGoing place from)) }
+    ensures is_open { ForSome (F.told f.new).files (IsOpen files.now) }
+    ensures untold { ForSome (F.told f.old).files (MayBeFreed place) → IfDamaged result (λ _. (F.told f.old).files ≡ None) }
+    ensures silent { (F.told f.old).files ≡ None → (F.told f.new).files ≡ None }
+    ensures later { F.faults f.old ≤ F.faults f.new }
+    ensures device { IfDevice result (Rises (F.faults f.old) (F.faults f.new)) }
+{
+    if is_external(place) {
+        delete_file(f, files, place)?;
+        Ok(())
+    } else {
+        free(f, files, place)
+    }
+}
+
+// Whether a place is an external file.
+pub(crate) fn is_external(place: Addr) -> bool
+    ensures { result ≡ (kind_of place == external) }
+{
+    place.kind() == Kind::External
+}
+
+// Removes an external file.
+fn delete_file<F: Folder>(f: &mut F, files: &BlockFiles, place: Addr) -> Result<(), Failed>
+    requires kind { kind_of place ≡ external }
+    requires is_open { ForSome (F.told f.old).files (IsOpen files.now) }
+    ensures freed { OnOk result (ForSome (F.told f.old).files (λ from. IsWellFormed from → stands_in from place ≡ true → ForSome (F.told f.new).files (RemovesPlace place from))) }
+    ensures stops { ForSome (F.told f.old).files (λ from. Passes (F.told f.old) (F.told f.new) (IsPlaceGoing place from)) }
+    ensures is_open { ForSome (F.told f.new).files (IsOpen files.now) }
+    ensures silent { (F.told f.old).files ≡ None → (F.told f.new).files ≡ None }
+    ensures later { F.faults f.old ≤ F.faults f.new }
+    ensures failed { OnErr result (Rises (F.faults f.old) (F.faults f.new)) }
+{
+    let _files = files;
+    delete(f, place)
+}

@@ -1,0 +1,126 @@
+// The places that an entry has.
+ghost use Rattle.std.specs.Prelude.{◌≡◌, ◌≤◌, ◌<◌, ◌+◌, ◌%◌, ◌^◌, ◌==◌, All, IfOk, IsOk, IsTrue, None, OnOk, Some, false, true, slice_index, if◌then◌else◌};
+ghost use Rattle.std.specs.Option.{ForSome};
+ghost use Rattle.blk_image.specs.Told.{Passes, Rises, Stays};
+ghost use Rattle.blk_format.specs.Address.{blocks_256, kind_of};
+ghost use Rattle.blk_format.specs.Records.{entry_size};
+ghost use Rattle.blk_volume.specs.Found.{charge_of};
+ghost use Rattle.blk_volume.specs.Loads.{Loaded};
+ghost use Rattle.blk_volume.specs.Sound.{words_of};
+ghost use Rattle.blk_io.specs.Faults.{IfDamaged, IfDevice};
+ghost use Rattle.blk_disk.specs.Open.{IsOpen};
+ghost use Rattle.blk_disk.specs.Tables.{Agrees, stands_among};
+ghost use Rattle.blk_object.specs.Freeing.{AreFreeable, AreGoing, IsPlaceAmong, Removes, words_at};
+ghost use Rattle.blk_object.specs.Owning.{LoadsWith, is_there};
+
+use crate::freeing::{free_places, is_external};
+use blk_addr::Addr;
+use blk_disk::BlockFiles;
+use blk_entry::{Head, read_head, record_damage};
+use blk_io::{Fault, Folder};
+use blk_record::EntryView;
+
+/// What an entry has.
+#[derive(Clone, Copy, Debug)]
+pub struct Owned {
+    /// The places of its node, its record, its long key and its three streams, in this order, where it has them.
+    pub places: [Option<Addr>; 6],
+    /// The bytes of its key and its streams, modulo 2^32.
+    pub charge: u32,
+}
+
+/// Reads which places an entry has, by its record: one folder call.
+///
+/// A damage is a read that gave too few bytes, a record that doesn't check, or a word of it that is neither 0 nor an
+/// address which is there.
+pub fn read_owned<F: Folder>(f: &mut F, files: &BlockFiles, entry: Addr) -> Result<Owned, Fault>
+    requires kind { kind_of entry ≡ blocks_256 }
+    requires stands { IsTrue (stands_among files.now entry) }
+
+    // They are all the address words of what lies there with this record, and each is there.
+    ensures words { IfOk result (λ owned. ForSome (F.told f.old).files (λ image. (loaded : Loaded) → LoadsWith entry loaded image → words_at owned.places ≡ words_of loaded)) }
+    ensures charge { IfOk result (λ owned. ForSome (F.told f.old).files (λ image. (loaded : Loaded) → LoadsWith entry loaded image → owned.charge ≡ charge_of loaded % 2 ^ 32)) }
+    ensures there { IfOk result (λ owned. All (IsPlaceAmong files.now) owned.places) }
+
+    ensures stays { Stays (F.told f.old) (F.told f.new) }
+
+    // A folder that tells its files gives a damage only where no entry lies there with this record.
+    ensures untold { ForSome (F.told f.old).files (Agrees files.now) → ForSome (F.told f.old).files (λ image. (loaded : Loaded) × LoadsWith entry loaded image) → IfDamaged result (λ _. (F.told f.old).files ≡ None) }
+
+    ensures later { F.faults f.old ≤ F.faults f.new }
+    ensures device { IfDevice result (Rises (F.faults f.old) (F.faults f.new)) }
+{
+    let head = read_head(f, files, entry)?;
+    let node = place_of(files, entry, EntryView::NODE, head.node)?;
+    let long_key = place_of(files, entry, EntryView::LONG_KEY, head.long_key)?;
+    let first = place_of(files, entry, EntryView::DATA_ADDR, head.addrs[0])?;
+    let second = place_of(files, entry, EntryView::DATA_ADDR + 4, head.addrs[1])?;
+    let third = place_of(files, entry, EntryView::DATA_ADDR + 8, head.addrs[2])?;
+    Ok(Owned {
+        places: [node, Some(entry), long_key, first, second, third],
+        charge: charge_of_head(&head),
+    })
+}
+
+/// Frees the places of an entry that is gone, in their order.
+pub fn free_owned<F: Folder>(f: &mut F, files: &BlockFiles, owned: &Owned) -> Result<(), Fault>
+    requires stand { All (IsPlaceAmong files.now) owned.now.places }
+    requires is_open { ForSome (F.told f.old).files (IsOpen files.now) }
+
+    // Places that are nobody's are freed. At each word those of a front are, and the next one is on its way.
+    ensures freed { OnOk result (ForSome (F.told f.old).files (λ from. AreFreeable (words_at owned.now.places) from → ForSome (F.told f.new).files (Removes (words_at owned.now.places) from))) }
+    ensures stops { ForSome (F.told f.old).files (λ from. AreFreeable (words_at owned.now.places) from → Passes (F.told f.old) (F.told f.new) (AreGoing (words_at owned.now.places) from)) }
+
+    ensures is_open { ForSome (F.told f.new).files (IsOpen files.now) }
+
+    // A folder that tells its files gives a damage only for a place that is somebody's.
+    ensures untold { ForSome (F.told f.old).files (AreFreeable (words_at owned.now.places)) → IfDamaged result (λ _. (F.told f.old).files ≡ None) }
+
+    ensures silent { (F.told f.old).files ≡ None → (F.told f.new).files ≡ None }
+    ensures later { F.faults f.old ≤ F.faults f.new }
+    ensures device { IfDevice result (Rises (F.faults f.old) (F.faults f.new)) }
+{
+    free_places(f, files, &owned.places)
+}
+
+// The bytes of the key and the streams of an entry, modulo 2^32.
+fn charge_of_head(head: &Head) -> u32
+    ensures { result ≡ (((head.now.key_len + slice_index head.now.sizes 0) % 2 ^ 32 + slice_index head.now.sizes 1) % 2 ^ 32 + slice_index head.now.sizes 2) % 2 ^ 32 }
+{
+    head.key_len
+        .wrapping_add(head.sizes[0])
+        .wrapping_add(head.sizes[1])
+        .wrapping_add(head.sizes[2])
+}
+
+// The place of a word of a record, which has none where the word is 0.
+fn place_of(files: &BlockFiles, entry: Addr, at: u32, word: u32) -> Result<Option<Addr>, Fault>
+    requires kind { kind_of entry ≡ blocks_256 }
+    requires inside { at < entry_size }
+    ensures place { IfOk result (λ place. place ≡ (if word == 0 then None else Some word)) }
+    ensures there { IfOk result (IsPlaceAmong files.now) }
+    ensures right { ((word == 0) ≡ false → is_there files.now word ≡ true) → IsOk result }
+    ensures never { IfDevice result ⊥ }
+{
+    if word == 0 {
+        return Ok(None);
+    }
+    match address_there(files, word) {
+        Some(addr) => Ok(Some(addr)),
+        None => Err(record_damage(entry, at, word)),
+    }
+}
+
+// The address that a word is, where it is one of an external file, or of blocks that are there.
+#[tactic(auto, unfolding(crate::specs::Owning::is_there))]
+fn address_there(files: &BlockFiles, word: u32) -> Option<Addr>
+    ensures address { result ≡ (if is_there files.now word then Some word else None) }
+    ensures there { IsPlaceAmong files.now result }
+{
+    let addr = Addr::from_word(word)?;
+    if is_external(addr) || files.stands(addr) {
+        Some(addr)
+    } else {
+        None
+    }
+}
