@@ -13,3 +13,4 @@ pub mod FreeingRuns
 pub mod OwnedPlaces
 pub mod RemovingCounts
 pub mod OwnedCharges
+pub mod MakingCreates

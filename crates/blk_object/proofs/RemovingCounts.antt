@@ -117,15 +117,15 @@ counted-less counts charge from image are bytes c set =
     let b : counts.bytes < 2 ^ 32 = subst (λ (x : ℕ). x < 2 ^ 32) (sym are.bytes) (word-small from Index 12 bytes) in
     let s : counts.size < 2 ^ 32 = subst (λ (x : ℕ). x < 2 ^ 32) (sym are.size) (word-small from Index 268 bytes) in
     record {
-  entries = (counts.entries + (2 ^ 32 - 1)) % 2 ^ 32;
-  bytes = (counts.bytes + (2 ^ 32 - charge)) % 2 ^ 32;
-  size = (counts.size + (2 ^ 32 - 1)) % 2 ^ 32;
-  small = (below-word (counts.entries + (2 ^ 32 - 1)), (below-word (counts.bytes + (2 ^ 32 - charge)), below-word (counts.size + (2 ^ 32 - 1))));
-  entries_less = less-and-more counts.entries 1 e (omega arith) ∙ are.entries;
-  bytes_less = less-and-more counts.bytes charge b c ∙ are.bytes;
-  size_less = less-and-more counts.size 1 s (omega arith) ∙ are.size;
-  set = set;
-}
+      entries = (counts.entries + (2 ^ 32 - 1)) % 2 ^ 32;
+      bytes = (counts.bytes + (2 ^ 32 - charge)) % 2 ^ 32;
+      size = (counts.size + (2 ^ 32 - 1)) % 2 ^ 32;
+      small = (below-word (counts.entries + (2 ^ 32 - 1)), (below-word (counts.bytes + (2 ^ 32 - charge)), below-word (counts.size + (2 ^ 32 - 1))));
+      entries_less = less-and-more counts.entries 1 e (omega arith) ∙ are.entries;
+      bytes_less = less-and-more counts.bytes charge b c ∙ are.bytes;
+      size_less = less-and-more counts.size 1 s (omega arith) ∙ are.size;
+      set = set;
+    }
 
 one-less : (x n m : ℕ) → x < 2 ^ 32 → (x + 1) % 2 ^ 32 ≡ n → m + 1 ≡ n → x ≡ m
 one-less x n m small is less = omega (arith, small, is, less)

@@ -4,6 +4,8 @@ use Rattle.blk_image.specs.Image.{Image, Index, byte}
 use Rattle.blk_model.specs.Effects.{created}
 use Rattle.blk_model.specs.Holding.{owner, rest}
 use Rattle.blk_model.specs.Items.{main}
+use Rattle.blk_model.specs.Refusals.{refused}
+use Rattle.blk_model.specs.Request.{IsRequest, to_create}
 use Rattle.blk_model.specs.Room.{items}
 use Rattle.blk_model.specs.Sizes.{most_items}
 use Rattle.blk_model.specs.State.{State, IsValidState}
@@ -16,6 +18,7 @@ use Rattle.blk_volume.specs.Sound.{words_of}
 use Rattle.blk_entry.specs.declared.writing.NewEntry.{NewEntry}
 use Rattle.blk_entry.specs.Writing.{loaded_new}
 use Rattle.blk_kept.specs.BoundLaws.{most_words}
+use Rattle.blk_kept.specs.CommandStates.{with_room}
 use Rattle.blk_kept.specs.Changes.{Finds, KeepsWith, SameSession}
 use Rattle.blk_kept.specs.Keeping.{Keeps, KeepsUncounted}
 use Rattle.blk_kept.specs.NewEntryLaws.{IsNewEntryOf}
@@ -143,3 +146,8 @@ pub record HasRoomForNew (key : List ℕ) (mark : ℕ) (image : Image) : Type 0 
 -- of each state that was kept and can have it, what was at rest is found
 abbrev pub FindsWhileMade : (key : List ℕ) → Image → Image → Type 0
 FindsWhileMade key from image = (state : State) (layout : Layout) (handle : ℕ) → Keeps state layout [] from → CanHaveNew state handle key → Finds (rest state) image
+
+-- once all that a Create evicts is out, the state can have its object, where it has fewer items than a cache may have
+abbrev pub CreatesCanHaveNew : Type 0
+CreatesCanHaveNew = (state : State) (moment handle : ℕ) (key : List ℕ) → IsValidState state → IsRequest (to_create handle key) → refused moment (to_create handle key) state ≡ None → items (with_room state moment (to_create handle key)) < most_items
+    → CanHaveNew (with_room state moment (to_create handle key)) handle key

@@ -6,6 +6,8 @@ mod freeing_laws;
 mod making;
 mod making_counts;
 mod making_places;
+#[cfg(test)]
+mod making_tests;
 mod owning;
 mod owning_laws;
 mod removing;
@@ -14,7 +16,7 @@ mod removing_laws;
 
 pub use freeing::free_places;
 pub use freeing_laws::freed_words_are_gone;
-pub use making::{Made, make_entry};
+pub use making::{Made, creates_can_have_new, make_entry};
 pub use owning::{Owned, free_owned, read_owned};
 pub use owning_laws::entries_of_states_load;
 pub use removing::take_out;

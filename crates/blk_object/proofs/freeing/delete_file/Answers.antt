@@ -16,8 +16,11 @@ use Rattle.blk_object.proofs.freeing.delete_file.Goals as goal
 pub returns-clause-freed : goal.returns-clause-freed
 returns-clause-freed g c =
     on_ok_weaker c.delete.result
-    (λ none from there formed stands image now. record { removed = inr (deletions-remove c.args.place (g.F.Folder.told c.args.f.now) (g.F.Folder.told c.delete.new.f) c.requires.kind
-    (λ other is. subst IsWellFormed (some_inj (sym there ∙ is)) formed) (λ other is. subst (λ i. stands_in i c.args.place ≡ true) (some_inj (sym there ∙ is)) stands) c.delete.ensures.stops none from there image now); index = λ i. (passes_end (c.delete.ensures.stops from there) image now).outside.bytes Index i refl })
+    (λ none from there formed stands image now. record {
+      removed = inr (deletions-remove c.args.place (g.F.Folder.told c.args.f.now) (g.F.Folder.told c.delete.new.f) c.requires.kind
+          (λ other is. subst IsWellFormed (some_inj (sym there ∙ is)) formed) (λ other is. subst (λ i. stands_in i c.args.place ≡ true) (some_inj (sym there ∙ is)) stands) c.delete.ensures.stops none from there image now);
+      index = λ i. (passes_end (c.delete.ensures.stops from there) image now).outside.bytes Index i refl;
+    })
     c.delete.ensures.file
 
 pub returns-clause-stops : goal.returns-clause-stops
