@@ -14,3 +14,8 @@ pub mod OwnedPlaces
 pub mod RemovingCounts
 pub mod OwnedCharges
 pub mod MakingCreates
+pub mod PlainObjects
+pub mod RemovedObjects
+pub mod OneMoreTaken
+pub mod TakenParts
+pub mod FoundEntries

@@ -1,13 +1,13 @@
 -- What an entry is charged, by the words of its record.
-use Rattle.std.proofs.Common.{◌≡◌, ℕ, ◌+◌, ◌%◌, ◌<◌, ◌≤◌, List, [], ◌∷◌, length, length-take, take, refl, ap, sym, ◌∙◌, subst, arith, Bool, true, false, Option, None, Some}
+use Rattle.std.proofs.Common.{◌≡◌, ℕ, ◌+◌, ◌%◌, List, [], ◌∷◌, length, length-take, take, refl, ap, sym, ◌∙◌, arith, Bool, true, false, Option, None, Some}
 use Rattle.std.specs.Prelude.{◌==◌, ◌&&◌, ◌^◌, nat_le, not, slice_index, if◌then◌else◌}
 use Rattle.std.specs.List.{sum_by}
 use Rattle.std.specs.Option.{option_and_then, option_map}
 use Rattle.std.proofs.lemmas.Bool.{eqb-true}
 use Rattle.blk_image.specs.Bytes.{range_at}
-use Rattle.blk_image.specs.Image.{Block, External, Image, byte, length_of}
+use Rattle.blk_image.specs.Image.{External, Image, byte, length_of}
 use Rattle.blk_image.proofs.Words.{length-range}
-use Rattle.blk_format.specs.Address.{external, external_number, file_selector, kind_of, place}
+use Rattle.blk_format.specs.Address.{external, external_number, kind_of, place}
 use Rattle.blk_format.specs.BlockFiles.{stands_in}
 use Rattle.blk_format.specs.Storage.{is_storage}
 use Rattle.blk_volume.specs.Entries.{stored_key, stored_stream, stored_streams}

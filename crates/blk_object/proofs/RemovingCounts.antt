@@ -1,12 +1,12 @@
 -- The counters of the index are written, and count one entry less.
-use Rattle.std.proofs.Common.{◌≡◌, ℕ, ◌+◌, ◌%◌, ◌<◌, ◌≤◌, List, [], ◌∷◌, ◌++◌, refl, ap, sym, ◌∙◌, subst, arith, lit≤, true, Some}
+use Rattle.std.proofs.Common.{◌≡◌, ℕ, ◌+◌, ◌%◌, ◌<◌, ◌≤◌, List, [], ◌∷◌, refl, sym, ◌∙◌, subst, arith, lit≤}
 use Rattle.std.specs.Prelude.{◌^◌, ◌-◌, length}
 use Rattle.std.specs.Option.{ForSome}
-use Rattle.blk_image.specs.Footprint.{SameOutside, one_word}
-use Rattle.blk_image.specs.Image.{AreBytes, Image, Index, byte, length_of}
+use Rattle.blk_image.specs.Footprint.{one_word}
+use Rattle.blk_image.specs.Image.{AreBytes, Image, Index}
 use Rattle.blk_image.proofs.ByteSteps.{word-small}
 use Rattle.blk_image.specs.Bytes.{word_bytes}
-use Rattle.blk_image.specs.Steps.{TrailStep, Word, after, applied, word_step, word_steps}
+use Rattle.blk_image.specs.Steps.{TrailStep, after, word_step, word_steps}
 use Rattle.blk_image.specs.Told.{Along, Applies, AppliesPrefix, IsQuiet, Passes, Told}
 use Rattle.blk_image.proofs.Images.{length-after_write}
 use Rattle.blk_image.proofs.Runs.{passes_part, some_inj, told_part, told_whole}

@@ -13,6 +13,7 @@ mod owning_laws;
 mod removing;
 mod removing_counts;
 mod removing_laws;
+mod removing_objects;
 
 pub use freeing::free_places;
 pub use freeing_laws::freed_words_are_gone;
@@ -20,4 +21,7 @@ pub use making::{Made, creates_can_have_new, make_entry};
 pub use owning::{Owned, free_owned, read_owned};
 pub use owning_laws::entries_of_states_load;
 pub use removing::take_out;
-pub use removing_laws::{less_is_counted, taken_items_are_removed};
+pub use removing_laws::{
+    found_entries_may_go_out, less_is_counted, taken_items_are_removed, taken_parts_are_out,
+};
+pub use removing_objects::remove_object;

@@ -2,7 +2,6 @@ use Rattle.std.proofs.Common.{sym, subst, ap, ◌∙◌}
 use Rattle.std.specs.Option.{ForSome}
 use Rattle.blk_image.specs.Told.{Told}
 use Rattle.blk_disk.specs.Open.{IsOpen}
-use Rattle.blk_object.specs.RemovingCounts.{AreCountersSet}
 use Rattle.blk_object.proofs.RemovingCounts.{counted-less}
 use Rattle.blk_object.proofs.removing_counts.count_less.Goals as goal
 

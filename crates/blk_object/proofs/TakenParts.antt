@@ -1,0 +1,180 @@
+-- Items that are taken out while others of their object are out already.
+use Rattle.std.proofs.Common.{◌≡◌, ◌⊎◌, inl, inr, ⊎_elim, ℕ, ◌<◌, List, ◌∷◌, refl, ap, sym, ◌∙◌, subst, lit<, Bool, true, false, None, Option, Some, Ok}
+use Rattle.std.specs.Prelude.{◌==◌, ◌&&◌}
+use Rattle.std.specs.List.{flat_map}
+use Rattle.std.proofs.lemmas.Bool.{cases_Bool, eq-eqb, eqb-true, or_left}
+use Rattle.std.proofs.lemmas.Nat.{mod_below}
+use Rattle.blk_image.specs.Footprint.{SameOutside}
+use Rattle.blk_image.specs.Image.{AreBytes, Image}
+use Rattle.blk_image.proofs.Runs.{some_inj}
+use Rattle.blk_model.specs.Effects.{doomed}
+use Rattle.blk_model.specs.Holding.{rest}
+use Rattle.blk_model.specs.Items.{Item, part}
+use Rattle.blk_model.specs.State.{State}
+use Rattle.blk_format.specs.Address.{blocks_256, kind_of, rankings}
+use Rattle.blk_format.specs.BlockFiles.{is_among}
+use Rattle.blk_format.specs.Claims.{Claim, claims_of, has_claim}
+use Rattle.blk_format.specs.Hash.{hash}
+use Rattle.blk_format.specs.Records.{Node, entry_is_sealed, node_is_sealed}
+use Rattle.blk_format.specs.Sealed.{record_range}
+use Rattle.blk_volume.specs.Chains.{IsChain, bucket_at}
+use Rattle.blk_volume.specs.Footprint.{AgreeBut, IsClear}
+use Rattle.blk_volume.specs.Layout.{IsListedRecord, Layout, rule_of}
+use Rattle.blk_volume.specs.ListImages.{HasListAtRest}
+use Rattle.blk_volume.specs.Loads.{Loaded, all_claims, load, record_claims}
+use Rattle.blk_volume.specs.Searches.{bucket_of_key}
+use Rattle.blk_volume.specs.Sound.{AreSealed}
+use Rattle.blk_volume.specs.View.{entry_at, stands_as, store_of}
+use Rattle.blk_laws.proofs.claims.ByteChanges.{node-same}
+use Rattle.blk_laws.proofs.claims.ClaimLists.{claim-append, contents-claims}
+use Rattle.blk_laws.proofs.claims.Outside.{AreClear, all-clear}
+use Rattle.blk_laws.proofs.states.Marking.{repeats-apart}
+use Rattle.blk_laws.proofs.updates.StillShown.{standing-parts}
+use Rattle.blk_laws.proofs.walks.Loads.{load-then}
+use Rattle.blk_chain.specs.Unlinking.{IsSealedAgain, IsUnlinked, StandsBehind}
+use Rattle.blk_kept.specs.Changes.{Finds}
+use Rattle.blk_kept.specs.GroupLaws.{gone_nodes}
+use Rattle.blk_kept.specs.PartlyOut.{KeepsPartlyOut}
+use Rattle.blk_kept.specs.RemovalLaws.{IsRemovalDone}
+use Rattle.blk_kept.proofs.AtNodes.{updates-change}
+use Rattle.blk_kept.proofs.Free.{AreStanding, sealed-same, standing-loaded}
+use Rattle.blk_kept.proofs.GoingOut.{chain-same}
+use Rattle.blk_kept.proofs.Groups as groups
+use Rattle.blk_kept.proofs.Headers.{stands-same}
+use Rattle.blk_kept.proofs.Links.{table-sealed}
+use Rattle.blk_kept.proofs.NextOut as next
+use Rattle.blk_kept.proofs.PartlyOutStops.{next-parts-find, own-items-leave, unlinking-items-find}
+use Rattle.blk_object.specs.Removing.{IsYetLinked}
+use Rattle.blk_object.specs.RemovingParts.{GoingPartsFindDoomed, LeftItemsMayGoOut, LiesLeft, TakenOutItemsAreOut, UnlinkedItemsFindDoomed}
+use Rattle.blk_object.proofs.ChainsOut.{among-front, can-go, goes-out, leaves-files, yet-in}
+use Rattle.blk_object.proofs.OneMoreTaken.{one-more-out, out-finds}
+use Rattle.blk_object.proofs.TakenItems.{again-sealed, bucket-is, removal-leaves}
+
+module _ (state : State) (layout : Layout) (keep : Item → Bool) (chains : ℕ → List ℕ) (unlinked : List ℕ) (item : Item) (was : Loaded) (before : Option ℕ) (from : Image) (k : KeepsPartlyOut state layout keep chains unlinked from) (left : LiesLeft state layout keep chains item was before) where
+  abbrev node : ℕ
+  node = layout.place item
+
+  abbrev its_bucket : ℕ
+  its_bucket = bucket_of_key was.key
+
+  abbrev gone : List ℕ
+  gone = gone_nodes state layout keep
+
+  here-stays : is_among gone node ≡ false
+  here-stays = groups.stay-apart state layout keep k.numbers k.lies k.owners node (groups.stays-in state layout keep k.numbers k.lies k.owners item left.lies.listed left.stays)
+
+  loads : load (store_of from) (rule_of layout node) node ≡ Ok was
+  loads = k.holds.each node was left.lies.here here-stays
+
+  -- once its node is out of the list
+  module _ (between : Image) (done : IsRemovalDone from node between) where
+    pub whole : (other : ℕ) → other < 65536 → IsChain (store_of between) other (chains other)
+    whole other small = chain-same (store_of from) (store_of between) other (chains other) done.partly.shown.store (k.holds.chains other small)
+
+    pub stands : StandsBehind (chains (bucket_at between was.contents)) was.contents before left.lies.prefix left.lies.suffix
+    stands = subst (λ (b : ℕ). StandsBehind (chains b) was.contents before left.lies.prefix left.lies.suffix) (sym (bucket-is layout node node was from between loads done)) left.lies.stands
+
+    standing : (n : ℕ) (l : Loaded) → layout.at n ≡ Some l → is_among gone n ≡ false → AreStanding between l
+    standing n l at kept =
+        let s = standing-loaded from layout n l (k.holds.each n l at kept) in
+        record { node = stands-still rankings l.node s.node; record_ = stands-still blocks_256 l.contents s.record_ }
+      where
+        stands-still : (kind w : ℕ) → stands_as from kind w ≡ true → stands_as between kind w ≡ true
+        stands-still kind w e = ap (λ (f : ℕ → Bool). f w && (kind_of w == kind)) (stands-same from between (removal-leaves from between node done).headers) ∙ e
+
+    -- a record of a chain is that of a node that isn't out
+    is-left : (bucket v : ℕ) → bucket < 65536 → is_among (chains bucket) v ≡ true → (q : IsListedRecord state layout v) → is_among gone q.node ≡ false
+    is-left bucket v small among q = ⊎_elim
+        (λ (e : is_among gone q.node ≡ true). absurd (let z : true ≡ false = sym (eq-eqb v q.loaded.contents (sym q.record_is)) ∙ k.out bucket v small among q.node q.loaded e q.here in cc))
+        (λ (e : is_among gone q.node ≡ false). e)
+        (cases_Bool (is_among gone q.node))
+
+    -- where the record at a node is sealed again, the seals of what is left stand
+    module _ (image : Image) (other : ℕ) (l : Loaded) (at : layout.at other ≡ Some l) (kept : is_among gone other ≡ false) (same : SameOutside (record_range l.contents) between image) (done_again : entry_is_sealed (entry_at image l.contents) ≡ true) where
+      abbrev touched : Claim → Bool
+      touched = has_claim (claims_of l.contents)
+
+      agree : AgreeBut touched between image
+      agree =
+          let a = standing-parts between blocks_256 l.contents (standing other l at kept).record_ in
+          (updates-change between image l.contents a.0 (inr a.1) same).agree
+
+      node-clear : IsClear touched l.node
+      unfolding all_claims record_claims
+      node-clear c e = ⊎_elim
+          (λ (h : touched c ≡ true).
+          let a : has_claim (record_claims l) c ≡ false = repeats-apart (claims_of l.node) (record_claims l) c (k.lies.single other l at) e in
+          let b : has_claim (record_claims l) c ≡ true = claim-append (claims_of l.contents) (flat_map claims_of l.others) c ∙ or_left (has_claim (claims_of l.contents) c) (has_claim (flat_map claims_of l.others) c) h in
+          absurd (let z : true ≡ false = sym b ∙ a in cc))
+          (λ (h : touched c ≡ false). h)
+          (cases_Bool (touched c))
+
+      apart : (n : ℕ) (m : Loaded) → layout.at n ≡ Some m → (other == n) ≡ false → AreClear touched m
+      apart n m is differs = all-clear touched m (λ c has. ⊎_elim
+          (λ (h : touched c ≡ true).
+          let mine = k.lies.own other l c at (contents-claims l c h) in
+          let theirs = k.lies.own n m c is has in
+          absurd (let z : true ≡ false = sym (eq-eqb other n (some_inj (sym mine ∙ theirs))) ∙ differs in cc))
+          (λ (h : touched c ≡ false). h)
+          (cases_Bool (touched c)))
+
+      seals-stand : (n : ℕ) (m : Loaded) → layout.at n ≡ Some m → is_among gone n ≡ false → AreSealed between m → AreSealed image m
+      seals-stand n m is stays sealed = ⊎_elim
+          (λ (e : (other == n) ≡ true).
+          let it : l ≡ m = some_inj (sym at ∙ ap layout.at (eqb-true other n e) ∙ is) in
+          subst (λ (x : Loaded). AreSealed image x) it (record {
+            node = ap (λ (x : Node). node_is_sealed x) (node-same touched between image agree l.node (standing other l at kept).node node-clear) ∙ (subst (λ (x : Loaded). AreSealed between x) (sym it) sealed).node;
+            entry = done_again;
+          }))
+          (λ (e : (other == n) ≡ false). let clear = apart n m is e in sealed-same touched between image agree m (standing n m is stays) clear.node clear.contents sealed)
+          (cases_Bool (other == n))
+
+    seals : (image : Image) (o : Option ℕ) → StandsBehind (chains its_bucket) was.contents o left.lies.prefix left.lies.suffix → IsUnlinked between was.contents o image → IsSealedAgain between was.contents o image → AreBytes image
+        → (n : ℕ) (m : Loaded) → layout.at n ≡ Some m → is_among gone n ≡ false → AreSealed between m → AreSealed image m
+    seals image None there u again bytes n m is stays sealed = table-sealed between image (bucket_at between was.contents) m u.keeps.outside sealed
+    seals image (Some v) there u again bytes n m is stays sealed =
+        let small : its_bucket < 65536 = mod_below (hash was.key) 65536 (lit< tt) in
+        let among : is_among (chains its_bucket) v ≡ true = ap (λ (words : List ℕ). is_among words v) there ∙ among-front left.lies.prefix v (was.contents ∷ left.lies.suffix) in
+        let q : IsListedRecord state layout v = k.lies.unchained its_bucket v small (k.chained its_bucket v small among) in
+        let kept = is-left its_bucket v small among q in
+        load-then (store_of from) (rule_of layout q.node) q.node q.loaded (k.holds.each q.node q.loaded q.here kept) (λ nf e f.
+        let here : (store_of between).entry v ≡ Some e = sym (done.partly.shown.store.store.entry v (λ claim has. refl)) ∙ ap (store_of from).entry (sym q.record_is ∙ f.facts.contents_is) ∙ f.entry in
+        seals-stand image q.node q.loaded q.here kept (subst (λ (x : ℕ). SameOutside (record_range x) between image) (sym q.record_is) u.keeps.outside)
+        (subst (λ (x : ℕ). entry_is_sealed (entry_at image x) ≡ true) (sym q.record_is) (again-sealed between image was.contents v e here bytes again)) n m is stays sealed)
+
+pub left-may : LeftItemsMayGoOut
+left-may state layout keep chains unlinked item was before from k left = record {
+  listed = record {
+    prefix = next.prefix state layout keep item k.valid left.lies.listed left.stays;
+    suffix = next.suffix state layout keep item k.valid left.lies.listed left.stays;
+    rest = subst (λ (nodes : List ℕ). HasListAtRest nodes from) (next.old-nodes state layout keep item k.valid left.lies.listed left.stays) k.list;
+  };
+  chained = λ between bytes done. can-go layout chains between (whole state layout keep chains unlinked item was before from k left between done) was.contents before left.lies.prefix left.lies.suffix (stands state layout keep chains unlinked item was before from k left between done) bytes;
+}
+
+pub left-out : TakenOutItemsAreOut
+left-out state layout keep chains unlinked item was before from image k left t =
+    let all = whole state layout keep chains unlinked item was before from k left t.between t.unlisted in
+    let behind = stands state layout keep chains unlinked item was before from k left t.between t.unlisted in
+    one-more-out state layout keep chains unlinked item was from t.between image k left.lies.listed left.stays left.lies.here t.unlisted
+    (goes-out layout chains t.between all was.contents before left.lies.prefix left.lies.suffix behind image t.unlinked)
+    (leaves-files layout chains t.between all was.contents before left.lies.prefix left.lies.suffix behind image t.unlinked)
+    (seals state layout keep chains unlinked item was before from k left t.between t.unlisted image before left.lies.stands t.unlinked t.sealed t.bytes)
+
+pub unlinked-find : UnlinkedItemsFindDoomed
+unlinked-find state layout keep chains unlinked item was before number object from image k left at others m = by m.moment where
+  all : (other : ℕ) → other < 65536 → IsChain (store_of m.between) other (chains other)
+  all = whole state layout keep chains unlinked item was before from k left m.between m.unlisted
+
+  behind : StandsBehind (chains (bucket_at m.between was.contents)) was.contents before left.lies.prefix left.lies.suffix
+  behind = stands state layout keep chains unlinked item was before from k left m.between m.unlisted
+
+  by : IsYetLinked m.between was.contents before image ⊎ IsUnlinked m.between was.contents before image → Finds (rest (doomed number state (Some object))) image
+  by (inl yet) = unlinking-items-find state layout number object keep chains unlinked item from m.between image at others k left.lies.listed left.stays m.unlisted (yet-in layout chains m.between all was.contents before left.lies.prefix left.lies.suffix behind image yet)
+  by (inr out) = out-finds state layout keep chains unlinked item was from m.between image k left.lies.listed left.stays left.lies.here m.unlisted (goes-out layout chains m.between all was.contents before left.lies.prefix left.lies.suffix behind image out) number object at others
+
+pub going-parts : GoingPartsFindDoomed
+going-parts state layout keep chains unlinked n was before number object from image k left at others (inl partly) =
+    next-parts-find state layout number object keep chains unlinked n from image at others k left.lies.listed left.stays partly
+going-parts state layout keep chains unlinked n was before number object from image k left at others (inr m) =
+    unlinked-find state layout keep chains unlinked (part object.key n) was before number object from image k left at ((own-items-leave object.key).1 keep n others) m

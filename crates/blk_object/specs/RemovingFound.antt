@@ -1,0 +1,26 @@
+-- What a search finds in a kept state, as a removal asks for it.
+use Rattle.std.specs.Prelude.{◌≡◌, ℕ, List, Option, false}
+use Rattle.blk_image.specs.Image.{Image}
+use Rattle.blk_model.specs.Items.{main}
+use Rattle.blk_model.specs.State.{State}
+use Rattle.blk_volume.specs.Layout.{Layout}
+use Rattle.blk_volume.specs.Loads.{Loaded}
+use Rattle.blk_chain.specs.Finding.{CanBeSearched, IsFound}
+use Rattle.blk_kept.specs.Keeping.{KeepsUncounted}
+use Rattle.blk_object.specs.Removing.{LiesBehind}
+
+-- where a state is kept the chain of each key can be searched, as `find` asks
+abbrev pub KeptStatesCanBeSearched : Type 0
+KeptStatesCanBeSearched = (state : State) (layout : Layout) (unlinked : List ℕ) (image : Image) (key : List ℕ) → KeepsUncounted state layout unlinked image → CanBeSearched key image
+
+-- the main item of a key lies at this node with this record, behind this one in its chain
+pub record LiesAsFound (state : State) (layout : Layout) (key : List ℕ) (node entry : ℕ) (before : Option ℕ) : Type 0 where
+  pub was : Loaded
+  pub lies : LiesBehind state layout (main key) was before
+  pub node_is : layout.place (main key) ≡ node
+  pub entry_is : was.contents ≡ entry
+
+-- so a record that is found by a key, and is no child, is that of the main item of the key, which lies at the node that it names
+abbrev pub FoundEntriesLieBehind : Type 0
+FoundEntriesLieBehind = (state : State) (layout : Layout) (unlinked : List ℕ) (image : Image) (key : List ℕ) (entry : ℕ) (before : Option ℕ) → KeepsUncounted state layout unlinked image → (found : IsFound key false entry before image)
+    → LiesAsFound state layout key found.has_key.fields.rankings_node entry before

@@ -1,0 +1,47 @@
+-- Items of a sparse object are taken out one after another, and freed: what each is to what is kept in between.
+use Rattle.std.specs.Prelude.{◌≡◌, ℕ, List, ◌++◌, Bool, Option, Some, true}
+use Rattle.blk_image.specs.Image.{Image}
+use Rattle.blk_model.specs.Effects.{doomed}
+use Rattle.blk_model.specs.Holding.{rest}
+use Rattle.blk_model.specs.Items.{Item, part}
+use Rattle.blk_model.specs.State.{Object, State, object_at}
+use Rattle.blk_volume.specs.Layout.{Layout}
+use Rattle.blk_volume.specs.Loads.{Loaded}
+use Rattle.blk_volume.specs.Sound.{words_of}
+use Rattle.blk_kept.specs.Changes.{Finds}
+use Rattle.blk_kept.specs.PartlyOut.{KeepsPartlyOut, chains_but, keeps_but}
+use Rattle.blk_kept.specs.PartlyOutStops.{LeavesOtherKeys}
+use Rattle.blk_object.specs.Removing.{IsBeingUnlinked, IsGoingOut, IsTakenOut, LiesBehind, MayGoOut}
+
+-- an item that isn't out lies at its node, and its record stands in its chain, of the chains as they are, behind this one, or is the first
+pub record LiesLeft (state : State) (layout : Layout) (keep : Item → Bool) (chains : ℕ → List ℕ) (item : Item) (was : Loaded) (before : Option ℕ) : Type 0 where
+  pub stays : keep item ≡ true
+  pub lies : LiesBehind state (record layout { chains = chains }) item was before
+
+-- it may go out
+abbrev pub LeftItemsMayGoOut : Type 0
+LeftItemsMayGoOut =
+    (state : State) (layout : Layout) (keep : Item → Bool) (chains : ℕ → List ℕ) (unlinked : List ℕ) (item : Item) (was : Loaded) (before : Option ℕ) (from : Image)
+    → KeepsPartlyOut state layout keep chains unlinked from → LiesLeft state layout keep chains item was before
+    → MayGoOut (layout.place item) was.contents before from
+
+-- once it is taken out, one item more is out, and its words are unlinked
+abbrev pub TakenOutItemsAreOut : Type 0
+TakenOutItemsAreOut =
+    (state : State) (layout : Layout) (keep : Item → Bool) (chains : ℕ → List ℕ) (unlinked : List ℕ) (item : Item) (was : Loaded) (before : Option ℕ) (from image : Image)
+    → KeepsPartlyOut state layout keep chains unlinked from → LiesLeft state layout keep chains item was before
+    → IsTakenOut (layout.place item) was.contents before from image → KeepsPartlyOut state layout (keeps_but keep item) (chains_but chains was.contents) (words_of was ++ unlinked) image
+
+-- while the record of an item of an object is unlinked, and without the item no main item of its key is left, what is at rest with the object doomed is found
+abbrev pub UnlinkedItemsFindDoomed : Type 0
+UnlinkedItemsFindDoomed =
+    (state : State) (layout : Layout) (keep : Item → Bool) (chains : ℕ → List ℕ) (unlinked : List ℕ) (item : Item) (was : Loaded) (before : Option ℕ) (number : ℕ) (object : Object) (from image : Image)
+    → KeepsPartlyOut state layout keep chains unlinked from → LiesLeft state layout keep chains item was before → object_at state number ≡ Some object → LeavesOtherKeys object.key (keeps_but keep item)
+    → IsBeingUnlinked (layout.place item) was.contents before from image → Finds (rest (doomed number state (Some object))) image
+
+-- so at each word at which a part of it goes out after its main item
+abbrev pub GoingPartsFindDoomed : Type 0
+GoingPartsFindDoomed =
+    (state : State) (layout : Layout) (keep : Item → Bool) (chains : ℕ → List ℕ) (unlinked : List ℕ) (n : ℕ) (was : Loaded) (before : Option ℕ) (number : ℕ) (object : Object) (from image : Image)
+    → KeepsPartlyOut state layout keep chains unlinked from → LiesLeft state layout keep chains (part object.key n) was before → object_at state number ≡ Some object → LeavesOtherKeys object.key keep
+    → IsGoingOut (layout.place (part object.key n)) was.contents before from image → Finds (rest (doomed number state (Some object))) image
