@@ -5,3 +5,10 @@ pub mod OpenRuns
 pub mod CarriedFaults
 pub mod Starts
 pub mod MakingSteps
+pub mod Looks
+pub mod NamedObjects
+pub mod Bound
+pub mod BoundObjects
+pub mod Opens
+pub mod Refusing
+pub mod OpenSteps

@@ -5,7 +5,9 @@ mod cache;
 mod ending;
 mod fault;
 mod laws;
+mod looking;
 mod names;
+mod open;
 mod opening;
 mod starting;
 
