@@ -49,7 +49,7 @@ both-ways false true f g = g refl
 both-ways false false f g = refl
 
 -- a slot that was freed is free
-set-free : {A : Type 0} (xs : List (Option A)) (i : ℕ) → get_or (set xs i None) i None ≡ None
+pub set-free : {A : Type 0} (xs : List (Option A)) (i : ℕ) → get_or (set xs i None) i None ≡ None
 set-free [] i = refl
 set-free (x ∷ xs) zero = refl
 set-free (x ∷ xs) (suc i) = set-free xs i

@@ -12,3 +12,5 @@ pub mod BoundObjects
 pub mod Opens
 pub mod Refusing
 pub mod OpenSteps
+pub mod Closes
+pub mod CloseSteps

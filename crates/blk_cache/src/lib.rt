@@ -2,6 +2,7 @@
 #![tactic(auto)]
 
 mod cache;
+mod close;
 mod ending;
 mod fault;
 mod laws;

@@ -10,6 +10,7 @@ ghost use Rattle.blk_volume.specs.Layout.{Layout};
 ghost use Rattle.blk_volume.specs.View.{entry_at};
 ghost use Rattle.blk_disk.specs.Open.{IsOpen};
 ghost use Rattle.blk_disk.specs.Tables.{Agrees, is_node_among, is_record_among, stands_among};
+ghost use Rattle.blk_entry.specs.Keys.{IsHeadDamage};
 ghost use Rattle.blk_kept.specs.Keeping.{KeepsUncounted};
 ghost use Rattle.blk_cache.specs.Looking.{IsEntryDamage, IsLive, IsLookDamage, KeepsSomeState, charge_at, charge_said};
 
@@ -74,8 +75,26 @@ fn read_live<F: Folder>(f: &mut F, files: &BlockFiles, entry: Addr) -> Result<Li
     })
 }
 
+// Reads what the object of a record is charged as a main item, by one folder call.
+pub(crate) fn read_charge<F: Folder>(
+    f: &mut F,
+    files: &BlockFiles,
+    entry: Addr,
+) -> Result<u64, Fault>
+    requires names { IsTrue (is_record_among files.now entry) }
+    ensures charge { IfOk result (λ charge. ForSome (F.told f.old).files (λ image. charge ≡ charge_at image entry)) }
+    ensures stays { Stays (F.told f.old) (F.told f.new) }
+    ensures damaged { IfDamaged result (IsHeadDamage (F.told f.old) entry) }
+    ensures untold { ForSome (F.told f.old).files (Agrees files.now) → ForSome (F.told f.old).files (RecordChecks entry) → IfDamaged result (λ _. (F.told f.old).files ≡ None) }
+    ensures later { F.faults f.old ≤ F.faults f.new }
+    ensures device { IfDevice result (Rises (F.faults f.old) (F.faults f.new)) }
+{
+    let head = read_head(f, files, entry)?;
+    Ok(charge_of(&head))
+}
+
 // The bytes of the key and of the streams, as the words of a record say.
-pub(crate) fn charge_of(head: &Head) -> u64
+fn charge_of(head: &Head) -> u64
     ensures charge { result ≡ charge_said head.now }
     ensures few { result < 2 ^ 34 }
 {
