@@ -4,3 +4,5 @@ pub mod CacheKeeping
 pub mod Opening
 pub mod Opened
 pub mod OpeningLaws
+pub mod Looking
+pub mod CommandClauses

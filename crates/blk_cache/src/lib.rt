@@ -2,12 +2,16 @@
 #![tactic(auto)]
 
 mod cache;
+mod close;
 mod ending;
 mod fault;
 mod laws;
+mod looking;
 mod names;
+mod open;
 mod opening;
 mod starting;
+mod total;
 
 pub use cache::Cache;
 pub use fault::OpenFault;
