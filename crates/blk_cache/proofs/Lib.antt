@@ -15,3 +15,5 @@ pub mod Refusing
 pub mod OpenSteps
 pub mod Closes
 pub mod CloseSteps
+pub mod Creates
+pub mod CreateSteps

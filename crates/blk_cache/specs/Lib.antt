@@ -6,3 +6,4 @@ pub mod Opened
 pub mod OpeningLaws
 pub mod Looking
 pub mod CommandClauses
+pub mod Creating

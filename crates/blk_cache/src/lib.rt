@@ -3,6 +3,7 @@
 
 mod cache;
 mod close;
+mod create;
 mod ending;
 mod fault;
 mod laws;

@@ -81,7 +81,7 @@ impl Cache {
     }
 
     // The node of a live object that was found: the one that its names have where it is open.
-    fn node_of(&self, live: &Live) -> Addr
+    pub(crate) fn node_of(&self, live: &Live) -> Addr
         requires stands { IsTrue (is_node_among self.now.files live.now.node) }
         ensures same { ForSome (open_with self.now.handles live.now.entry) (λ object. object.node ≡ result) }
         ensures new { open_with self.now.handles live.now.entry ≡ None → result ≡ live.now.node }

@@ -1,0 +1,32 @@
+-- A new object in a cache: which states can have one, and what the cache counts then.
+use Rattle.std.specs.Prelude.{◌≡◌, ℕ, ◌+◌, ◌-◌, ◌^◌, ◌≤◌, List, length, min}
+use Rattle.blk_image.specs.Image.{Image}
+use Rattle.blk_model.specs.Room.{total}
+use Rattle.blk_model.specs.State.{State}
+use Rattle.blk_object.specs.Making.{CanHaveNew}
+use Rattle.blk_cache.specs.declared.cache.Cache.{Cache}
+use Rattle.blk_cache.specs.CacheKeeping.{KeepsState}
+
+-- a state can have a new object with a key by a handle, and its bytes are within the limit
+pub record HasRoomFor (state : State) (handle : ℕ) (key : List ℕ) : Type 0 where
+  pub can : CanHaveNew state handle key
+  pub room : total state + length key ≤ state.limits.max_bytes
+
+-- a cache keeps some state that can have a new object
+pub record KeepsWithRoom (cache : Cache) (handle : ℕ) (key : List ℕ) (image : Image) : Type 0 where
+  pub state : State
+  pub kept : KeepsState cache state image
+  pub can : CanHaveNew state handle key
+
+-- a sum, at most the last value of a u64
+abbrev pub sum_within : ℕ → ℕ → ℕ
+sum_within a b = min (a + b) (2 ^ 64 - 1)
+
+-- one item more is counted, which is open, with its charge; but for the names all else is as before
+pub record CountsOneMore (old new : Cache) (charge : ℕ) : Type 0 where
+  pub items : new.items ≡ sum_within old.items 1
+  pub bytes : new.bytes ≡ sum_within old.bytes charge
+  pub open_bytes : new.open_bytes ≡ sum_within old.open_bytes charge
+  pub limits : new.limits ≡ old.limits
+  pub files : new.files ≡ old.files
+  pub mark : new.mark ≡ old.mark
