@@ -17,3 +17,4 @@ pub mod Closes
 pub mod CloseSteps
 pub mod Creates
 pub mod CreateSteps
+pub mod CreateRoom

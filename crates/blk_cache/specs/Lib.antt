@@ -7,3 +7,4 @@ pub mod OpeningLaws
 pub mod Looking
 pub mod CommandClauses
 pub mod Creating
+pub mod CreatingLaws

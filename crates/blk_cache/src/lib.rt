@@ -4,6 +4,7 @@
 mod cache;
 mod close;
 mod create;
+mod create_laws;
 mod ending;
 mod fault;
 mod laws;
@@ -15,5 +16,6 @@ mod starting;
 mod total;
 
 pub use cache::Cache;
+pub use create_laws::creates_have_room;
 pub use fault::OpenFault;
 pub use laws::{kept_folders_end_sound, repaired_folders_keep_their_state};
