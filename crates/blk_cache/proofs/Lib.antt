@@ -18,3 +18,4 @@ pub mod CloseSteps
 pub mod Creates
 pub mod CreateSteps
 pub mod CreateRoom
+pub mod CreateRefusing

@@ -1,11 +1,24 @@
 -- A new object in a cache: which states can have one, and what the cache counts then.
-use Rattle.std.specs.Prelude.{◌≡◌, ℕ, ◌+◌, ◌-◌, ◌^◌, ◌≤◌, List, length, min}
+use Rattle.std.specs.Prelude.{◌≡◌, ℕ, ◌+◌, ◌-◌, ◌^◌, ◌≤◌, Bool, List, length, min, if◌then◌else◌}
+use Rattle.std.specs.declared.option.Option.{Option}
+use Rattle.std.specs.declared.option.Option.TheVariants.{None, Some}
 use Rattle.blk_image.specs.Image.{Image}
 use Rattle.blk_model.specs.Room.{total}
 use Rattle.blk_model.specs.State.{State}
+use Rattle.blk_model.specs.declared.Refusal.{Refusal}
+use Rattle.blk_model.specs.declared.Refusal.TheVariants as refusal
 use Rattle.blk_object.specs.Making.{CanHaveNew}
 use Rattle.blk_cache.specs.declared.cache.Cache.{Cache}
 use Rattle.blk_cache.specs.CacheKeeping.{KeepsState}
+
+-- Refusals.
+
+-- why a Create is refused: an early reason, that stands whether there is room or not, or else that there is no room
+abbrev pub create_refusal : (early : Option Refusal) → (no_room : Bool) → Option Refusal
+create_refusal (Some why) no_room = Some why
+create_refusal None no_room = if no_room then Some refusal.Full else None
+
+-- The new object.
 
 -- a state can have a new object with a key by a handle, and its bytes are within the limit
 pub record HasRoomFor (state : State) (handle : ℕ) (key : List ℕ) : Type 0 where

@@ -1,10 +1,12 @@
 // A new object in a cache.
-ghost use Rattle.std.specs.Prelude.{◌≡◌, ◌≤◌, ◌<◌, IfOk, IsTrue, None, OnOk, Some, length, slice_set, true};
+ghost use Rattle.std.specs.Prelude.{◌≡◌, ◌≤◌, ◌<◌, ℕ, IfOk, IfSome, IsTrue, None, Ok, OnOk, Some, length, slice_set, true};
 ghost use Rattle.std.specs.Option.{ForSome};
-ghost use Rattle.blk_image.specs.Told.{Passes, Rises};
+ghost use Rattle.blk_image.specs.Told.{Passes, Rises, Stays};
 ghost use Rattle.blk_io.specs.Faults.{IfDamaged, IfDevice};
 ghost use Rattle.blk_model.specs.Effects.{created};
 ghost use Rattle.blk_model.specs.Holding.{rest};
+ghost use Rattle.blk_model.specs.Refusals.{no_room, refused};
+ghost use Rattle.blk_model.specs.Request.{to_create};
 ghost use Rattle.blk_model.specs.Sizes.{handle_names};
 ghost use Rattle.blk_model.specs.State.{State};
 ghost use Rattle.blk_disk.specs.Open.{IsOpen};
@@ -13,12 +15,15 @@ ghost use Rattle.blk_handles.specs.Bindings.{AreShared, binding_for, binding_of,
 ghost use Rattle.blk_kept.specs.Changes.{Finds};
 ghost use Rattle.blk_object.specs.Making.{CanHaveNew};
 ghost use Rattle.blk_cache.specs.CacheKeeping.{KeepsState};
-ghost use Rattle.blk_cache.specs.Creating.{CountsOneMore, HasRoomFor, KeepsWithRoom};
+ghost use Rattle.blk_cache.specs.CommandClauses.{KeepsAny, open_refusal};
+ghost use Rattle.blk_cache.specs.Creating.{CountsOneMore, HasRoomFor, KeepsWithRoom, create_refusal};
+ghost use Rattle.blk_cache.specs.Looking.{IsLookDamage};
 
 use crate::cache::Cache;
-use crate::looking::Live;
+use crate::looking::{Live, find_live};
 use blk_addr::Addr;
 use blk_io::{Fault, Folder};
+use blk_model::Refusal;
 use blk_object::make_entry;
 
 impl Cache {
@@ -65,6 +70,36 @@ impl Cache {
         let node = self.node_of(&new);
         self.bind_new(handle, &new, node);
         Ok(())
+    }
+
+    // Why a Create is refused, but for want of room: with `BadKey`, `BadHandle` or `HandleBusy`, by what the names and
+    // the key tell, or with `Exists` where a live object has the key, the first of these. Nothing is written.
+    pub(crate) fn refuses_create<F: Folder>(
+        &self,
+        f: &mut F,
+        handle: u16,
+        key: &[u8],
+    ) -> Result<Option<Refusal>, Fault>
+        ensures refused { IfOk result (λ early. ForSome (F.told f.old).files (λ image. (state : State) (moment : ℕ) → KeepsState self.now state image → refused moment (to_create handle key.now) state ≡ create_refusal early (no_room moment (to_create handle key.now) state))) }
+
+        // What the names and the key tell is refused on every folder, and where it goes on they tell nothing.
+        ensures refuses { IfSome (open_refusal self.now.handles handle key.now) (λ why. result ≡ Ok (Some why)) }
+        ensures goes_on { IfOk result (λ early. early ≡ None → open_refusal self.now.handles handle key.now ≡ None) }
+        ensures stays { Stays (F.told f.old) (F.told f.new) }
+
+        // A folder that tells its files gives no damage where the cache keeps a state.
+        ensures damaged { IfDamaged result (IsLookDamage self.now.files (F.told f.old) key.now) }
+        ensures untold { ForSome (F.told f.old).files (IsOpen self.now.files) → ForSome (F.told f.old).files (KeepsAny self.now) → IfDamaged result (λ _. (F.told f.old).files ≡ None) }
+        ensures later { F.faults f.old ≤ F.faults f.new }
+        ensures device { IfDevice result (Rises (F.faults f.old) (F.faults f.new)) }
+    {
+        if let Some(why) = self.refuses_open(handle, key) {
+            return Ok(Some(why));
+        }
+        match find_live(f, &self.files, key)? {
+            Some(_) => Ok(Some(Refusal::Exists)),
+            None => Ok(None),
+        }
     }
 
     // Binds a free name to a new object, which isn't settled, and counts it.

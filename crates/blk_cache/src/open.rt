@@ -66,7 +66,7 @@ impl Cache {
     }
 
     // The refusals of an Open that the names and the key tell.
-    fn refuses_open(&self, handle: u16, key: &[u8]) -> Option<Refusal>
+    pub(crate) fn refuses_open(&self, handle: u16, key: &[u8]) -> Option<Refusal>
         ensures { result ≡ open_refusal self.now.handles handle key.now }
     {
         if key.is_empty() || key.len() > LONGEST_KEY as usize {
