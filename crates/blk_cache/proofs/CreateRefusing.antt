@@ -1,5 +1,5 @@
 -- Why a Create of a cache that keeps a state is refused.
-use Rattle.std.proofs.Common.{◌≡◌, ℕ, Bool, true, false, List, [], ◌∷◌, Option, Some, None, refl, sym, ap, subst, ◌∙◌}
+use Rattle.std.proofs.Common.{◌≡◌, ℕ, Bool, true, false, List, [], ◌∷◌, Option, Some, None, refl, ap, subst, ◌∙◌}
 use Rattle.std.specs.Prelude.{if◌then◌else◌, is_some}
 use Rattle.blk_image.specs.Image.{Image}
 use Rattle.blk_model.specs.Refusals.{first_refusal, names_one, no_key, no_name, no_room, refusals, refused}
@@ -7,7 +7,6 @@ use Rattle.blk_model.specs.Request.{to_create}
 use Rattle.blk_model.specs.State.{State, live_with}
 use Rattle.blk_model.specs.declared.Refusal.{Refusal}
 use Rattle.blk_model.specs.declared.Refusal.TheVariants as refusal
-use Rattle.blk_handles.specs.Bindings.{binding_of}
 use Rattle.blk_cache.specs.declared.cache.Cache.{Cache}
 use Rattle.blk_cache.specs.CacheKeeping.{KeepsState}
 use Rattle.blk_cache.specs.CommandClauses.{open_refusal}

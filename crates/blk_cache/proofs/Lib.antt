@@ -19,3 +19,4 @@ pub mod Creates
 pub mod CreateSteps
 pub mod CreateRoom
 pub mod CreateRefusing
+pub mod CreateEnds

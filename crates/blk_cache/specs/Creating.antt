@@ -4,9 +4,12 @@ use Rattle.std.specs.declared.option.Option.{Option}
 use Rattle.std.specs.declared.option.Option.TheVariants.{None, Some}
 use Rattle.blk_image.specs.Image.{Image}
 use Rattle.blk_model.specs.Room.{total}
-use Rattle.blk_model.specs.State.{State}
+use Rattle.blk_model.specs.Refusals.{refused}
+use Rattle.blk_model.specs.Request.{to_create}
+use Rattle.blk_model.specs.State.{State, IsValidState}
 use Rattle.blk_model.specs.declared.Refusal.{Refusal}
 use Rattle.blk_model.specs.declared.Refusal.TheVariants as refusal
+use Rattle.blk_kept.specs.CommandStates.{with_room}
 use Rattle.blk_object.specs.Making.{CanHaveNew}
 use Rattle.blk_cache.specs.declared.cache.Cache.{Cache}
 use Rattle.blk_cache.specs.CacheKeeping.{KeepsState}
@@ -30,6 +33,20 @@ pub record KeepsWithRoom (cache : Cache) (handle : ℕ) (key : List ℕ) (image 
   pub state : State
   pub kept : KeepsState cache state image
   pub can : CanHaveNew state handle key
+
+-- a cache keeps what a Create leaves of a state once all that it evicts is out, and the Create isn't refused
+pub record IsReadyToCreate (cache : Cache) (state : State) (moment handle : ℕ) (key : List ℕ) (image : Image) : Type 0 where
+  pub valid : IsValidState state
+  pub passes : refused moment (to_create handle key) state ≡ None
+  pub kept : KeepsState cache (with_room state moment (to_create handle key)) image
+
+-- a cache is ready for a Create of some state
+pub record IsReadyForSome (cache : Cache) (handle : ℕ) (key : List ℕ) (image : Image) : Type 0 where
+  pub state : State
+  pub moment : ℕ
+  pub ready : IsReadyToCreate cache state moment handle key image
+
+-- What is counted.
 
 -- a sum, at most the last value of a u64
 abbrev pub sum_within : ℕ → ℕ → ℕ

@@ -13,20 +13,50 @@ ghost use Rattle.blk_disk.specs.Open.{IsOpen};
 ghost use Rattle.blk_disk.specs.Tables.{is_node_among, is_record_among};
 ghost use Rattle.blk_handles.specs.Bindings.{AreShared, binding_for, binding_of, open_with};
 ghost use Rattle.blk_kept.specs.Changes.{Finds};
+ghost use Rattle.blk_kept.specs.Commands.{IsDone, MayStop};
 ghost use Rattle.blk_object.specs.Making.{CanHaveNew};
 ghost use Rattle.blk_cache.specs.CacheKeeping.{KeepsState};
 ghost use Rattle.blk_cache.specs.CommandClauses.{KeepsAny, open_refusal};
-ghost use Rattle.blk_cache.specs.Creating.{CountsOneMore, HasRoomFor, KeepsWithRoom, create_refusal};
+ghost use Rattle.blk_cache.specs.Creating.{CountsOneMore, HasRoomFor, IsReadyForSome, IsReadyToCreate, KeepsWithRoom, create_refusal};
 ghost use Rattle.blk_cache.specs.Looking.{IsLookDamage};
 
 use crate::cache::Cache;
 use crate::looking::{Live, find_live};
 use blk_addr::Addr;
 use blk_io::{Fault, Folder};
-use blk_model::Refusal;
+use blk_model::{Answer, Refusal};
 use blk_object::make_entry;
 
 impl Cache {
+    // Ends a Create that isn't refused, once all that it evicts is out: its object is made, with a free handle name
+    // bound to it.
+    pub(crate) fn end_create<F: Folder>(
+        &mut self,
+        f: &mut F,
+        handle: u16,
+        key: &[u8],
+        moment: u64,
+    ) -> Result<Answer, Fault>
+        requires some { 1 ≤ length key.now }
+        requires most { length key.now ≤ 32768 }
+        requires known { handle < handle_names }
+        requires free { binding_of self.old.handles handle ≡ None }
+        requires is_open { ForSome (F.told f.old).files (IsOpen self.old.files) }
+
+        // It is done, whatever state the Create began with, and may be stopped at each word.
+        ensures does { IfOk result (λ answer. ForSome (F.told f.old).files (λ from. (state : State) → IsReadyToCreate self.old state moment handle key.now from → IsDone (KeepsState self.new) (F.told f.new) moment (to_create handle key.now) answer state)) }
+        ensures stops { ForSome (F.told f.old).files (λ from. (state : State) → IsReadyToCreate self.old state moment handle key.now from → Passes (F.told f.old) (F.told f.new) (MayStop state moment (to_create handle key.now))) }
+
+        ensures is_open { OnOk result (ForSome (F.told f.new).files (IsOpen self.new.files)) }
+        ensures untold { ForSome (F.told f.old).files (IsReadyForSome self.old handle key.now) → IfDamaged result (λ _. (F.told f.old).files ≡ None) }
+        ensures silent { (F.told f.old).files ≡ None → (F.told f.new).files ≡ None }
+        ensures later { F.faults f.old ≤ F.faults f.new }
+        ensures device { IfDevice result (Rises (F.faults f.old) (F.faults f.new)) }
+    {
+        self.make_object(f, handle, key, moment)?;
+        Ok(Answer::Done)
+    }
+
     // Makes a new object with a key that no live object has, once there is room for it: it isn't settled, its item is
     // in front of the use list, and a free handle name is bound to it.
     //
