@@ -6,3 +6,17 @@ pub mod CarriedFaults
 pub mod Starts
 pub mod MakingSteps
 pub mod CreationTimes
+pub mod Looks
+pub mod NamedObjects
+pub mod Bound
+pub mod BoundObjects
+pub mod Opens
+pub mod Refusing
+pub mod OpenSteps
+pub mod Closes
+pub mod CloseSteps
+pub mod Creates
+pub mod CreateSteps
+pub mod CreateRoom
+pub mod CreateRefusing
+pub mod CreateEnds

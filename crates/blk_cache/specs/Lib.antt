@@ -4,3 +4,7 @@ pub mod CacheKeeping
 pub mod Opening
 pub mod Opened
 pub mod OpeningLaws
+pub mod Looking
+pub mod CommandClauses
+pub mod Creating
+pub mod CreatingLaws

@@ -167,6 +167,7 @@ module _ (a d : Told) (key : List ℕ) (mark : ℕ) (take : ForSome a.files (λ 
                     loaded = loaded;
                     record_is = sym entry_is;
                     node_is = sym node_is;
+                    mark_is = sym session;
                     kept = counters-count (created handle key state) (with_new layout key loaded) [] named.0 w.first w.second image (kept-named from named.0 there named.1 r state layout handle k can)
                         (subst (λ (n : ℕ). IsIndexWord 8 n named.0 w.first) items w.entries_written) (subst (λ (n : ℕ). IsIndexWord 12 n w.first w.second) bytes w.bytes_written) (subst (λ (n : ℕ). IsIndexWord 268 n w.second image) sizes w.size_written);
                   }

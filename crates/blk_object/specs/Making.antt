@@ -118,16 +118,17 @@ KeepsTimes entry node from image = (moment : ℕ) → HasTimes entry node moment
 
 -- The new object.
 
--- the state with the new object is kept, and its entry lies at a record and a node
-pub record HasNewObject (state : State) (layout : Layout) (handle : ℕ) (key : List ℕ) (made : Made) (image : Image) : Type 0 where
+-- the state with the new object is kept, and its entry lies at a record and a node, marked by the number that the session had
+pub record HasNewObject (state : State) (layout : Layout) (handle : ℕ) (key : List ℕ) (made : Made) (from image : Image) : Type 0 where
   pub loaded : Loaded
   pub record_is : loaded.contents ≡ made.entry
   pub node_is : loaded.node ≡ made.node
+  pub mark_is : loaded.dirty ≡ this_id_of (byte from Index)
   pub kept : Keeps (created handle key state) (with_new layout key loaded) [] image
 
 -- so it is with each state that was kept and can have it
 abbrev pub HasNewObjects : (key : List ℕ) → Made → Image → Image → Type 0
-HasNewObjects key made from image = (state : State) (layout : Layout) (handle : ℕ) → Keeps state layout [] from → CanHaveNew state handle key → HasNewObject state layout handle key made image
+HasNewObjects key made from image = (state : State) (layout : Layout) (handle : ℕ) → Keeps state layout [] from → CanHaveNew state handle key → HasNewObject state layout handle key made from image
 
 -- a folder keeps a state that can have the object, in the session of a number
 pub record HasRoomForNew (key : List ℕ) (mark : ℕ) (image : Image) : Type 0 where

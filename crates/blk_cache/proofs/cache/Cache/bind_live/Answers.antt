@@ -1,0 +1,13 @@
+use Rattle.std.proofs.Common.{false, sym, subst}
+use Rattle.blk_handles.specs.Bindings.{Bindings, binding_for}
+use Rattle.blk_cache.specs.BoundNames.{AreBoundAmong}
+use Rattle.blk_cache.proofs.Bound.{bound-stands, still-stand}
+use Rattle.blk_cache.proofs.cache.Cache.bind_live.Goals as goal
+
+pub invariant_of-self : goal.invariant_of-self
+invariant_of-self c = record {
+  stand = subst (λ (bs : Bindings). AreBoundAmong c.args.self.now.files bs) (sym c.bind.ensures.binds)
+      (still-stand c.args.self.now.files c.args.self.now.handles c.args.self.now.stand c.args.name (binding_for c.args.self.now.handles c.args.live.now.entry c.args.node false)
+      (bound-stands c.args.self.now.files c.args.self.now.handles c.args.self.now.stand c.args.live.now.entry c.args.node false c.requires.stands c.requires.names));
+  room = c.args.self.now.room;
+}

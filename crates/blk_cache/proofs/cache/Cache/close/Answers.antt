@@ -1,0 +1,147 @@
+use Rattle.std.proofs.Common.{◌≡◌, inl, inr, Ok, None, refl, sym, ◌∙◌, ap, subst, arith}
+use Rattle.std.specs.Prelude.{not}
+use Rattle.blk_image.specs.Told.{Told}
+use Rattle.blk_io.proofs.Carried.{carried, if_damaged_weaker}
+use Rattle.blk_model.specs.Request.{to_close}
+use Rattle.blk_model.specs.declared.Refusal.TheVariants as refusal
+use Rattle.blk_disk.specs.declared.tables.BlockFiles.{BlockFiles}
+use Rattle.blk_disk.specs.Open.{IsOpen}
+use Rattle.blk_kept.proofs.Stopping.{nothing-stops, refusals-done}
+use Rattle.blk_handles.specs.Bindings.{Bindings, is_open}
+use Rattle.blk_cache.specs.CacheKeeping.{KeepsState}
+use Rattle.blk_disk.specs.Damages.{IsFailedRecord}
+use Rattle.blk_disk.specs.Tables.{Agrees}
+use Rattle.blk_format.specs.Sealed.{record_size}
+use Rattle.blk_cache.specs.CommandClauses.{IsCloseDamage}
+use Rattle.blk_cache.proofs.CloseSteps.{bound-there, cleaned-done, cleaned-stops, free-refused, free-there, last-entry, last-named, last-node, last-stands, several-done, was-last, was-more}
+use Rattle.blk_cache.proofs.Refusing.{says-kept}
+use Rattle.blk_cache.proofs.cache.Cache.close.Goals as goal
+
+-- Refused.
+
+pub returns-then-is_none-clause-does : goal.returns-then-is_none-clause-does
+returns-then-is_none-clause-does g c moment =
+    let old : Told = g.F.Folder.told c.args.f.now in
+    refusals-done (KeepsState c.args.self.now) old old moment (to_close c.args.handle) refusal.BadHandle refl
+    (λ image there state k. free-refused c.args.self.now state image k moment c.args.handle (free-there c.args.self.now.handles c.args.handle c.object.result c.object.ensures.object (c.is_none.ensures ∙ ap not c.if-is_none.true)))
+
+pub returns-then-is_none-clause-stops : goal.returns-then-is_none-clause-stops
+returns-then-is_none-clause-stops g c moment =
+    let old : Told = g.F.Folder.told c.args.f.now in
+    nothing-stops (KeepsState c.args.self.now) (says-kept c.args.self.now) old old moment (to_close c.args.handle) refl
+
+-- One name of several.
+
+pub returns-in-More-clause-does : goal.returns-in-More-clause-does
+returns-in-More-clause-does g c moment =
+    let b = bound-there c.args.self.now.handles c.args.handle c.object.result c.object.ensures.object (c.is_none.ensures ∙ ap not c.if-is_none.false) in
+    several-done c.args.self.now c.args.handle (omega (arith, c.ranges.handle.fits)) b.0 b.1 c.release.new.self (g.F.Folder.told c.args.f.now)
+    (ap (λ (bs : Bindings). is_open bs b.0.entry) (sym c.release.ensures.frees) ∙ was-more c.args.self.now.handles c.release.new.self.handles c.args.handle b.0 b.1 c.release.result c.in-More.is c.release.ensures.answer)
+    c.release.ensures.frees c.release.ensures.charged c.release.ensures.others moment
+
+pub returns-in-More-clause-stops : goal.returns-in-More-clause-stops
+returns-in-More-clause-stops g c moment =
+    let old : Told = g.F.Folder.told c.args.f.now in
+    nothing-stops (KeepsState c.args.self.now) (says-kept c.args.self.now) old old moment (to_close c.args.handle) refl
+
+pub returns-in-More-clause-is_open : goal.returns-in-More-clause-is_open
+returns-in-More-clause-is_open g c image here = subst (λ (files : BlockFiles). IsOpen files image) (sym c.release.ensures.others.files) (c.requires.is_open image here)
+
+-- The last name.
+
+pub read_charge-requires : goal.read_charge-requires
+read_charge-requires g c =
+    let b = bound-there c.args.self.now.handles c.args.handle c.object.result c.object.ensures.object (c.is_none.ensures ∙ ap not c.if-is_none.false) in
+    let w = was-last c.args.self.now.handles c.release.new.self.handles c.args.handle b.0 b.1 c.release.result c.in-Last.object c.in-Last.is c.release.ensures.answer in
+    record { names = last-named c.args.self.now.files c.release.new.self.files c.args.self.now.handles c.release.new.self.handles c.args.self.now.stand c.release.ensures.others.files c.args.handle b.0 b.1 c.in-Last.object w }
+
+pub returns-in_err-charge-in-Last-clause-stops : goal.returns-in_err-charge-in-Last-clause-stops
+returns-in_err-charge-in-Last-clause-stops g c moment =
+    nothing-stops (KeepsState c.args.self.now) (says-kept c.args.self.now) (g.F.Folder.told c.args.f.now) (g.F.Folder.told c.read_charge.new.f) moment (to_close c.args.handle) c.in_err-charge-in-Last.ensures.stays
+
+pub returns-in_err-charge-in-Last-clause-is_open : goal.returns-in_err-charge-in-Last-clause-is_open
+returns-in_err-charge-in-Last-clause-is_open g c image now =
+    subst (λ (files : BlockFiles). IsOpen files image) (sym c.release.ensures.others.files) (c.requires.is_open image (ap (λ (t : Told). t.files) (sym c.in_err-charge-in-Last.ensures.stays) ∙ now))
+
+pub returns-in_err-charge-in-Last-clause-damaged : goal.returns-in_err-charge-in-Last-clause-damaged
+returns-in_err-charge-in-Last-clause-damaged g c =
+    let b = bound-there c.args.self.now.handles c.args.handle c.object.result c.object.ensures.object (c.is_none.ensures ∙ ap not c.if-is_none.false) in
+    let w = was-last c.args.self.now.handles c.release.new.self.handles c.args.handle b.0 b.1 c.release.result c.in-Last.object c.in-Last.is c.release.ensures.answer in
+    carried c.read_charge.result c.from_residual.result c.in_err-charge-in-Last.field-0.0 (IsCloseDamage c.args.self.now.files (g.F.Folder.told c.args.f.now)) c.in_err-charge-in-Last.was c.from_residual.ensures.1
+    (if_damaged_weaker c.read_charge.result _ _ (λ damage wrong. record {
+      entry = c.in-Last.object.entry;
+      names = last-named c.args.self.now.files c.args.self.now.files c.args.self.now.handles c.release.new.self.handles c.args.self.now.stand refl c.args.handle b.0 b.1 c.in-Last.object w;
+      node = c.in-Last.object.node;
+      stands = last-stands c.args.self.now.files c.args.self.now.files c.args.self.now.handles c.release.new.self.handles c.args.self.now.stand refl c.args.handle b.0 b.1 c.in-Last.object w;
+      wrong = inl wrong;
+    }) c.read_charge.ensures.damaged)
+
+pub returns-in_err-charge-in-Last-clause-untold : goal.returns-in_err-charge-in-Last-clause-untold
+returns-in_err-charge-in-Last-clause-untold g c any =
+    let old : Told = g.F.Folder.told c.args.f.now in
+    let b = bound-there c.args.self.now.handles c.args.handle c.object.result c.object.ensures.object (c.is_none.ensures ∙ ap not c.if-is_none.false) in
+    let w = was-last c.args.self.now.handles c.release.new.self.handles c.args.handle b.0 b.1 c.release.result c.in-Last.object c.in-Last.is c.release.ensures.answer in
+    carried c.read_charge.result c.from_residual.result c.in_err-charge-in-Last.field-0.0 (λ _. old.files ≡ None) c.in_err-charge-in-Last.was c.from_residual.ensures.1
+    (c.read_charge.ensures.untold (λ image there. subst (λ (files : BlockFiles). Agrees files image) (sym c.release.ensures.others.files) (c.requires.is_open image there).agrees)
+    (last-entry c.args.self.now old c.args.handle (omega (arith, c.ranges.handle.fits)) b.0 b.1 c.release.new.self c.release.ensures.frees c.in-Last.object w c.requires.live (g.met.F.Folder.are_bytes c.args.f.now) any))
+
+pub clean-requires-clause-is_open : goal.clean-requires-clause-is_open
+clean-requires-clause-is_open g c image now =
+    subst (λ (files : BlockFiles). IsOpen files image) (sym c.release.ensures.others.files) (c.requires.is_open image (ap (λ (t : Told). t.files) (sym c.in_ok-charge-in-Last.ensures.stays) ∙ now))
+
+pub clean-requires-clause-stands : goal.clean-requires-clause-stands
+clean-requires-clause-stands g c =
+    let b = bound-there c.args.self.now.handles c.args.handle c.object.result c.object.ensures.object (c.is_none.ensures ∙ ap not c.if-is_none.false) in
+    let w = was-last c.args.self.now.handles c.release.new.self.handles c.args.handle b.0 b.1 c.release.result c.in-Last.object c.in-Last.is c.release.ensures.answer in
+    last-stands c.args.self.now.files c.release.new.self.files c.args.self.now.handles c.release.new.self.handles c.args.self.now.stand c.release.ensures.others.files c.args.handle b.0 b.1 c.in-Last.object w
+
+pub returns-in_err-clean-in-Last-clause-stops : goal.returns-in_err-clean-in-Last-clause-stops
+returns-in_err-clean-in-Last-clause-stops g c =
+    let b = bound-there c.args.self.now.handles c.args.handle c.object.result c.object.ensures.object (c.is_none.ensures ∙ ap not c.if-is_none.false) in
+    let w = was-last c.args.self.now.handles c.release.new.self.handles c.args.handle b.0 b.1 c.release.result c.in-Last.object c.in-Last.is c.release.ensures.answer in
+    cleaned-stops c.args.self.now (g.F.Folder.told c.args.f.now) (g.F.Folder.told c.read_charge.new.f) (g.F.Folder.told c.clean.new.f) c.in_ok-charge-in-Last.ensures.stays c.args.handle (omega (arith, c.ranges.handle.fits)) b.0 b.1 c.release.new.self c.release.ensures.frees c.release.ensures.others c.in-Last.object w c.requires.live
+    (g.met.F.Folder.are_bytes c.read_charge.new.f) c.clean.result c.clean.ensures.cleans
+    (last-stands c.args.self.now.files c.args.self.now.files c.args.self.now.handles c.release.new.self.handles c.args.self.now.stand refl c.args.handle b.0 b.1 c.in-Last.object w)
+
+pub returns-in_ok-clean-in-Last-clause-stops : goal.returns-in_ok-clean-in-Last-clause-stops
+returns-in_ok-clean-in-Last-clause-stops g c =
+    let b = bound-there c.args.self.now.handles c.args.handle c.object.result c.object.ensures.object (c.is_none.ensures ∙ ap not c.if-is_none.false) in
+    let w = was-last c.args.self.now.handles c.release.new.self.handles c.args.handle b.0 b.1 c.release.result c.in-Last.object c.in-Last.is c.release.ensures.answer in
+    cleaned-stops c.args.self.now (g.F.Folder.told c.args.f.now) (g.F.Folder.told c.read_charge.new.f) (g.F.Folder.told c.clean.new.f) c.in_ok-charge-in-Last.ensures.stays c.args.handle (omega (arith, c.ranges.handle.fits)) b.0 b.1 c.release.new.self c.release.ensures.frees c.release.ensures.others c.in-Last.object w c.requires.live
+    (g.met.F.Folder.are_bytes c.read_charge.new.f) c.clean.result c.clean.ensures.cleans
+    (last-stands c.args.self.now.files c.args.self.now.files c.args.self.now.handles c.release.new.self.handles c.args.self.now.stand refl c.args.handle b.0 b.1 c.in-Last.object w)
+
+pub returns-in_err-clean-in-Last-clause-damaged : goal.returns-in_err-clean-in-Last-clause-damaged
+returns-in_err-clean-in-Last-clause-damaged g c =
+    let b = bound-there c.args.self.now.handles c.args.handle c.object.result c.object.ensures.object (c.is_none.ensures ∙ ap not c.if-is_none.false) in
+    let w = was-last c.args.self.now.handles c.release.new.self.handles c.args.handle b.0 b.1 c.release.result c.in-Last.object c.in-Last.is c.release.ensures.answer in
+    carried c.clean.result c.from_residual-in_err-clean-in-Last.result c.in_err-clean-in-Last.field-0.0 (IsCloseDamage c.args.self.now.files (g.F.Folder.told c.args.f.now)) c.in_err-clean-in-Last.was c.from_residual-in_err-clean-in-Last.ensures.1
+    (if_damaged_weaker c.clean.result _ _ (λ damage wrong. record {
+      entry = c.in-Last.object.entry;
+      names = last-named c.args.self.now.files c.args.self.now.files c.args.self.now.handles c.release.new.self.handles c.args.self.now.stand refl c.args.handle b.0 b.1 c.in-Last.object w;
+      node = c.in-Last.object.node;
+      stands = last-stands c.args.self.now.files c.args.self.now.files c.args.self.now.handles c.release.new.self.handles c.args.self.now.stand refl c.args.handle b.0 b.1 c.in-Last.object w;
+      wrong = inr (subst (λ (t : Told). IsFailedRecord t c.in-Last.object.node (record_size c.in-Last.object.node) damage) c.in_ok-charge-in-Last.ensures.stays wrong);
+    }) c.clean.ensures.damaged)
+
+pub returns-in_err-clean-in-Last-clause-untold : goal.returns-in_err-clean-in-Last-clause-untold
+returns-in_err-clean-in-Last-clause-untold g c any =
+    let old : Told = g.F.Folder.told c.args.f.now in
+    let mid : Told = g.F.Folder.told c.read_charge.new.f in
+    let b = bound-there c.args.self.now.handles c.args.handle c.object.result c.object.ensures.object (c.is_none.ensures ∙ ap not c.if-is_none.false) in
+    let w = was-last c.args.self.now.handles c.release.new.self.handles c.args.handle b.0 b.1 c.release.result c.in-Last.object c.in-Last.is c.release.ensures.answer in
+    let same : mid.files ≡ old.files = ap (λ (t : Told). t.files) c.in_ok-charge-in-Last.ensures.stays in
+    carried c.clean.result c.from_residual-in_err-clean-in-Last.result c.in_err-clean-in-Last.field-0.0 (λ _. old.files ≡ None) c.in_err-clean-in-Last.was c.from_residual-in_err-clean-in-Last.ensures.1
+    (if_damaged_weaker c.clean.result (λ _. mid.files ≡ None) (λ _. old.files ≡ None) (λ damage none. sym same ∙ none)
+    (c.clean.ensures.untold
+    (last-node c.args.self.now old mid c.in_ok-charge-in-Last.ensures.stays c.args.handle (omega (arith, c.ranges.handle.fits)) b.0 b.1 c.release.new.self c.release.ensures.frees c.in-Last.object w c.requires.live (g.met.F.Folder.are_bytes c.read_charge.new.f)
+    (last-stands c.args.self.now.files c.args.self.now.files c.args.self.now.handles c.release.new.self.handles c.args.self.now.stand refl c.args.handle b.0 b.1 c.in-Last.object w) any)))
+
+pub returns-in_ok-clean-in-Last-clause-does : goal.returns-in_ok-clean-in-Last-clause-does
+returns-in_ok-clean-in-Last-clause-does g c =
+    let b = bound-there c.args.self.now.handles c.args.handle c.object.result c.object.ensures.object (c.is_none.ensures ∙ ap not c.if-is_none.false) in
+    let w = was-last c.args.self.now.handles c.release.new.self.handles c.args.handle b.0 b.1 c.release.result c.in-Last.object c.in-Last.is c.release.ensures.answer in
+    cleaned-done c.args.self.now (g.F.Folder.told c.args.f.now) (g.F.Folder.told c.read_charge.new.f) (g.F.Folder.told c.clean.new.f) c.in_ok-charge-in-Last.ensures.stays c.args.handle (omega (arith, c.ranges.handle.fits)) b.0 b.1 c.release.new.self c.release.ensures.frees c.release.ensures.others c.in-Last.object w c.requires.live
+    (g.met.F.Folder.are_bytes c.read_charge.new.f) (Ok c.in_ok-clean-in-Last.field-0) c.in_ok-clean-in-Last.ensures.cleans
+    (last-stands c.args.self.now.files c.args.self.now.files c.args.self.now.handles c.release.new.self.handles c.args.self.now.stand refl c.args.handle b.0 b.1 c.in-Last.object w)
+    (λ P p. p) _ c.in_ok-clean-in-Last.ensures.is_open refl (record { limits = refl; items = refl; bytes = refl; files = refl; mark = refl }) c.release.ensures.charged c.in_ok-charge-in-Last.charge c.saturating_sub-self.ensures c.in_ok-charge-in-Last.ensures.charge

@@ -1,0 +1,62 @@
+-- A new object in a cache: which states can have one, and what the cache counts then.
+use Rattle.std.specs.Prelude.{◌≡◌, ℕ, ◌+◌, ◌-◌, ◌^◌, ◌≤◌, Bool, List, length, min, if◌then◌else◌}
+use Rattle.std.specs.declared.option.Option.{Option}
+use Rattle.std.specs.declared.option.Option.TheVariants.{None, Some}
+use Rattle.blk_image.specs.Image.{Image}
+use Rattle.blk_model.specs.Room.{total}
+use Rattle.blk_model.specs.Refusals.{refused}
+use Rattle.blk_model.specs.Request.{to_create}
+use Rattle.blk_model.specs.State.{State, IsValidState}
+use Rattle.blk_model.specs.declared.Refusal.{Refusal}
+use Rattle.blk_model.specs.declared.Refusal.TheVariants as refusal
+use Rattle.blk_kept.specs.CommandStates.{with_room}
+use Rattle.blk_object.specs.Making.{CanHaveNew}
+use Rattle.blk_cache.specs.declared.cache.Cache.{Cache}
+use Rattle.blk_cache.specs.CacheKeeping.{KeepsState}
+
+-- Refusals.
+
+-- why a Create is refused: an early reason, that stands whether there is room or not, or else that there is no room
+abbrev pub create_refusal : (early : Option Refusal) → (no_room : Bool) → Option Refusal
+create_refusal (Some why) no_room = Some why
+create_refusal None no_room = if no_room then Some refusal.Full else None
+
+-- The new object.
+
+-- a state can have a new object with a key by a handle, and its bytes are within the limit
+pub record HasRoomFor (state : State) (handle : ℕ) (key : List ℕ) : Type 0 where
+  pub can : CanHaveNew state handle key
+  pub room : total state + length key ≤ state.limits.max_bytes
+
+-- a cache keeps some state that can have a new object
+pub record KeepsWithRoom (cache : Cache) (handle : ℕ) (key : List ℕ) (image : Image) : Type 0 where
+  pub state : State
+  pub kept : KeepsState cache state image
+  pub can : CanHaveNew state handle key
+
+-- a cache keeps what a Create leaves of a state once all that it evicts is out, and the Create isn't refused
+pub record IsReadyToCreate (cache : Cache) (state : State) (moment handle : ℕ) (key : List ℕ) (image : Image) : Type 0 where
+  pub valid : IsValidState state
+  pub passes : refused moment (to_create handle key) state ≡ None
+  pub kept : KeepsState cache (with_room state moment (to_create handle key)) image
+
+-- a cache is ready for a Create of some state
+pub record IsReadyForSome (cache : Cache) (handle : ℕ) (key : List ℕ) (image : Image) : Type 0 where
+  pub state : State
+  pub moment : ℕ
+  pub ready : IsReadyToCreate cache state moment handle key image
+
+-- What is counted.
+
+-- a sum, at most the last value of a u64
+abbrev pub sum_within : ℕ → ℕ → ℕ
+sum_within a b = min (a + b) (2 ^ 64 - 1)
+
+-- one item more is counted, which is open, with its charge; but for the names all else is as before
+pub record CountsOneMore (old new : Cache) (charge : ℕ) : Type 0 where
+  pub items : new.items ≡ sum_within old.items 1
+  pub bytes : new.bytes ≡ sum_within old.bytes charge
+  pub open_bytes : new.open_bytes ≡ sum_within old.open_bytes charge
+  pub limits : new.limits ≡ old.limits
+  pub files : new.files ≡ old.files
+  pub mark : new.mark ≡ old.mark

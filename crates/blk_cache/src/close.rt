@@ -1,0 +1,97 @@
+// The command Close.
+ghost use Rattle.std.specs.Prelude.{◌≡◌, ◌≤◌, IfOk, IfSome, IsSome, IsTrue, None, Ok, if◌then◌else◌, slice_set, ℕ};
+ghost use Rattle.std.specs.Option.{ForSome};
+ghost use Rattle.blk_image.specs.Told.{Rises, Stays};
+ghost use Rattle.blk_io.specs.Faults.{IfDamaged, IfDevice};
+ghost use Rattle.blk_model.specs.Request.{to_close};
+ghost use Rattle.blk_disk.specs.Open.{IsOpen};
+ghost use Rattle.blk_disk.specs.Tables.{is_node_among};
+ghost use Rattle.blk_disk.specs.Damages.{IsFailedRecord};
+ghost use Rattle.blk_format.specs.Sealed.{RecordChecks, record_size};
+ghost use Rattle.blk_model.specs.declared.Answer.TheVariants as answer;
+ghost use Rattle.blk_model.specs.declared.Refusal.TheVariants as refusal;
+ghost use Rattle.blk_handles.specs.Bindings.{AreShared, binding_of, is_open, open_object};
+ghost use Rattle.blk_kept.specs.Commands.{Does, MayStopAtEach};
+ghost use Rattle.blk_cache.specs.CacheKeeping.{KeepsState};
+ghost use Rattle.blk_cache.specs.CommandClauses.{Cleans, IsCloseDamage, IsLastOfDoomed, IsRefused, KeepsAny, OnlyNamesChange};
+
+use crate::cache::Cache;
+use crate::looking::read_charge;
+use blk_disk::BlockFiles;
+use blk_entry::set_clean;
+use blk_handles::{OpenObject, Released};
+use blk_io::{Fault, Folder};
+use blk_model::{Answer, Refusal};
+
+impl Cache {
+    /// Frees a handle name. Where it was the last name of its object, the object is charged no longer as an open one, and
+    /// where it isn't settled its dirty word becomes 0; else nothing is written.
+    ///
+    /// It is refused with `BadHandle` where the name is free, or 4096 or more. It isn't asked for the last name of a
+    /// doomed object, which would have to be freed with it. After a fault nothing is promised of the cache but that it
+    /// may be let go.
+    pub(crate) fn close<F: Folder>(&mut self, f: &mut F, handle: u16) -> Result<Answer, Fault>
+        requires is_open { ForSome (F.told f.old).files (IsOpen self.old.files) }
+        requires live { IsLastOfDoomed self.old.handles handle → ⊥ }
+        ensures does { (moment : ℕ) → IfOk result (λ answer. Does (KeepsState self.old) (KeepsState self.new) (F.told f.old) (F.told f.new) moment (to_close handle) answer) }
+        ensures stops { (moment : ℕ) → MayStopAtEach (KeepsState self.old) (F.told f.old) (F.told f.new) moment (to_close handle) }
+
+        // A name that is free is refused on every folder, and a refusal does nothing.
+        ensures refuses { binding_of self.old.handles handle ≡ None → result ≡ Ok (answer.Refused refusal.BadHandle) }
+        ensures quiet { IfOk result (λ answer. IsRefused answer → Stays (F.told f.old) (F.told f.new)) }
+        ensures unchanged { IfOk result (λ answer. IsRefused answer → self.new ≡ self.old) }
+
+        ensures is_open { ForSome (F.told f.new).files (IsOpen self.new.files) }
+
+        // A folder that tells its files gives no damage where the cache keeps a state.
+        ensures damaged { IfDamaged result (IsCloseDamage self.old.files (F.told f.old)) }
+        ensures untold { ForSome (F.told f.old).files (KeepsAny self.old) → IfDamaged result (λ _. (F.told f.old).files ≡ None) }
+        ensures silent { (F.told f.old).files ≡ None → (F.told f.new).files ≡ None }
+        ensures later { F.faults f.old ≤ F.faults f.new }
+        ensures device { IfDevice result (Rises (F.faults f.old) (F.faults f.new)) }
+    {
+        if self.handles.object(handle).is_none() {
+            return Ok(Answer::Refused(Refusal::BadHandle));
+        }
+        match self.release(handle) {
+            Released::More => Ok(Answer::Done),
+            Released::Last(object) => {
+                let charge = read_charge(f, &self.files, object.entry)?;
+                clean(f, &self.files, &object)?;
+                self.open_bytes = self.open_bytes.saturating_sub(charge);
+                Ok(Answer::Done)
+            }
+        }
+    }
+
+    // Frees a name that is bound.
+    fn release(&mut self, handle: u16) -> Released
+        requires bound { IsSome (binding_of self.old.handles handle) }
+        ensures frees { self.new.handles ≡ slice_set self.old.handles handle None }
+        ensures answer { IfSome (binding_of self.old.handles handle) (λ object. result ≡ (if is_open self.new.handles object.entry then Released.More else Released.Last (open_object self.old.handles object))) }
+        ensures charged { self.new.open_bytes ≡ self.old.open_bytes }
+        ensures others { OnlyNamesChange self.old self.new }
+        ensures shared { AreShared self.new.handles }
+    {
+        self.handles.release(handle)
+    }
+}
+
+// Makes the dirty word of an object 0 where it isn't so.
+fn clean<F: Folder>(f: &mut F, files: &BlockFiles, object: &OpenObject) -> Result<(), Fault>
+    requires stands { IsTrue (is_node_among files.now object.now.node) }
+    requires is_open { ForSome (F.told f.old).files (IsOpen files.now) }
+    ensures cleans { Cleans files.now (F.told f.old) (F.told f.new) object.now result }
+    ensures is_open { ForSome (F.told f.new).files (IsOpen files.now) }
+    ensures damaged { IfDamaged result (IsFailedRecord (F.told f.old) object.now.node (record_size object.now.node)) }
+    ensures untold { ForSome (F.told f.old).files (RecordChecks object.now.node) → IfDamaged result (λ _. (F.told f.old).files ≡ None) }
+    ensures silent { (F.told f.old).files ≡ None → (F.told f.new).files ≡ None }
+    ensures later { F.faults f.old ≤ F.faults f.new }
+    ensures device { IfDevice result (Rises (F.faults f.old) (F.faults f.new)) }
+{
+    if object.dirty {
+        set_clean(f, files, object.node)
+    } else {
+        Ok(())
+    }
+}

@@ -1,0 +1,151 @@
+// A new object in a cache.
+ghost use Rattle.std.specs.Prelude.{◌≡◌, ◌≤◌, ◌<◌, ℕ, IfOk, IfSome, IsTrue, None, Ok, OnOk, Some, length, slice_set, true};
+ghost use Rattle.std.specs.Option.{ForSome};
+ghost use Rattle.blk_image.specs.Told.{Passes, Rises, Stays};
+ghost use Rattle.blk_io.specs.Faults.{IfDamaged, IfDevice};
+ghost use Rattle.blk_model.specs.Effects.{created};
+ghost use Rattle.blk_model.specs.Holding.{rest};
+ghost use Rattle.blk_model.specs.Refusals.{no_room, refused};
+ghost use Rattle.blk_model.specs.Request.{to_create};
+ghost use Rattle.blk_model.specs.Sizes.{handle_names};
+ghost use Rattle.blk_model.specs.State.{State};
+ghost use Rattle.blk_disk.specs.Open.{IsOpen};
+ghost use Rattle.blk_disk.specs.Tables.{is_node_among, is_record_among};
+ghost use Rattle.blk_handles.specs.Bindings.{AreShared, binding_for, binding_of, open_with};
+ghost use Rattle.blk_kept.specs.Changes.{Finds};
+ghost use Rattle.blk_kept.specs.Commands.{IsDone, MayStop};
+ghost use Rattle.blk_object.specs.Making.{CanHaveNew};
+ghost use Rattle.blk_cache.specs.CacheKeeping.{KeepsState};
+ghost use Rattle.blk_cache.specs.CommandClauses.{KeepsAny, open_refusal};
+ghost use Rattle.blk_cache.specs.Creating.{CountsOneMore, HasRoomFor, IsReadyForSome, IsReadyToCreate, KeepsWithRoom, create_refusal};
+ghost use Rattle.blk_cache.specs.Looking.{IsLookDamage};
+
+use crate::cache::Cache;
+use crate::looking::{Live, find_live};
+use blk_addr::Addr;
+use blk_io::{Fault, Folder};
+use blk_model::{Answer, Refusal};
+use blk_object::make_entry;
+
+impl Cache {
+    // Ends a Create that isn't refused, once all that it evicts is out: its object is made, with a free handle name
+    // bound to it.
+    pub(crate) fn end_create<F: Folder>(
+        &mut self,
+        f: &mut F,
+        handle: u16,
+        key: &[u8],
+        moment: u64,
+    ) -> Result<Answer, Fault>
+        requires some { 1 ≤ length key.now }
+        requires most { length key.now ≤ 32768 }
+        requires known { handle < handle_names }
+        requires free { binding_of self.old.handles handle ≡ None }
+        requires is_open { ForSome (F.told f.old).files (IsOpen self.old.files) }
+
+        // It is done, whatever state the Create began with, and may be stopped at each word.
+        ensures does { IfOk result (λ answer. ForSome (F.told f.old).files (λ from. (state : State) → IsReadyToCreate self.old state moment handle key.now from → IsDone (KeepsState self.new) (F.told f.new) moment (to_create handle key.now) answer state)) }
+        ensures stops { ForSome (F.told f.old).files (λ from. (state : State) → IsReadyToCreate self.old state moment handle key.now from → Passes (F.told f.old) (F.told f.new) (MayStop state moment (to_create handle key.now))) }
+
+        ensures is_open { OnOk result (ForSome (F.told f.new).files (IsOpen self.new.files)) }
+        ensures untold { ForSome (F.told f.old).files (IsReadyForSome self.old handle key.now) → IfDamaged result (λ _. (F.told f.old).files ≡ None) }
+        ensures silent { (F.told f.old).files ≡ None → (F.told f.new).files ≡ None }
+        ensures later { F.faults f.old ≤ F.faults f.new }
+        ensures device { IfDevice result (Rises (F.faults f.old) (F.faults f.new)) }
+    {
+        self.make_object(f, handle, key, moment)?;
+        Ok(Answer::Done)
+    }
+
+    // Makes a new object with a key that no live object has, once there is room for it: it isn't settled, its item is
+    // in front of the use list, and a free handle name is bound to it.
+    //
+    // The object is made in the folder before the name is bound and the item is counted. After a fault nothing is
+    // promised of the cache but that it may be let go.
+    pub(crate) fn make_object<F: Folder>(
+        &mut self,
+        f: &mut F,
+        handle: u16,
+        key: &[u8],
+        moment: u64,
+    ) -> Result<(), Fault>
+        requires some { 1 ≤ length key.now }
+        requires most { length key.now ≤ 32768 }
+        requires known { handle < handle_names }
+        requires free { binding_of self.old.handles handle ≡ None }
+        requires is_open { ForSome (F.told f.old).files (IsOpen self.old.files) }
+
+        // In the end each state that was kept, that has room for the object, is kept with it.
+        ensures made { OnOk result (ForSome (F.told f.old).files (λ from. (state : State) → KeepsState self.old state from → HasRoomFor state handle key.now → ForSome (F.told f.new).files (KeepsState self.new (created handle key.now state)))) }
+
+        // At each word what was at rest is found.
+        ensures stops { ForSome (F.told f.old).files (λ from. (state : State) → KeepsState self.old state from → CanHaveNew state handle key.now → Passes (F.told f.old) (F.told f.new) (Finds (rest state))) }
+
+        ensures is_open { OnOk result (ForSome (F.told f.new).files (IsOpen self.new.files)) }
+
+        // A folder that tells its files gives no damage where the cache keeps such a state.
+        ensures untold { ForSome (F.told f.old).files (KeepsWithRoom self.old handle key.now) → IfDamaged result (λ _. (F.told f.old).files ≡ None) }
+        ensures silent { (F.told f.old).files ≡ None → (F.told f.new).files ≡ None }
+        ensures later { F.faults f.old ≤ F.faults f.new }
+        ensures device { IfDevice result (Rises (F.faults f.old) (F.faults f.new)) }
+    {
+        // No session has the number 0.
+        let mark = self.mark.max(1);
+        let made = make_entry(f, &mut self.files, key, mark, moment)?;
+        let new = Live {
+            entry: made.entry,
+            node: made.node,
+            charge: key.len() as u64,
+        };
+        let node = self.node_of(&new);
+        self.bind_new(handle, &new, node);
+        Ok(())
+    }
+
+    // Why a Create is refused, but for want of room: with `BadKey`, `BadHandle` or `HandleBusy`, by what the names and
+    // the key tell, or with `Exists` where a live object has the key, the first of these. Nothing is written.
+    pub(crate) fn refuses_create<F: Folder>(
+        &self,
+        f: &mut F,
+        handle: u16,
+        key: &[u8],
+    ) -> Result<Option<Refusal>, Fault>
+        ensures refused { IfOk result (λ early. ForSome (F.told f.old).files (λ image. (state : State) (moment : ℕ) → KeepsState self.now state image → refused moment (to_create handle key.now) state ≡ create_refusal early (no_room moment (to_create handle key.now) state))) }
+
+        // What the names and the key tell is refused on every folder, and where it goes on they tell nothing.
+        ensures refuses { IfSome (open_refusal self.now.handles handle key.now) (λ why. result ≡ Ok (Some why)) }
+        ensures goes_on { IfOk result (λ early. early ≡ None → open_refusal self.now.handles handle key.now ≡ None) }
+        ensures stays { Stays (F.told f.old) (F.told f.new) }
+
+        // A folder that tells its files gives no damage where the cache keeps a state.
+        ensures damaged { IfDamaged result (IsLookDamage self.now.files (F.told f.old) key.now) }
+        ensures untold { ForSome (F.told f.old).files (IsOpen self.now.files) → ForSome (F.told f.old).files (KeepsAny self.now) → IfDamaged result (λ _. (F.told f.old).files ≡ None) }
+        ensures later { F.faults f.old ≤ F.faults f.new }
+        ensures device { IfDevice result (Rises (F.faults f.old) (F.faults f.new)) }
+    {
+        if let Some(why) = self.refuses_open(handle, key) {
+            return Ok(Some(why));
+        }
+        match find_live(f, &self.files, key)? {
+            Some(_) => Ok(Some(Refusal::Exists)),
+            None => Ok(None),
+        }
+    }
+
+    // Binds a free name to a new object, which isn't settled, and counts it.
+    fn bind_new(&mut self, name: u16, new: &Live, node: Addr)
+        requires known { name < handle_names }
+        requires free { binding_of self.old.handles name ≡ None }
+        requires same_node { ForSome (open_with self.old.handles new.now.entry) (λ object. object.node ≡ node) }
+        requires stands { IsTrue (is_node_among self.old.files node) }
+        requires names { IsTrue (is_record_among self.old.files new.now.entry) }
+        ensures binds { self.new.handles ≡ slice_set self.old.handles name (Some (binding_for self.old.handles new.now.entry node true)) }
+        ensures counts { CountsOneMore self.old self.new new.now.charge }
+        ensures shared { AreShared self.new.handles }
+    {
+        self.items = self.items.saturating_add(1);
+        self.bytes = self.bytes.saturating_add(new.charge);
+        self.open_bytes = self.open_bytes.saturating_add(new.charge);
+        self.handles.bind(name, new.entry, node, true);
+    }
+}

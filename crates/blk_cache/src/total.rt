@@ -1,0 +1,23 @@
+// The command Total.
+ghost use Rattle.std.specs.Prelude.{◌≡◌, ℕ};
+ghost use Rattle.blk_image.specs.Told.{Told};
+ghost use Rattle.blk_model.specs.Request.{to_total};
+ghost use Rattle.blk_model.specs.declared.Answer.TheVariants as answer;
+ghost use Rattle.blk_kept.specs.Commands.{Does};
+ghost use Rattle.blk_cache.specs.CacheKeeping.{KeepsState};
+
+use crate::cache::Cache;
+use blk_model::Answer;
+
+impl Cache {
+    /// The number of items and the bytes that they are charged, doomed open objects among them. No folder is asked.
+    pub(crate) fn total(&self) -> Answer
+        ensures answer { result ≡ answer.Totals self.now.items self.now.bytes }
+        ensures does { (told : Told) (moment : ℕ) → Does (KeepsState self.now) (KeepsState self.now) told told moment to_total result }
+    {
+        Answer::Totals {
+            items: self.items,
+            bytes: self.bytes,
+        }
+    }
+}
