@@ -14,3 +14,4 @@ pub mod Refusing
 pub mod OpenSteps
 pub mod Closes
 pub mod CloseSteps
+pub mod Notes
