@@ -306,5 +306,5 @@ module _ {A : Type 0} (cache : Cache) (old mid now : Told) (stays : mid ≡ old)
       let sum : ForSome old.files (λ image. last.open_bytes ≡ cache.open_bytes - charge_at image b.entry) = λ image here.
       falls ∙ ap (λ (n : ℕ). n - charge) charged ∙ ap (λ (n : ℕ). cache.open_bytes - n) (says image here ∙ ap (λ (o : OpenObject). charge_at image o.entry) was.object_is) in
       last-done cache handle small b bound old mid now stays shut (not-doomed cache.handles handle b bound shut never) last bytes (λ image here. subst (λ (fs : BlockFiles). IsOpen fs image) others.files (still image here)) (same ∙ frees) sum
-      (record { limits = rest.limits ∙ others.limits; items = rest.items ∙ others.items; bytes = rest.bytes ∙ others.bytes; files = rest.files ∙ others.files; mark = rest.mark ∙ others.mark }) moment
+      (record { limits = rest.limits ∙ others.limits; items = rest.items ∙ others.items; bytes = rest.bytes ∙ others.bytes; files = rest.files ∙ others.files; mark = rest.mark ∙ others.mark; notes = rest.notes ∙ others.notes }) moment
       (λ dirty. ok (ForSome mid.files (λ from. Applies mid now (mark_steps from b.node 0))) (cleaned.cleans dirty).steps) cleaned.stays

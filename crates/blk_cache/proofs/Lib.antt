@@ -20,3 +20,4 @@ pub mod CreateSteps
 pub mod CreateRoom
 pub mod CreateRefusing
 pub mod CreateEnds
+pub mod Notes

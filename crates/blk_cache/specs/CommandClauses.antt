@@ -42,6 +42,17 @@ pub record OnlyNamesChange (old new : Cache) : Type 0 where
   pub bytes : new.bytes ≡ old.bytes
   pub files : new.files ≡ old.files
   pub mark : new.mark ≡ old.mark
+  pub notes : new.notes ≡ old.notes
+
+-- all but the number of notes is as before
+pub record OnlyNotesChange (old new : Cache) : Type 0 where
+  pub limits : new.limits ≡ old.limits
+  pub items : new.items ≡ old.items
+  pub bytes : new.bytes ≡ old.bytes
+  pub open_bytes : new.open_bytes ≡ old.open_bytes
+  pub handles : new.handles ≡ old.handles
+  pub files : new.files ≡ old.files
+  pub mark : new.mark ≡ old.mark
 
 -- Open.
 

@@ -22,6 +22,8 @@ pub struct Cache {
     pub(crate) files: BlockFiles,
     // The dirty word of what isn't settled: the number of the session.
     pub(crate) mark: u32,
+    // How many notes this cache has made, or the last value of a u64.
+    pub(crate) notes: u64,
     // Room for the key of a parent and the name of a part.
     pub(crate) name: Vec<u8>,
     ghost stand: { AreBoundAmong files handles },

@@ -42,6 +42,7 @@ impl Cache {
         ensures unchanged { IfOk result (λ answer. IsRefused answer → self.new ≡ self.old) }
 
         ensures is_open { ForSome (F.told f.new).files (IsOpen self.new.files) }
+        ensures notes { self.new.notes ≡ self.old.notes }
 
         // A folder that tells its files gives no damage where the cache keeps a state.
         ensures damaged { IfDamaged result (IsCloseDamage self.old.files (F.told f.old)) }

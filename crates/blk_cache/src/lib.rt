@@ -13,6 +13,7 @@ mod names;
 mod open;
 mod opening;
 mod starting;
+mod stepping;
 mod total;
 
 pub use cache::Cache;

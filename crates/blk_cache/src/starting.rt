@@ -71,6 +71,7 @@ impl Cache {
             handles: names.handles,
             files: opened.files,
             mark: opened.mark,
+            notes: 0,
             name: names.room,
         })
     }

@@ -144,4 +144,4 @@ returns-in_ok-clean-in-Last-clause-does g c =
     cleaned-done c.args.self.now (g.F.Folder.told c.args.f.now) (g.F.Folder.told c.read_charge.new.f) (g.F.Folder.told c.clean.new.f) c.in_ok-charge-in-Last.ensures.stays c.args.handle (omega (arith, c.ranges.handle.fits)) b.0 b.1 c.release.new.self c.release.ensures.frees c.release.ensures.others c.in-Last.object w c.requires.live
     (g.met.F.Folder.are_bytes c.read_charge.new.f) (Ok c.in_ok-clean-in-Last.field-0) c.in_ok-clean-in-Last.ensures.cleans
     (last-stands c.args.self.now.files c.args.self.now.files c.args.self.now.handles c.release.new.self.handles c.args.self.now.stand refl c.args.handle b.0 b.1 c.in-Last.object w)
-    (λ P p. p) _ c.in_ok-clean-in-Last.ensures.is_open refl (record { limits = refl; items = refl; bytes = refl; files = refl; mark = refl }) c.release.ensures.charged c.in_ok-charge-in-Last.charge c.saturating_sub-self.ensures c.in_ok-charge-in-Last.ensures.charge
+    (λ P p. p) _ c.in_ok-clean-in-Last.ensures.is_open refl (record { limits = refl; items = refl; bytes = refl; files = refl; mark = refl; notes = refl }) c.release.ensures.charged c.in_ok-charge-in-Last.charge c.saturating_sub-self.ensures c.in_ok-charge-in-Last.ensures.charge

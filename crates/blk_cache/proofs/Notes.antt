@@ -1,0 +1,74 @@
+-- The note behind the steps of a command.
+use Rattle.std.proofs.Common.{◌≡◌, ℕ, [], ◌∷◌, Option, Some, None, inl, inr, refl, sym, ap, subst, ◌∙◌}
+use Rattle.std.specs.Option.{ForSome, option_map}
+use Rattle.blk_image.specs.Image.{Image}
+use Rattle.blk_image.specs.Steps.{Note, after}
+use Rattle.blk_image.specs.Told.{Applies, Passes, Stays, Told}
+use Rattle.blk_image.proofs.Runs.{grows_then}
+use Rattle.blk_model.specs.Bounds.{bounds_of}
+use Rattle.blk_model.specs.Request.{Request}
+use Rattle.blk_model.specs.State.{State, named_by}
+use Rattle.blk_model.specs.Step.{step}
+use Rattle.blk_model.specs.declared.Answer.{Answer}
+use Rattle.blk_disk.specs.declared.tables.BlockFiles.{BlockFiles}
+use Rattle.blk_disk.specs.Open.{IsOpen}
+use Rattle.blk_disk.specs.Tables.{Agrees}
+use Rattle.blk_handles.specs.Bindings.{Bindings, binding_of, open_count}
+use Rattle.blk_kept.specs.Commands.{Does, ForKept, IsDone, IsNoted, IsStepped, MayStop, MayStopAtEach}
+use Rattle.blk_kept.proofs.Keeping.{kept-stands}
+use Rattle.blk_cache.specs.declared.cache.Cache.{Cache}
+use Rattle.blk_cache.specs.CacheKeeping.{IsBoundAs, KeepsState}
+use Rattle.blk_cache.specs.CommandClauses.{OnlyNotesChange}
+
+-- a note changes no file
+note-nothing : (number : ℕ) (files : Option Image) → option_map (after (Note number ∷ [])) files ≡ files
+note-nothing number None = refl
+note-nothing number (Some image) = refl
+
+pub same-files : (mid now : Told) (number : ℕ) → Applies mid now (Note number ∷ []) → now.files ≡ mid.files
+same-files mid now number note = note.files ∙ note-nothing number mid.files
+
+-- what a cache keeps doesn't hang on its notes
+pub kept-on : (old new : Cache) (state : State) (image : Image) → OnlyNotesChange old new → KeepsState old state image → KeepsState new state image
+kept-on old new state image same k = record {
+  layout = k.layout;
+  kept = k.kept;
+  limits = k.limits ∙ ap bounds_of (sym same.limits);
+  items_are = same.items ∙ k.items_are;
+  bytes_are = same.bytes ∙ k.bytes_are;
+  open_objects = ap open_count same.handles ∙ k.open_objects;
+  open_bytes = same.open_bytes ∙ k.open_bytes;
+  names = λ name. subst (λ (bs : Bindings). IsBoundAs state k.layout (named_by state name) (binding_of bs name)) (sym same.handles) (k.names name);
+  files = subst (λ (fs : BlockFiles). Agrees fs image) (sym same.files) k.files;
+  mark = same.mark ∙ k.mark;
+}
+
+module _ (old new last : Cache) (told mid now : Told) (moment : ℕ) (request : Request) (number : ℕ) (stops : MayStopAtEach (KeepsState old) told mid moment request) where
+  -- the note was not made
+  pub not-noted : Stays mid now → ForKept (KeepsState old) told (IsStepped told now moment request number)
+  not-noted stays image there state k = inl (subst (λ (t : Told). Passes told t (MayStop state moment request)) (sym stays) (stops image there state k))
+
+  module _ (answer : Answer) (does : Does (KeepsState old) (KeepsState new) told mid moment request answer) (note : Applies mid now (Note number ∷ [])) (same : OnlyNotesChange new last) where
+    pub noted-does : Does (KeepsState old) (KeepsState last) told now moment request answer
+    noted-does image there state k =
+        let d : IsDone (KeepsState new) mid moment request answer state = does image there state k in
+        record { answered = d.answered; kept = λ i here. kept-on new last (step state moment request).state i same (d.kept i (sym (same-files mid now number note) ∙ here)) }
+
+    pub noted-ends : ForKept (KeepsState old) told (IsNoted told now moment request number)
+    noted-ends image there state k =
+        let p : Passes told mid (MayStop state moment request) = stops image there state k in
+        let d : IsDone (KeepsState new) mid moment request answer state = does image there state k in
+        record {
+          steps = p.steps;
+          quiet = p.quiet;
+          applies = grows_then p.applies note;
+          stops = p.along;
+          stands = λ i here. let s : KeepsState new (step state moment request).state i = d.kept i (sym (same-files mid now number note) ∙ here) in kept-stands (step state moment request).state s.layout i s.kept;
+        }
+
+    pub noted-steps : ForKept (KeepsState old) told (IsStepped told now moment request number)
+    noted-steps image there state k = inr (noted-ends image there state k)
+
+-- the folder is open still
+pub open-on : (new last : Cache) (mid now : Told) → now.files ≡ mid.files → OnlyNotesChange new last → ForSome mid.files (IsOpen new.files) → ForSome now.files (IsOpen last.files)
+open-on new last mid now same others opened image here = subst (λ (fs : BlockFiles). IsOpen fs image) (sym others.files) (opened image (sym same ∙ here))
