@@ -6,3 +6,5 @@ pub mod CarriedFaults
 pub mod Starts
 pub mod MakingSteps
 pub mod CreationTimes
+pub mod RoomGroups
+pub mod RoomPins

@@ -4,3 +4,4 @@ pub mod CacheKeeping
 pub mod Opening
 pub mod Opened
 pub mod OpeningLaws
+pub mod RoomLaws

@@ -7,8 +7,10 @@ mod fault;
 mod laws;
 mod names;
 mod opening;
+mod room_laws;
 mod starting;
 
 pub use cache::Cache;
 pub use fault::OpenFault;
 pub use laws::{kept_folders_end_sound, repaired_folders_keep_their_state};
+pub use room_laws::{groups_go_one_after_another, named_objects_are_pinned};

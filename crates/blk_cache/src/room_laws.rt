@@ -1,0 +1,19 @@
+//! The laws of room, each the contract of a function with an empty body.
+ghost use Rattle.blk_cache.specs.RoomLaws.{ItemsThatStayArePinnedAsBefore, NamedObjectsArePinned, NothingMoreGoes, PartsAreInFront, RoomIsMade, RoomIsTold, TheLastUnpinnedGoesNext, TheOthersGoFromWhatIsLeft};
+
+/// Groups are evicted one after another: each is that of the last item that isn't pinned, in the use list as it is then,
+/// until there is enough or each item is pinned.
+pub fn groups_go_one_after_another()
+    ensures done { NothingMoreGoes }
+    ensures next { TheLastUnpinnedGoesNext }
+    ensures others { TheOthersGoFromWhatIsLeft }
+    ensures pinned { ItemsThatStayArePinnedAsBefore }
+    ensures parts { PartsAreInFront }
+{}
+
+/// Where no part is covered the named objects are what is pinned; so where there is room is told by what a cache keeps.
+pub fn named_objects_are_pinned()
+    ensures pinned { NamedObjectsArePinned }
+    ensures told { RoomIsTold }
+    ensures made { RoomIsMade }
+{}
