@@ -8,3 +8,4 @@ pub mod MakingSteps
 pub mod CreationTimes
 pub mod RoomGroups
 pub mod RoomPins
+pub mod RoomTexts

@@ -5,3 +5,4 @@ pub mod Opening
 pub mod Opened
 pub mod OpeningLaws
 pub mod RoomLaws
+pub mod RoomPrinting

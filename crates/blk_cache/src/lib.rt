@@ -8,9 +8,10 @@ mod laws;
 mod names;
 mod opening;
 mod room_laws;
+mod room_printing;
 mod starting;
 
 pub use cache::Cache;
 pub use fault::OpenFault;
 pub use laws::{kept_folders_end_sound, repaired_folders_keep_their_state};
-pub use room_laws::{groups_go_one_after_another, named_objects_are_pinned};
+pub use room_laws::{groups_go_one_after_another, named_objects_are_pinned, prints_go_on};

@@ -1,5 +1,6 @@
 //! The laws of room, each the contract of a function with an empty body.
 ghost use Rattle.blk_cache.specs.RoomLaws.{ItemsThatStayArePinnedAsBefore, NamedObjectsArePinned, NothingMoreGoes, PartsAreInFront, RoomIsMade, RoomIsTold, TheLastUnpinnedGoesNext, TheOthersGoFromWhatIsLeft};
+ghost use Rattle.blk_cache.specs.RoomPrinting.{FaultsGoOn, NothingIsPrinted, PrintsGoOn};
 
 /// Groups are evicted one after another: each is that of the last item that isn't pinned, in the use list as it is then,
 /// until there is enough or each item is pinned.
@@ -16,4 +17,11 @@ pub fn named_objects_are_pinned()
     ensures pinned { NamedObjectsArePinned }
     ensures told { RoomIsTold }
     ensures made { RoomIsMade }
+{}
+
+/// Texts are printed one after another, unless the sink failed.
+pub fn prints_go_on()
+    ensures nothing { NothingIsPrinted }
+    ensures on { PrintsGoOn }
+    ensures faults { FaultsGoOn }
 {}
