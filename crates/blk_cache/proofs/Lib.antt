@@ -9,3 +9,4 @@ pub mod CreationTimes
 pub mod RoomGroups
 pub mod RoomPins
 pub mod RoomTexts
+pub mod RoomNodes

@@ -6,3 +6,4 @@ pub mod Opened
 pub mod OpeningLaws
 pub mod RoomLaws
 pub mod RoomPrinting
+pub mod RoomSearch

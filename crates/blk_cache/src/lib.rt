@@ -9,6 +9,7 @@ mod names;
 mod opening;
 mod room_laws;
 mod room_printing;
+mod room_search;
 mod starting;
 
 pub use cache::Cache;
