@@ -10,3 +10,5 @@ pub mod RoomGroups
 pub mod RoomPins
 pub mod RoomTexts
 pub mod RoomNodes
+pub mod RoomBound
+pub mod RoomLast

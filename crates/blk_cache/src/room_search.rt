@@ -50,7 +50,7 @@ impl Cache {
     {
         let mut behind = behind;
         for _ in 0..self.items {
-            let Some(node) = in_front(f, &self.files, behind)? else {
+            let Some(node) = in_front(f, &self.files, &behind)? else {
                 return Ok(None);
             };
             let entry = record_of(f, &self.files, node)?;
@@ -71,17 +71,17 @@ impl Cache {
 fn in_front<F: Folder>(
     f: &mut F,
     files: &BlockFiles,
-    behind: Option<Addr>,
+    behind: &Option<Addr>,
 ) -> Result<Option<Addr>, Fault>
-    requires stands { IfSome behind (λ node. IsTrue (is_node_among files.now node)) }
-    ensures node { IfOk result (λ node. ForSome (F.told f.old).files (λ image. Agrees files.now image → (front : List ℕ) → AreInFront front behind image → node ≡ last_node_of front)) }
+    requires stands { IfSome behind.now (λ node. IsTrue (is_node_among files.now node)) }
+    ensures node { IfOk result (λ node. ForSome (F.told f.old).files (λ image. Agrees files.now image → (front : List ℕ) → AreInFront front behind.now image → node ≡ last_node_of front)) }
     ensures stands { IfOk result (λ node. IfSome node (λ n. IsTrue (is_node_among files.now n))) }
     ensures stays { Stays (F.told f.old) (F.told f.new) }
-    ensures untold { ForSome (F.told f.old).files (IsOpen files.now) → ForSome (F.told f.old).files (IsPlaceInList behind) → IfDamaged result (λ _. (F.told f.old).files ≡ None) }
+    ensures untold { ForSome (F.told f.old).files (IsOpen files.now) → ForSome (F.told f.old).files (IsPlaceInList behind.now) → IfDamaged result (λ _. (F.told f.old).files ≡ None) }
     ensures later { F.faults f.old ≤ F.faults f.new }
     ensures device { IfDevice result (Rises (F.faults f.old) (F.faults f.new)) }
 {
-    match behind {
+    match *behind {
         Some(node) => before(f, files, node),
         None => last(f, files),
     }
