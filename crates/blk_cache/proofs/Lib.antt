@@ -12,3 +12,4 @@ pub mod RoomTexts
 pub mod RoomNodes
 pub mod RoomBound
 pub mod RoomLast
+pub mod RoomCounts

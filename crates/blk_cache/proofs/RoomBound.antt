@@ -1,6 +1,6 @@
 -- The record of a listed item is open exactly where the item is pinned.
 use Rattle.std.proofs.Common.{◌≡◌, ⊎_elim, ℕ, zero, suc, Bool, true, false, List, [], ◌∷◌, Option, Some, None, refl, sym, ap, subst, ◌∙◌}
-use Rattle.std.specs.Prelude.{◌&&◌, ◌==◌, if◌then◌else◌, slice_index_or}
+use Rattle.std.specs.Prelude.{◌==◌, if◌then◌else◌, slice_index_or}
 use Rattle.std.specs.List.{list_any}
 use Rattle.std.specs.Option.{option_map_or}
 use Rattle.std.specs.Str.{bytes_eq}
@@ -8,10 +8,9 @@ use Rattle.std.proofs.lemmas.Bool.{and_parts, eqb-true, or_cases, or_left, or_ri
 use Rattle.blk_handles.proofs.Basics.{same-number}
 use Rattle.blk_image.specs.Image.{Image}
 use Rattle.blk_image.proofs.Runs.{some_inj}
-use Rattle.blk_model.specs.Holding.{owner}
 use Rattle.blk_model.specs.Items.{Item, main, part}
 use Rattle.blk_model.specs.Room.{is_pinned}
-use Rattle.blk_model.specs.State.{Object, State, is_named, is_number, live_with, object_at}
+use Rattle.blk_model.specs.State.{Object, State, is_named, is_number, live_with}
 use Rattle.blk_format.specs.BlockFiles.{is_among}
 use Rattle.blk_format.specs.Claims.{claims_of, has_claim}
 use Rattle.blk_volume.specs.Layout.{IsDoomedAt, Layout, is_listed, order, rule_of}

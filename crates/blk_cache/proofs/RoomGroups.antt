@@ -1,5 +1,5 @@
 -- Groups that are evicted one after another, from the back of the use list as it is then.
-use Rattle.std.proofs.Common.{◌≡◌, ◌⊎◌, inl, inr, ⊎_elim, ℕ, ◌+◌, Bool, true, false, ◌||◌, cond, List, [], ◌∷◌, ◌++◌, Some, None, Option, refl, sym, ap, subst, ◌∙◌, reverse, append-nil, append_assoc, map}
+use Rattle.std.proofs.Common.{◌≡◌, inl, inr, ℕ, ◌+◌, Bool, true, false, ◌||◌, cond, List, [], ◌∷◌, ◌++◌, Some, None, Option, refl, sym, ap, subst, ◌∙◌, reverse, append-nil, append_assoc, map}
 use mathlib.Core.List.{reverse-cons}
 use Rattle.std.specs.List.{AllByRecursion, cons_option}
 use Rattle.std.specs.Option.{option_and_then, option_map_or}
@@ -7,11 +7,11 @@ use Rattle.std.specs.Str.{bytes_eq}
 use Rattle.std.proofs.lemmas.List.{reverse-append}
 use Rattle.std.proofs.lemmas.List.Elements.{filter_map-append}
 use Rattle.blk_model.specs.Items.{Item, main, part, key_of}
-use Rattle.blk_model.specs.State.{Object, State, IsValidState, first_with, is_named, slot_has_item}
+use Rattle.blk_model.specs.State.{Object, State, first_with, is_named, slot_has_item}
 use Rattle.blk_model.specs.Room.{Group, whole, single, evicted_until, groups_from_back, is_out, is_pinned, left_of, part_number, parts_among, shortest, without}
 use Rattle.blk_model.proofs.Evicted.{IsLoose, left_slot_has, evicted_are_loose}
 use Rattle.blk_kept.proofs.RestRoom.{others-go}
-use Rattle.blk_cache.specs.RoomLaws.{AreAllPinned, IsLastUnpinned, ItemsThatStayArePinnedAsBefore, NothingMoreGoes, PartsAreInFront, TheLastUnpinnedGoesNext, TheOthersGoFromWhatIsLeft, group_for}
+use Rattle.blk_cache.specs.RoomLaws.{IsLastUnpinned, ItemsThatStayArePinnedAsBefore, NothingMoreGoes, PartsAreInFront, TheLastUnpinnedGoesNext, TheOthersGoFromWhatIsLeft, group_for}
 
 -- ---- from the back
 
@@ -105,7 +105,7 @@ nothing-more enough state covered (inl e) = none-shortest (λ groups. enough (wi
 nothing-more enough state covered (inr all) = ap (shortest (λ groups. enough (without groups state)) []) (none-back (is_pinned state covered) state.uses all)
 
 -- a group goes for an item that isn't pinned
-loose-for : (stays : Item → Bool) (item : Item) (front : List Item) → stays item ≡ false → IsLoose stays (group_for item front)
+pub loose-for : (stays : Item → Bool) (item : Item) (front : List Item) → stays item ≡ false → IsLoose stays (group_for item front)
 loose-for stays (main key) front e = e
 loose-for stays (part key n) front e = e
 
@@ -131,7 +131,7 @@ others-next enough state covered (group ∷ first) others valid are =
 -- ---- pins
 
 -- an item that isn't out has the same first owner
-first-same : (groups : List Group) (item : Item) (start : ℕ) (slots : List (Option Object)) → is_out groups item ≡ false → first_with item start (map (option_and_then (left_of groups)) slots) ≡ first_with item start slots
+pub first-same : (groups : List Group) (item : Item) (start : ℕ) (slots : List (Option Object)) → is_out groups item ≡ false → first_with item start (map (option_and_then (left_of groups)) slots) ≡ first_with item start slots
 first-same groups item start [] stays = refl
 first-same groups item start (slot ∷ slots) stays =
     let here : slot_has_item item (option_and_then (left_of groups) slot) ≡ slot_has_item item slot = left_slot_has groups item slot ∙ ap (λ b. cond b false (slot_has_item item slot)) stays in

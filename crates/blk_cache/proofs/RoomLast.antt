@@ -1,35 +1,32 @@
 -- The items from the back of the use list, as their nodes are met.
-use Rattle.std.proofs.Common.{◌≡◌, ℕ, suc, ◌+◌, ◌≤◌, List, [], ◌∷◌, ◌++◌, length, map, Option, Some, None, Bool, true, false, refl, sym, ap, subst, ◌∙◌, arith, append_assoc}
-use Rattle.std.specs.Prelude.{◌==◌}
+use Rattle.std.proofs.Common.{◌≡◌, ℕ, suc, ◌+◌, ◌≤◌, List, [], ◌∷◌, ◌++◌, length, Option, Some, None, true, false, refl, sym, ap, subst, ◌∙◌, arith, append_assoc}
 use Rattle.std.specs.List.{AllByRecursion}
 use Rattle.std.proofs.lemmas.List.{map-append}
 use Rattle.std.proofs.lemmas.Bool.{or_left, or_right}
 use Rattle.blk_image.specs.Image.{Image}
 use Rattle.blk_image.proofs.Runs.{some_inj}
 use Rattle.blk_model.specs.Items.{Item, same_item}
-use Rattle.blk_model.specs.Room.{is_pinned, items}
+use Rattle.blk_model.specs.Room.{is_pinned}
 use Rattle.blk_model.specs.State.{State}
 use Rattle.blk_model.proofs.Same.{same_item_self}
 use Rattle.blk_format.specs.Address.{blocks_256, rankings}
 use Rattle.blk_volume.specs.Layout.{Layout, is_in, is_listed, nodes_of, order, rule_of}
 use Rattle.blk_volume.specs.ListImages.{HasListAtRest}
-use Rattle.blk_volume.specs.ListView.{IsList, last_or}
+use Rattle.blk_volume.specs.ListView.{last_or}
 use Rattle.blk_volume.specs.Loads.{Loaded}
-use Rattle.blk_volume.specs.View.{NodeFields, list_of, node_at, node_fields_at, stands_as, store_of}
+use Rattle.blk_volume.specs.View.{NodeFields, node_at, node_fields_at, stands_as, store_of}
 use Rattle.blk_laws.proofs.walks.Loads.{load-then}
 use Rattle.blk_handles.specs.Bindings.{is_open}
 use Rattle.blk_kept.proofs.Free.{standing-at}
 use Rattle.blk_audit.proofs.Shown.{names_stand}
-use Rattle.blk_disk.specs.Open.{IsOpen}
-use Rattle.blk_disk.specs.Tables.{Agrees, is_record_among}
-use Rattle.blk_lru.specs.Lists.{first_node_of, last_node_of}
+use Rattle.blk_disk.specs.Tables.{is_record_among}
+use Rattle.blk_lru.specs.Lists.{last_node_of}
 use Rattle.blk_object.proofs.MakingRoom.{uses-few}
 use Rattle.blk_cache.specs.declared.cache.Cache.{Cache}
 use Rattle.blk_cache.specs.declared.room_search.Unpinned.{Unpinned}
 use Rattle.blk_cache.specs.CacheKeeping.{KeepsState}
-use Rattle.blk_cache.specs.RoomLaws.{AreAllPinned, IsLastUnpinned}
-use Rattle.blk_cache.specs.RoomSearch.{AreInFront, IsLast, IsLastAt, IsPinnedFrom, IsPlaceInList, KeepsPinnedFrom}
-use Rattle.blk_cache.proofs.Ends.{kept-open}
+use Rattle.blk_cache.specs.RoomLaws.{AreAllPinned}
+use Rattle.blk_cache.specs.RoomSearch.{AreInFront, IsLastAt, IsPinnedFrom}
 use Rattle.blk_cache.proofs.RoomBound.{record-pinned}
 
 -- so many items at least are pinned from a node on

@@ -11,7 +11,7 @@ use Rattle.blk_format.specs.BlockFiles.{is_among}
 use Rattle.blk_volume.specs.ListImages.{HasListAtRest, walked}
 use Rattle.blk_volume.specs.View.{list_of, node_at}
 use Rattle.blk_laws.proofs.lists.Walks.{walk_list}
-use Rattle.blk_lru.specs.Lists.{IsListAtRest, IsListed, first_node_of, last_node_of}
+use Rattle.blk_lru.specs.Lists.{IsListAtRest, IsListed, first_node_of}
 use Rattle.blk_lru.specs.Nodes.{link_at}
 use Rattle.blk_lru.proofs.LinkReads.{read_link}
 use Rattle.blk_cache.specs.RoomSearch.{AreInFront, IsPlaceInList}

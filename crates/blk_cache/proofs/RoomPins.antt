@@ -1,19 +1,15 @@
 -- What is pinned where no part is covered, and where there is room.
-use Rattle.std.proofs.Common.{◌≡◌, ℕ, suc, ◌+◌, ◌-◌, ◌/◌, Bool, true, false, not, ◌&&◌, ◌||◌, cond, List, [], ◌∷◌, ◌++◌, length, Some, None, Option, IfSome, refl, sym, ap, subst, ◌∙◌, arith, get_or}
-use Rattle.std.specs.Bool.{◌==◌, nat_lt}
+use Rattle.std.proofs.Common.{◌≡◌, ℕ, suc, ◌+◌, Bool, true, false, not, ◌&&◌, ◌||◌, cond, List, [], ◌∷◌, length, Some, None, Option, IfSome, refl, sym, ap, subst, ◌∙◌, arith, get_or}
+use Rattle.std.specs.Bool.{◌==◌}
 use Rattle.std.specs.List.{filter, list_any, sum_by}
-use Rattle.std.specs.Option.{option_and_then}
 use Rattle.std.proofs.lemmas.List.Sums.{sum_by-cons}
-use Rattle.blk_image.specs.Image.{Image}
 use Rattle.blk_model.specs.Bounds.{bounds_of}
-use Rattle.blk_model.specs.Items.{Item, part, PartValue, same_item}
-use Rattle.blk_model.specs.State.{Bounds, Object, State, IsValidState, is_named, object_at}
+use Rattle.blk_model.specs.Items.{part, PartValue, same_item}
+use Rattle.blk_model.specs.State.{Bounds, Object, State, is_named, object_at}
 use Rattle.blk_model.specs.Refusals.{evicted_for, is_full}
 use Rattle.blk_model.specs.Room.{Group, Room, full, after, charge, count_of, evicted_until, fits, item_count, low, of_slot, own_charge, pinned, pinned_from, pinned_of, room, total_of}
-use Rattle.blk_handles.specs.Bindings.{open_count}
-use Rattle.blk_cache.specs.declared.cache.Cache.{Cache}
-use Rattle.blk_cache.specs.CacheKeeping.{KeepsState, named_from, named_objects}
-use Rattle.blk_cache.specs.RoomLaws.{ArePinned, NamedObjectsArePinned, RoomIsMade, RoomIsTold, is_over}
+use Rattle.blk_cache.specs.CacheKeeping.{named_from}
+use Rattle.blk_cache.specs.RoomLaws.{NamedObjectsArePinned, RoomIsMade, RoomIsTold, is_over}
 
 -- no part is covered
 none-covered : (key : List ℕ) (parts : List (ℕ × PartValue)) → filter (λ (p : ℕ × PartValue). list_any (same_item (part key p.0)) []) parts ≡ []

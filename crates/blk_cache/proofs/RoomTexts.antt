@@ -1,8 +1,8 @@
 -- Texts that are printed one after another, unless the sink failed.
-use Rattle.std.proofs.Common.{◌≡◌, ℕ, ◌+◌, ◌-◌, ◌^◌, ◌<◌, ◌≤◌, Bool, true, false, List, [], ◌∷◌, ◌++◌, Option, Some, None, refl, sym, ap, ◌∙◌, append_assoc, append-nil, arith}
+use Rattle.std.proofs.Common.{◌≡◌, ℕ, Bool, true, false, List, [], ◌++◌, Option, Some, None, refl, sym, ap, ◌∙◌, append_assoc, append-nil, arith}
 use Rattle.std.specs.Option.{option_map}
 use Rattle.blk_io.specs.Streams.{Appends}
-use Rattle.blk_cache.specs.RoomPrinting.{FailsWhereItRose, FaultsGoOn, NothingIsPrinted, Prints, PrintsGoOn}
+use Rattle.blk_cache.specs.RoomPrinting.{FaultsGoOn, NothingIsPrinted, Prints, PrintsGoOn}
 
 -- nothing is at the end
 none-behind : (old : Option (List ℕ)) → old ≡ option_map (λ (w : List ℕ). w ++ []) old

@@ -1,12 +1,15 @@
 -- How room is made, one group after another from the back of the use list, and where there is none.
 use Rattle.std.specs.Prelude.{◌≡◌, ◌⊎◌, ℕ, ◌+◌, Bool, true, false, not, ◌&&◌, ◌||◌, ◌==◌, nat_lt, List, [], ◌∷◌, ◌++◌, length, sum_by, if◌then◌else◌}
 use Rattle.std.specs.List.{AllByRecursion}
+use Rattle.std.specs.Option.{option_map_or}
 use Rattle.blk_image.specs.Image.{Image}
 use Rattle.blk_model.specs.Bounds.{bounds_of}
+use Rattle.blk_model.specs.Holding.{row_of}
 use Rattle.blk_model.specs.Items.{Item, main, part}
 use Rattle.blk_model.specs.Refusals.{evicted_for, is_full}
-use Rattle.blk_model.specs.Room.{Group, single, whole, count_of, evicted_until, fits, is_out, is_pinned, low, own_charge, parts_among, pinned, room, total_of, without}
+use Rattle.blk_model.specs.Room.{Group, single, whole, count_of, evicted_until, fits, is_out, is_pinned, items, items_of_group, low, own_charge, parts_among, pinned, room, total, total_of, without}
 use Rattle.blk_model.specs.State.{Bounds, IsValidState, State}
+use Rattle.blk_model.specs.Totals.{row_charge}
 use Rattle.blk_handles.specs.Bindings.{open_count}
 use Rattle.blk_cache.specs.declared.cache.Cache.{Cache}
 use Rattle.blk_cache.specs.CacheKeeping.{KeepsState, named_objects}
@@ -73,3 +76,18 @@ RoomIsTold = (cache : Cache) (state : State) (image : Image) (bytes more : ℕ) 
 abbrev pub RoomIsMade : Type 0
 RoomIsMade = (state : State) (bytes more : ℕ) → is_full (room state [] bytes more) ≡ false
     → evicted_for (room state [] bytes more) ≡ (if (bytes == 0 && more == 0) || fits state.limits.max_bytes bytes more state then [] else evicted_until (fits (low state) bytes more) state [])
+
+-- What a group leaves.
+
+-- what an item of a state is charged
+abbrev pub item_charge : State → Item → ℕ
+item_charge state item = option_map_or (row_charge state) (row_of state item) 0
+
+-- without a group there are fewer items, by those of the group, and fewer bytes, by what these are charged
+pub record IsLessBy (state : State) (group : Group) : Type 0 where
+  pub items_left : items state ≡ items (without (group ∷ []) state) + length (items_of_group group)
+  pub bytes_left : total state ≡ total (without (group ∷ []) state) + sum_by (item_charge state) (items_of_group group)
+
+-- so it is of the group of the last item that isn't pinned
+abbrev pub GroupsAreCountedLess : Type 0
+GroupsAreCountedLess = (state : State) (front : List Item) (item : Item) (behind : List Item) → IsValidState state → IsLastUnpinned state [] front item behind → IsLessBy state (group_for item front)

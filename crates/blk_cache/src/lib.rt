@@ -15,4 +15,6 @@ mod starting;
 pub use cache::Cache;
 pub use fault::OpenFault;
 pub use laws::{kept_folders_end_sound, repaired_folders_keep_their_state};
-pub use room_laws::{groups_go_one_after_another, named_objects_are_pinned, prints_go_on};
+pub use room_laws::{
+    groups_are_counted_less, groups_go_one_after_another, named_objects_are_pinned, prints_go_on,
+};

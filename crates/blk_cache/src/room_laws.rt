@@ -1,5 +1,5 @@
 //! The laws of room, each the contract of a function with an empty body.
-ghost use Rattle.blk_cache.specs.RoomLaws.{ItemsThatStayArePinnedAsBefore, NamedObjectsArePinned, NothingMoreGoes, PartsAreInFront, RoomIsMade, RoomIsTold, TheLastUnpinnedGoesNext, TheOthersGoFromWhatIsLeft};
+ghost use Rattle.blk_cache.specs.RoomLaws.{GroupsAreCountedLess, ItemsThatStayArePinnedAsBefore, NamedObjectsArePinned, NothingMoreGoes, PartsAreInFront, RoomIsMade, RoomIsTold, TheLastUnpinnedGoesNext, TheOthersGoFromWhatIsLeft};
 ghost use Rattle.blk_cache.specs.RoomPrinting.{FaultsGoOn, NothingIsPrinted, PrintsGoOn};
 
 /// Groups are evicted one after another: each is that of the last item that isn't pinned, in the use list as it is then,
@@ -24,4 +24,9 @@ pub fn prints_go_on()
     ensures nothing { NothingIsPrinted }
     ensures on { PrintsGoOn }
     ensures faults { FaultsGoOn }
+{}
+
+/// Without the group of the last item that isn't pinned there are fewer items, and fewer bytes by what these are charged.
+pub fn groups_are_counted_less()
+    ensures { GroupsAreCountedLess }
 {}

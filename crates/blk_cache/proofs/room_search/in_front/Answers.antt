@@ -1,4 +1,4 @@
-use Rattle.std.proofs.Common.{rules, ◌≡◌, ◌∙◌, sym, ap, ℕ, List, Option, Some, None}
+use Rattle.std.proofs.Common.{◌∙◌, ap}
 use Rattle.blk_lru.proofs.Results.{if_ok_weaker}
 use Rattle.blk_lru.specs.Lists.{last_node_of}
 use Rattle.blk_cache.proofs.RoomNodes.{at-end, place-listed, place-rests}

@@ -1,9 +1,7 @@
-use Rattle.std.proofs.Common.{rules, refl, ◌≡◌, ◌+◌, ◌≤◌, ◌∙◌, sym, ap, subst, arith, ℕ, List, Option, Some, None, true, false}
+use Rattle.std.proofs.Common.{rules, refl, ◌≡◌, ◌∙◌, sym, subst, arith, ℕ, Option, Some, None, true, false}
 use Rattle.std.specs.Prelude.{IfSome, IsTrue}
 use Rattle.std.specs.Option.{ForSome}
-use Rattle.blk_image.specs.Image.{Image}
 use Rattle.blk_image.specs.Told.{Told}
-use Rattle.blk_model.specs.State.{State}
 use Rattle.blk_volume.specs.Layout.{nodes_of}
 use Rattle.blk_volume.specs.View.{node_at}
 use Rattle.blk_io.proofs.Carried.{carried}
@@ -11,12 +9,10 @@ use Rattle.blk_io.specs.Faults.{IfDamaged}
 use Rattle.blk_disk.specs.Open.{IsOpen}
 use Rattle.blk_disk.specs.Tables.{Agrees, is_node_among, is_record_among}
 use Rattle.blk_handles.specs.Bindings.{is_open}
-use Rattle.blk_lru.specs.Lists.{last_node_of}
 use Rattle.blk_lru.proofs.Conditions.{told_now}
-use Rattle.blk_cache.specs.CacheKeeping.{KeepsState}
-use Rattle.blk_cache.specs.RoomSearch.{IsPinnedFrom, IsPlaceInList}
+use Rattle.blk_cache.specs.RoomSearch.{IsPlaceInList}
 use Rattle.blk_cache.proofs.Ends.{kept-open}
-use Rattle.blk_cache.proofs.RoomLast.{IsPinnedSoFar, all-met, front-is, last-found, more-so-far, none-left, record-names}
+use Rattle.blk_cache.proofs.RoomLast.{all-met, front-is, last-found, more-so-far, none-left, record-names}
 use Rattle.blk_cache.proofs.cache.Cache.last_unpinned.Goals as goal
 
 pub returns-in_err-node-clause-untold : goal.returns-in_err-node-clause-untold
