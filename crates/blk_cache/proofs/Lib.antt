@@ -13,3 +13,4 @@ pub mod RoomNodes
 pub mod RoomBound
 pub mod RoomLast
 pub mod RoomCounts
+pub mod RoomKept

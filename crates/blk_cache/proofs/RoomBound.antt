@@ -40,7 +40,7 @@ slot-with (Some other ∷ slots) number e = ⊎_elim
     (or_cases (number == other) (list_any (is_number number) slots) e)
 
 -- and a slot that has it
-has-slot : (slots : List (Option ℕ)) (name number : ℕ) → slice_index_or slots name None ≡ Some number → list_any (is_number number) slots ≡ true
+pub has-slot : (slots : List (Option ℕ)) (name number : ℕ) → slice_index_or slots name None ≡ Some number → list_any (is_number number) slots ≡ true
 has-slot [] name number e = absurd (let c : ◌≡◌ {A = Option ℕ} None (Some number) = e in cc)
 has-slot (x ∷ slots) zero number e = or_left (is_number number x) (list_any (is_number number) slots) (ap (is_number number) e ∙ same-number number)
 has-slot (x ∷ slots) (suc name) number e = or_right (is_number number x) (list_any (is_number number) slots) (has-slot slots name number e)

@@ -7,3 +7,4 @@ pub mod OpeningLaws
 pub mod RoomLaws
 pub mod RoomPrinting
 pub mod RoomSearch
+pub mod RoomKept

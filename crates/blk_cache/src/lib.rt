@@ -16,5 +16,6 @@ pub use cache::Cache;
 pub use fault::OpenFault;
 pub use laws::{kept_folders_end_sound, repaired_folders_keep_their_state};
 pub use room_laws::{
-    groups_are_counted_less, groups_go_one_after_another, named_objects_are_pinned, prints_go_on,
+    evicted_states_are_kept, groups_are_counted_less, groups_go_one_after_another,
+    named_objects_are_pinned, prints_go_on,
 };

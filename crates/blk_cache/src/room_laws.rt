@@ -1,4 +1,5 @@
 //! The laws of room, each the contract of a function with an empty body.
+ghost use Rattle.blk_cache.specs.RoomKept.{EvictedStatesAreKept};
 ghost use Rattle.blk_cache.specs.RoomLaws.{GroupsAreCountedLess, ItemsThatStayArePinnedAsBefore, NamedObjectsArePinned, NothingMoreGoes, PartsAreInFront, RoomIsMade, RoomIsTold, TheLastUnpinnedGoesNext, TheOthersGoFromWhatIsLeft};
 ghost use Rattle.blk_cache.specs.RoomPrinting.{FaultsGoOn, NothingIsPrinted, PrintsGoOn};
 
@@ -29,4 +30,9 @@ pub fn prints_go_on()
 /// Without the group of the last item that isn't pinned there are fewer items, and fewer bytes by what these are charged.
 pub fn groups_are_counted_less()
     ensures { GroupsAreCountedLess }
+{}
+
+/// Once the group of the last item that isn't pinned is out of the folder, the cache keeps the state without it.
+pub fn evicted_states_are_kept()
+    ensures { EvictedStatesAreKept }
 {}
