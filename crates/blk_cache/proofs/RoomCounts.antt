@@ -1,17 +1,15 @@
 -- Fewer items and fewer bytes without a group.
-use Rattle.std.proofs.Common.{◌≡◌, ◌⊎◌, inl, inr, ⊎_elim, ℕ, suc, ◌+◌, ◌≤◌, Bool, true, false, not, ◌&&◌, ◌||◌, cond, List, [], ◌∷◌, ◌++◌, length, map, Option, Some, None, is_some, refl, sym, ap, subst, ◌∙◌, arith, get_or}
-use Rattle.std.specs.List.{filter, filter_map, cons_option, count_by, sum_by, list_any}
+use Rattle.std.proofs.Common.{◌≡◌, ℕ, suc, ◌+◌, ◌≤◌, Bool, true, false, not, ◌&&◌, ◌||◌, cond, List, [], ◌∷◌, ◌++◌, length, map, Option, Some, None, is_some, refl, sym, ap, subst, ◌∙◌, arith}
+use Rattle.std.specs.List.{filter, filter_map, cons_option, count_by, sum_by}
 use Rattle.std.specs.Option.{option_and_then, option_map, option_map_or}
-use Rattle.std.specs.Ordering.{nat_cmp}
-use Rattle.std.specs.FinMap.{find}
 use Rattle.std.specs.Str.{bytes_eq}
-use Rattle.std.proofs.lemmas.Bool.{and_parts, cases_Bool}
+use Rattle.std.proofs.lemmas.Bool.{and_parts}
 use Rattle.std.proofs.lemmas.List.Sums.{sum_by-cons}
 use Rattle.blk_model.specs.Charge.{part_charge}
 use Rattle.blk_model.specs.Holding.{owner, owner_object, row_in, row_of, rows}
-use Rattle.blk_model.specs.Items.{Item, Row, main, main_row, part, part_row, PartValue, Shape, key_of, same_item, signature_of, times}
-use Rattle.blk_model.specs.Room.{Group, whole, single, is_out, is_pinned, items, items_of_group, left_of, not_out, own_charge, part_number, parts_among, takes, total, without}
-use Rattle.blk_model.specs.State.{Object, State, IsValidState, has_item, object_at, owners, part_at, slot_has_item, first_with}
+use Rattle.blk_model.specs.Items.{Item, Row, main, main_row, part, part_row, PartValue, key_of, same_item, signature_of, times}
+use Rattle.blk_model.specs.Room.{Group, single, is_out, is_pinned, items, items_of_group, left_of, not_out, own_charge, parts_among, total, without}
+use Rattle.blk_model.specs.State.{Object, State, IsValidState, has_item, object_at, part_at, slot_has_item}
 use Rattle.blk_model.specs.Totals.{doomed_charge, is_doomed_slot, row_charge, signature_for}
 use Rattle.blk_model.proofs.Evicted.{kept_part_at, kept_parts, left_slot_has, map_at, out_with_main, state_without}
 use Rattle.blk_model.proofs.Same.{one_item, same_bytes, same_item_self}
@@ -19,7 +17,7 @@ use Rattle.blk_model.proofs.Slots.{owners-first_none}
 use Rattle.blk_model.proofs.Sums.{totals_are_sums}
 use Rattle.blk_model.proofs.Times.{times-cons}
 use Rattle.blk_laws.proofs.claims.Owner.{IsOwned, its-key, owned}
-use Rattle.blk_cache.specs.RoomLaws.{GroupsAreCountedLess, IsLastUnpinned, IsLessBy, group_for, item_charge}
+use Rattle.blk_cache.specs.RoomLaws.{GroupsAreCountedLess, IsLastUnpinned, group_for, item_charge}
 use Rattle.blk_cache.proofs.RoomGroups.{first-same, loose-for, parts-front}
 
 -- ---- sums over lists
@@ -272,6 +270,7 @@ mapped-sum : (f : Option Object → ℕ) (change : Option Object → Option Obje
 mapped-sum f change [] same = refl
 mapped-sum f change (slot ∷ slots) same =
     let c = sum_by-cons f (change slot) (map change slots) in let d = sum_by-cons f slot slots in let s = same slot in let e = mapped-sum f change slots same in omega (arith, c, d, s, e)
+
 stands-middle : (front : List Item) (item : Item) (behind : List Item) → 1 ≤ times item (front ++ item ∷ behind)
 stands-middle [] item behind =
     let c = times-cons item item behind in let s : ◌≡◌ {A = ℕ} (cond (same_item item item) 1 0) 1 = ap (λ (b : Bool). cond {A = ℕ} b 1 0) (same_item_self item) in omega (arith, c, s)

@@ -1,21 +1,18 @@
 -- What a cache keeps once a group is evicted.
 use Rattle.std.proofs.Common.{◌≡◌, ℕ, suc, ◌+◌, Bool, true, false, cond, List, [], ◌∷◌, length, map, Option, Some, None, refl, sym, ap, subst, ◌∙◌, arith, get_or}
-use Rattle.std.specs.Prelude.{IfSome, if◌then◌else◌, slice_index_or}
-use Rattle.std.specs.List.{list_any, sum_by}
+use Rattle.std.specs.Prelude.{IfSome, if◌then◌else◌}
+use Rattle.std.specs.List.{sum_by}
 use Rattle.std.specs.Option.{option_and_then}
 use Rattle.std.proofs.lemmas.List.Sums.{sum_by-cons}
-use Rattle.blk_image.specs.Image.{Image}
-use Rattle.blk_model.specs.Items.{Item}
-use Rattle.blk_model.specs.Room.{Group, is_pinned, items_of_group, left_of, own_charge, without}
-use Rattle.blk_model.specs.State.{Object, State, IsValidState, is_named, is_number, named_by, object_at}
+use Rattle.blk_model.specs.Room.{Group, is_pinned, left_of, own_charge, without}
+use Rattle.blk_model.specs.State.{Object, State, IsValidState, is_named, named_by, object_at}
 use Rattle.blk_model.proofs.Evicted.{IsLoose, kept_parts, map_at, named_left}
 use Rattle.blk_volume.specs.Layout.{Layout}
 use Rattle.blk_model.specs.Bounds.{bounds_of}
 use Rattle.blk_handles.specs.Bindings.{Binding, Bindings, binding_of, open_count}
-use Rattle.blk_cache.specs.declared.cache.Cache.{Cache}
-use Rattle.blk_cache.specs.CacheKeeping.{IsBoundAs, IsBoundTo, KeepsState, named_from, named_objects, node_of_object}
-use Rattle.blk_cache.specs.RoomKept.{EvictedStatesAreKept, HasFewer, IsEvicted, NamedObjectsStay}
-use Rattle.blk_cache.specs.RoomLaws.{IsLastUnpinned, group_for}
+use Rattle.blk_cache.specs.CacheKeeping.{IsBoundAs, named_from, named_objects}
+use Rattle.blk_cache.specs.RoomKept.{EvictedStatesAreKept, NamedObjectsStay}
+use Rattle.blk_cache.specs.RoomLaws.{group_for}
 use Rattle.blk_cache.proofs.RoomBound.{has-slot}
 use Rattle.blk_cache.proofs.RoomCounts.{counted-less}
 use Rattle.blk_cache.proofs.RoomGroups.{loose-for}
@@ -66,9 +63,10 @@ module _ (state : State) (valid : IsValidState state) (group : Group) (loose : I
     go : (b : Bool) → is_named state number ≡ b → SameNamed (named_from left (number + 1) (others-of slots)) (named_from state (number + 1) slots) → SameNamed (named_from left number (left_of (group ∷ []) object ∷ others-of slots)) (named_from state number (Some object ∷ slots))
     go true named more =
         let now : named_from left number (left_of (group ∷ []) object ∷ others-of slots) ≡ shrunk object ∷ named_from left (number + 1) (others-of slots) = ap (λ (o : Option Object). named_from left number (o ∷ others-of slots)) (at-slot number object slots stay named) ∙ some-from left number (shrunk object) (others-of slots) true (named-same number ∙ named) in
-        let was : named_from state number (Some object ∷ slots) ≡ object ∷ named_from state (number + 1) slots = some-from state number object slots true named in
-        (ap (λ (os : List Object). length os) now ∙ ap suc more.0 ∙ sym (ap (λ (os : List Object). length os) was),
-         ap (sum_by own_charge) now ∙ sum_by-cons own_charge (shrunk object) (named_from left (number + 1) (others-of slots)) ∙ ap (λ (n : ℕ). own_charge object + n) more.1 ∙ sym (sum_by-cons own_charge object (named_from state (number + 1) slots)) ∙ sym (ap (sum_by own_charge) was))
+        let was : named_from state number (Some object ∷ slots) ≡ object ∷ named_from state (number + 1) slots = some-from state number object slots true named in (
+          ap (λ (os : List Object). length os) now ∙ ap suc more.0 ∙ sym (ap (λ (os : List Object). length os) was),
+          ap (sum_by own_charge) now ∙ sum_by-cons own_charge (shrunk object) (named_from left (number + 1) (others-of slots)) ∙ ap (λ (n : ℕ). own_charge object + n) more.1 ∙ sym (sum_by-cons own_charge object (named_from state (number + 1) slots)) ∙ sym (ap (sum_by own_charge) was),
+        )
     go false named more =
         let now = unnamed-from number (left_of (group ∷ []) object) (others-of slots) (named-same number ∙ named) in
         let was : named_from state number (Some object ∷ slots) ≡ named_from state (number + 1) slots = some-from state number object slots false named in

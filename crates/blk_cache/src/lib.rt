@@ -7,6 +7,7 @@ mod fault;
 mod laws;
 mod names;
 mod opening;
+mod room;
 mod room_laws;
 mod room_printing;
 mod room_search;
