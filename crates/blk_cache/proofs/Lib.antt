@@ -14,3 +14,4 @@ pub mod RoomBound
 pub mod RoomLast
 pub mod RoomCounts
 pub mod RoomKept
+pub mod RoomApart

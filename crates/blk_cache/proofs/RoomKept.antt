@@ -29,7 +29,7 @@ module _ (state : State) (valid : IsValidState state) (group : Group) (loose : I
   named-same number = refl
 
   -- a named object stays, but for parts of it
-  named-stays : (number : ℕ) (object : Object) → object_at state number ≡ Some object → is_named state number ≡ true → object_at left number ≡ Some (shrunk object)
+  pub named-stays : (number : ℕ) (object : Object) → object_at state number ≡ Some object → is_named state number ≡ true → object_at left number ≡ Some (shrunk object)
   unfolding without
   named-stays number object here named = map_at (left_of (group ∷ [])) state.objects number ∙ ap (option_and_then (left_of (group ∷ []))) here ∙ named_left state valid [] (group ∷ []) (loose, tt) number object here named
 

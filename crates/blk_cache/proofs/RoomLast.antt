@@ -59,7 +59,7 @@ ends-none layout (item ∷ all) e = absurd (no (last_or (layout.place item) (nod
   no : (w : ℕ) → ◌≡◌ {A = Option ℕ} None (Some w) → ⊥
   no w e = cc
 
-in-middle : (front : List Item) (item : Item) (rest : List Item) → is_in (front ++ item ∷ rest) item ≡ true
+pub in-middle : (front : List Item) (item : Item) (rest : List Item) → is_in (front ++ item ∷ rest) item ≡ true
 in-middle [] item rest = or_left (same_item item item) (is_in rest item) (same_item_self item)
 in-middle (i ∷ front) item rest = or_right (same_item item i) (is_in (front ++ item ∷ rest) item) (in-middle front item rest)
 

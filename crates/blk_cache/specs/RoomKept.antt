@@ -8,6 +8,7 @@ use Rattle.blk_model.specs.Room.{Group, items_of_group, without}
 use Rattle.blk_model.specs.State.{Object, State, is_named, object_at}
 use Rattle.blk_volume.specs.Layout.{Layout}
 use Rattle.blk_kept.specs.Keeping.{Keeps}
+use Rattle.blk_kept.specs.RemovalLaws.{layout_removed}
 use Rattle.blk_disk.specs.Tables.{Agrees}
 use Rattle.blk_cache.specs.declared.cache.Cache.{Cache}
 use Rattle.blk_cache.specs.CacheKeeping.{KeepsState, node_of_object}
@@ -42,3 +43,9 @@ EvictedStatesAreKept =
     (state : State) (front : List Item) (item : Item) (behind : List Item) (left : Layout) (old new : Cache) (from image : Image) (k : KeepsState old state from)
     → IsLastUnpinned state [] front item behind → IsEvicted state (group_for item front) k.layout left old new from image
     → KeepsState new (without (group_for item front ∷ []) state) image
+
+-- where an item goes alone that isn't pinned, each object that a handle names lies where it lay
+abbrev pub NamedObjectsLieApart : Type 0
+NamedObjectsLieApart =
+    (cache : Cache) (state : State) (image : Image) (front : List Item) (item : Item) (behind : List Item) (contents : ℕ) (k : KeepsState cache state image) → IsLastUnpinned state [] front item behind
+    → NamedObjectsStay (without (group_for item front ∷ []) state) k.layout (layout_removed k.layout (k.layout.place item) contents)

@@ -1,5 +1,5 @@
 //! The laws of room, each the contract of a function with an empty body.
-ghost use Rattle.blk_cache.specs.RoomKept.{EvictedStatesAreKept};
+ghost use Rattle.blk_cache.specs.RoomKept.{EvictedStatesAreKept, NamedObjectsLieApart};
 ghost use Rattle.blk_cache.specs.RoomLaws.{GroupsAreCountedLess, ItemsThatStayArePinnedAsBefore, NamedObjectsArePinned, NothingMoreGoes, PartsAreInFront, RoomIsMade, RoomIsTold, TheLastUnpinnedGoesNext, TheOthersGoFromWhatIsLeft};
 ghost use Rattle.blk_cache.specs.RoomPrinting.{FaultsGoOn, NothingIsPrinted, PrintsGoOn};
 
@@ -32,7 +32,9 @@ pub fn groups_are_counted_less()
     ensures { GroupsAreCountedLess }
 {}
 
-/// Once the group of the last item that isn't pinned is out of the folder, the cache keeps the state without it.
+/// Once the group of the last item that isn't pinned is out of the folder, the cache keeps the state without it; where
+/// the item goes alone, the objects that handles name lie where they lay.
 pub fn evicted_states_are_kept()
-    ensures { EvictedStatesAreKept }
+    ensures kept { EvictedStatesAreKept }
+    ensures apart { NamedObjectsLieApart }
 {}
