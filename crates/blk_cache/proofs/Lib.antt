@@ -21,3 +21,12 @@ pub mod CreateRoom
 pub mod CreateRefusing
 pub mod CreateEnds
 pub mod Notes
+pub mod RoomGroups
+pub mod RoomPins
+pub mod RoomTexts
+pub mod RoomNodes
+pub mod RoomBound
+pub mod RoomLast
+pub mod RoomCounts
+pub mod RoomKept
+pub mod RoomApart

@@ -8,3 +8,7 @@ pub mod Looking
 pub mod CommandClauses
 pub mod Creating
 pub mod CreatingLaws
+pub mod RoomLaws
+pub mod RoomPrinting
+pub mod RoomSearch
+pub mod RoomKept

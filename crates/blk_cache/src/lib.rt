@@ -12,6 +12,10 @@ mod looking;
 mod names;
 mod open;
 mod opening;
+mod room;
+mod room_laws;
+mod room_printing;
+mod room_search;
 mod starting;
 mod stepping;
 mod total;
@@ -20,3 +24,7 @@ pub use cache::Cache;
 pub use create_laws::creates_have_room;
 pub use fault::OpenFault;
 pub use laws::{kept_folders_end_sound, repaired_folders_keep_their_state};
+pub use room_laws::{
+    evicted_states_are_kept, groups_are_counted_less, groups_go_one_after_another,
+    named_objects_are_pinned, prints_go_on,
+};

@@ -1,0 +1,167 @@
+-- The items from the back of the use list, as their nodes are met.
+use Rattle.std.proofs.Common.{◌≡◌, ℕ, suc, ◌+◌, ◌≤◌, List, [], ◌∷◌, ◌++◌, length, Option, Some, None, true, false, refl, sym, ap, subst, ◌∙◌, arith, append_assoc}
+use Rattle.std.specs.List.{AllByRecursion}
+use Rattle.std.proofs.lemmas.List.{map-append}
+use Rattle.std.proofs.lemmas.Bool.{or_left, or_right}
+use Rattle.blk_image.specs.Image.{Image}
+use Rattle.blk_image.proofs.Runs.{some_inj}
+use Rattle.blk_model.specs.Items.{Item, same_item}
+use Rattle.blk_model.specs.Room.{is_pinned}
+use Rattle.blk_model.specs.State.{State}
+use Rattle.blk_model.proofs.Same.{same_item_self}
+use Rattle.blk_format.specs.Address.{blocks_256, rankings}
+use Rattle.blk_volume.specs.Layout.{Layout, is_in, is_listed, nodes_of, order, rule_of}
+use Rattle.blk_volume.specs.ListImages.{HasListAtRest}
+use Rattle.blk_volume.specs.ListView.{last_or}
+use Rattle.blk_volume.specs.Loads.{Loaded}
+use Rattle.blk_volume.specs.View.{NodeFields, node_at, node_fields_at, stands_as, store_of}
+use Rattle.blk_laws.proofs.walks.Loads.{load-then}
+use Rattle.blk_handles.specs.Bindings.{is_open}
+use Rattle.blk_kept.proofs.Free.{standing-at}
+use Rattle.blk_audit.proofs.Shown.{names_stand}
+use Rattle.blk_disk.specs.Tables.{is_record_among}
+use Rattle.blk_lru.specs.Lists.{last_node_of}
+use Rattle.blk_object.proofs.MakingRoom.{uses-few}
+use Rattle.blk_cache.specs.declared.cache.Cache.{Cache}
+use Rattle.blk_cache.specs.declared.room_search.Unpinned.{Unpinned}
+use Rattle.blk_cache.specs.CacheKeeping.{KeepsState}
+use Rattle.blk_cache.specs.RoomLaws.{AreAllPinned}
+use Rattle.blk_cache.specs.RoomSearch.{AreInFront, IsLastAt, IsPinnedFrom}
+use Rattle.blk_cache.proofs.RoomBound.{record-pinned}
+
+-- so many items at least are pinned from a node on
+pub record IsPinnedSoFar (state : State) (layout : Layout) (behind : Option ℕ) (count : ℕ) : Type 0 where
+  pub from : IsPinnedFrom state layout behind
+  pub many : count ≤ length from.rest
+
+pub none-so-far : (state : State) (layout : Layout) (behind : Option ℕ) → IsPinnedFrom state layout behind → IsPinnedSoFar state layout behind 0
+none-so-far state layout behind from = record { from = from; many = omega arith }
+
+-- items that end with a node
+pub record EndWith (layout : Layout) (all : List Item) (node : ℕ) : Type 0 where
+  pub front : List Item
+  pub item : Item
+  pub are : all ≡ front ++ item ∷ []
+  pub node_is : node ≡ layout.place item
+
+ends-with : (layout : Layout) (all : List Item) (node : ℕ) → ◌≡◌ {A = Option ℕ} (Some node) (last_node_of (nodes_of layout all)) → EndWith layout all node
+ends-with layout [] node e = absurd (no e) where
+  no : ◌≡◌ {A = Option ℕ} (Some node) None → ⊥
+  no e = cc
+ends-with layout (item ∷ []) node e = record { front = []; item = item; are = refl; node_is = some_inj e }
+ends-with layout (item ∷ other ∷ all) node e =
+    let r = ends-with layout (other ∷ all) node e in
+    record { front = item ∷ r.front; item = r.item; are = ap (λ (is : List Item). item ∷ is) r.are; node_is = r.node_is }
+
+ends-none : (layout : Layout) (all : List Item) → ◌≡◌ {A = Option ℕ} None (last_node_of (nodes_of layout all)) → all ≡ []
+ends-none layout [] e = refl
+ends-none layout (item ∷ all) e = absurd (no (last_or (layout.place item) (nodes_of layout all)) e) where
+  no : (w : ℕ) → ◌≡◌ {A = Option ℕ} None (Some w) → ⊥
+  no w e = cc
+
+pub in-middle : (front : List Item) (item : Item) (rest : List Item) → is_in (front ++ item ∷ rest) item ≡ true
+in-middle [] item rest = or_left (same_item item item) (is_in rest item) (same_item_self item)
+in-middle (i ∷ front) item rest = or_right (same_item item i) (is_in (front ++ item ∷ rest) item) (in-middle front item rest)
+
+length-both : (front rest : List Item) → length (front ++ rest) ≡ length front + length rest
+length-both [] rest = omega arith
+length-both (i ∷ front) rest = let e = length-both front rest in omega (arith, e)
+
+longer : (front rest : List Item) → suc (length (front ++ rest)) ≤ length rest → ⊥
+longer front rest few = let e = length-both front rest in omega (arith, e, few)
+
+no-front : (front rest : List Item) → length (front ++ rest) ≤ length rest → front ≡ []
+no-front [] rest few = refl
+no-front (i ∷ front) rest few = absurd (longer front rest few)
+
+-- the record that the node says
+said-contents : (image : Image) (w : ℕ) (n : NodeFields) → node_fields_at image w ≡ Some n → stands_as image rankings w ≡ true → (node_at image w).contents ≡ n.contents
+unfolding node_fields_at
+said-contents image w n e stands = ap (λ (f : NodeFields). f.contents) (some_inj (rw stands at e))
+
+module _ (cache : Cache) (state : State) (image : Image) (kept : KeepsState cache state image) where
+  contents-at : (node : ℕ) (loaded : Loaded) → kept.layout.at node ≡ Some loaded → (node_at image node).contents ≡ loaded.contents
+  unfolding store_of
+  contents-at node loaded here =
+      load-then {P = (node_at image node).contents ≡ loaded.contents} (store_of image) (rule_of kept.layout node) node loaded (kept.kept.entries.represents.holds.shows.each node loaded here)
+      (λ n e facts.
+      let st = standing-at image state kept.layout kept.kept.entries.represents node loaded here in
+      said-contents image node n facts.node (subst (λ (w : ℕ). stands_as image rankings w ≡ true) facts.facts.node_is st.node) ∙ sym facts.facts.contents_is)
+
+  -- these nodes are in front
+  pub front-is : (behind : Option ℕ) (p : IsPinnedFrom state kept.layout behind) → AreInFront (nodes_of kept.layout p.front) behind image
+  front-is behind p =
+      let nodes : order state kept.layout ≡ nodes_of kept.layout p.front ++ nodes_of kept.layout p.rest = ap (nodes_of kept.layout) p.listed ∙ map-append kept.layout.place p.front p.rest in
+      record {
+        rest = nodes_of kept.layout p.rest;
+        list = subst (λ (ws : List ℕ). HasListAtRest ws image) nodes (record { whole = kept.kept.entries.represents.list; idle = kept.kept.entries.represents.idle });
+        next = p.next;
+      }
+
+  -- nothing is in front
+  pub none-left : (behind : Option ℕ) (p : IsPinnedFrom state kept.layout behind) → ◌≡◌ {A = Option ℕ} None (last_node_of (nodes_of kept.layout p.front)) → AreAllPinned state []
+  none-left behind p e = subst (λ (is : List Item). AllByRecursion (λ item. is_pinned state [] item ≡ true) is) (sym (p.listed ∙ ap (λ (f : List Item). f ++ p.rest) (ends-none kept.layout p.front e))) p.pinned
+
+  pub all-met : (behind : Option ℕ) (count : ℕ) → cache.items ≤ count → (p : IsPinnedSoFar state kept.layout behind count) → AreAllPinned state []
+  all-met behind count enough p =
+      let few = uses-few state kept.layout [] image kept.kept.entries in
+      let many = p.many in
+      let are = kept.items_are in
+      let long : length state.uses ≡ length (p.from.front ++ p.from.rest) = ap (λ (is : List Item). length is) p.from.listed in
+      let none : p.from.front ≡ [] = no-front p.from.front p.from.rest (omega (arith, few, many, are, long, enough)) in
+      subst (λ (is : List Item). AllByRecursion (λ item. is_pinned state [] item ≡ true) is) (sym (p.from.listed ∙ ap (λ (f : List Item). f ++ p.from.rest) none)) p.from.pinned
+
+  -- a node is in front
+  module _ (behind : Option ℕ) (p : IsPinnedFrom state kept.layout behind) (node : ℕ) (e : ◌≡◌ {A = Option ℕ} (Some node) (last_node_of (nodes_of kept.layout p.front))) where
+    abbrev met : EndWith kept.layout p.front node
+    met = ends-with kept.layout p.front node e
+
+    uses-are : state.uses ≡ met.front ++ met.item ∷ p.rest
+    uses-are = p.listed ∙ ap (λ (f : List Item). f ++ p.rest) met.are ∙ append_assoc met.front (met.item ∷ []) p.rest
+
+    abbrev listed : is_listed state met.item ≡ true
+    listed = ap (λ (is : List Item). is_in is met.item) uses-are ∙ in-middle met.front met.item p.rest
+
+    abbrev loaded : Loaded
+    loaded = (kept.kept.entries.represents.holds.lies.laid met.item listed).loaded
+
+    here : kept.layout.at (kept.layout.place met.item) ≡ Some loaded
+    here = (kept.kept.entries.represents.holds.lies.laid met.item listed).here
+
+    contents : (node_at image node).contents ≡ loaded.contents
+    contents = contents-at node loaded (ap kept.layout.at met.node_is ∙ here)
+
+    pub record-names : is_record_among cache.files (node_at image node).contents ≡ true
+    record-names =
+        let st = standing-at image state kept.layout kept.kept.entries.represents (kept.layout.place met.item) loaded here in
+        names_stand cache.files image (node_at image node).contents kept.files ∙ subst (λ (w : ℕ). stands_as image blocks_256 w ≡ true) (sym contents) st.record_
+
+    pinned-is : (entry : ℕ) → entry ≡ (node_at image node).contents → is_open cache.handles entry ≡ is_pinned state [] met.item
+    pinned-is entry is = ap (is_open cache.handles) (is ∙ contents) ∙ record-pinned state kept.layout [] image kept.kept.entries cache.handles kept.names met.item loaded listed here
+
+    -- it isn't pinned
+    pub last-found : (found : Unpinned) → found.node ≡ node → found.entry ≡ (node_at image node).contents → found.behind ≡ behind → is_open cache.handles found.entry ≡ false → IsLastAt state kept.layout found
+    last-found found is entry next closed = record {
+      front = met.front;
+      item = met.item;
+      rest = p.rest;
+      last = record { listed = uses-are; unpinned = sym (pinned-is found.entry entry) ∙ closed; pinned_behind = p.pinned };
+      node = is ∙ met.node_is;
+      loaded = loaded;
+      here = here;
+      entry = entry ∙ contents;
+      next = next ∙ p.next;
+    }
+
+    -- it is
+    pub more-so-far : (count : ℕ) → count ≤ length p.rest → (entry : ℕ) → entry ≡ (node_at image node).contents → is_open cache.handles entry ≡ true → (next : Option ℕ) → next ≡ Some node → IsPinnedSoFar state kept.layout next (count + 1)
+    more-so-far count many entry is open_ next next-is = record {
+      from = record {
+        front = met.front;
+        rest = met.item ∷ p.rest;
+        listed = uses-are;
+        pinned = (sym (pinned-is entry is) ∙ open_, p.pinned);
+        next = next-is ∙ ap Some met.node_is;
+      };
+      many = omega (arith, many);
+    }

@@ -1,0 +1,74 @@
+use Rattle.std.proofs.Common.{rules, refl, ◌≡◌, ◌∙◌, sym, subst, arith, ℕ, Option, Some, None, true, false}
+use Rattle.std.specs.Prelude.{IfSome, IsTrue}
+use Rattle.std.specs.Option.{ForSome}
+use Rattle.blk_image.specs.Told.{Told}
+use Rattle.blk_volume.specs.Layout.{nodes_of}
+use Rattle.blk_volume.specs.View.{node_at}
+use Rattle.blk_io.proofs.Carried.{carried}
+use Rattle.blk_io.specs.Faults.{IfDamaged}
+use Rattle.blk_disk.specs.Open.{IsOpen}
+use Rattle.blk_disk.specs.Tables.{Agrees, is_node_among, is_record_among}
+use Rattle.blk_handles.specs.Bindings.{is_open}
+use Rattle.blk_lru.proofs.Conditions.{told_now}
+use Rattle.blk_cache.specs.RoomSearch.{IsPlaceInList}
+use Rattle.blk_cache.proofs.Ends.{kept-open}
+use Rattle.blk_cache.proofs.RoomLast.{all-met, front-is, last-found, more-so-far, none-left, record-names}
+use Rattle.blk_cache.proofs.cache.Cache.last_unpinned.Goals as goal
+
+pub returns-in_err-node-clause-untold : goal.returns-in_err-node-clause-untold
+returns-in_err-node-clause-untold g c holds =
+    carried c.in_front.result c.from_residual.result c.in_err-node.field-0.0 (λ _. (g.F.Folder.told c.args.f.now).files ≡ None) c.in_err-node.was c.from_residual.ensures.1
+    (subst (λ (t : Told). ForSome t.files (IsOpen c.args.self.now.files) → ForSome t.files (IsPlaceInList c.loop.behind) → IfDamaged c.in_front.result (λ _. t.files ≡ None)) c.loop.invariant.told c.in_front.ensures.untold
+    (λ image there. let h = holds image there in kept-open c.args.self.now h.state image h.kept)
+    (λ image there.
+    let h = holds image there in
+    let p = c.loop.invariant.pinned image there h.state h.kept h.pinned in
+    (nodes_of h.kept.layout p.from.front, front-is c.args.self.now h.state image h.kept c.loop.behind p.from)))
+
+pub returns-in_default-clause-last : goal.returns-in_default-clause-last
+returns-in_default-clause-last g c image there state kept pinned =
+    let p = c.loop.invariant.pinned image there state kept pinned in
+    let none : c.in_ok-node.field-0 ≡ None = search rules in
+    none-left c.args.self.now state image kept c.loop.behind p.from
+    (sym none ∙ c.in_ok-node.ensures.node image (told_now image c.loop.invariant.told there) kept.files (nodes_of kept.layout p.from.front) (front-is c.args.self.now state image kept c.loop.behind p.from))
+
+pub returns-in_err-entry-clause-untold : goal.returns-in_err-entry-clause-untold
+returns-in_err-entry-clause-untold g c holds =
+    let some : c.in_ok-node.field-0 ≡ Some c.in-Some.node = search rules in
+    carried c.record_of.result c.from_residual-in_err-entry.result c.in_err-entry.field-0.0 (λ _. (g.F.Folder.told c.args.f.now).files ≡ None) c.in_err-entry.was c.from_residual-in_err-entry.ensures.1
+    (subst (λ (t : Told). ForSome t.files (Agrees c.args.self.now.files) → ForSome t.files (λ image. is_record_among c.args.self.now.files (node_at image c.in-Some.node).contents ≡ true) → IfDamaged c.record_of.result (λ _. t.files ≡ None)) (c.in_ok-node.ensures.stays ∙ c.loop.invariant.told) c.record_of.ensures.untold
+    (λ image there. let h = holds image there in h.kept.files)
+    (λ image there.
+    let h = holds image there in
+    let p = c.loop.invariant.pinned image there h.state h.kept h.pinned in
+    record-names c.args.self.now h.state image h.kept c.loop.behind p.from c.in-Some.node
+    (sym some ∙ c.in_ok-node.ensures.node image (told_now image c.loop.invariant.told there) h.kept.files (nodes_of h.kept.layout p.from.front) (front-is c.args.self.now h.state image h.kept c.loop.behind p.from))))
+
+pub returns-then-not-is_pinned-clause-last : goal.returns-then-not-is_pinned-clause-last
+returns-then-not-is_pinned-clause-last g c image there state kept pinned =
+    let p = c.loop.invariant.pinned image there state kept pinned in
+    let some : c.in_ok-node.field-0 ≡ Some c.in-Some.node = search rules in
+    let closed : is_open c.args.self.now.handles c.in_ok-entry.entry ≡ false = search rules in
+    last-found c.args.self.now state image kept c.loop.behind p.from c.in-Some.node
+    (sym some ∙ c.in_ok-node.ensures.node image (told_now image c.loop.invariant.told there) kept.files (nodes_of kept.layout p.from.front) (front-is c.args.self.now state image kept c.loop.behind p.from))
+    (record { node = c.in-Some.node; entry = c.in_ok-entry.entry; behind = c.loop.behind }) refl
+    (c.in_ok-entry.ensures.record_is image (told_now image (c.in_ok-node.ensures.stays ∙ c.loop.invariant.told) there)) refl closed
+
+pub loop-preserved : goal.loop-preserved
+loop-preserved g c =
+    let some : c.in_ok-node.field-0 ≡ Some c.in-Some.node = search rules in
+    let open_ : is_open c.args.self.now.handles c.in_ok-entry.entry ≡ true = search rules in
+    record {
+      stands = subst (λ (o : Option ℕ). IfSome o (λ node. IsTrue (is_node_among c.args.self.now.files node))) some c.in_ok-node.ensures.stands;
+      told = c.in_ok-entry.ensures.stays ∙ (c.in_ok-node.ensures.stays ∙ c.loop.invariant.told);
+      later = omega (arith, c.loop.invariant.later, c.in_ok-node.ensures.later, c.in_ok-entry.ensures.later);
+      pinned = λ image there state kept pinned.
+          let p = c.loop.invariant.pinned image there state kept pinned in
+          more-so-far c.args.self.now state image kept c.loop.behind p.from c.in-Some.node
+          (sym some ∙ c.in_ok-node.ensures.node image (told_now image c.loop.invariant.told there) kept.files (nodes_of kept.layout p.from.front) (front-is c.args.self.now state image kept c.loop.behind p.from))
+          c.loop.counter p.many c.in_ok-entry.entry (c.in_ok-entry.ensures.record_is image (told_now image (c.in_ok-node.ensures.stays ∙ c.loop.invariant.told) there)) open_ (Some c.in-Some.node) refl;
+    }
+
+pub returns-clause-last : goal.returns-clause-last
+returns-clause-last g c image there state kept pinned =
+    all-met c.args.self.now state image kept c.loop.behind c.loop.counter (omega (arith, c.loop-test.false)) (c.loop.invariant.pinned image there state kept pinned)

@@ -1,0 +1,19 @@
+use Rattle.std.proofs.Common.{◌∙◌, ap}
+use Rattle.blk_lru.proofs.Results.{if_ok_weaker}
+use Rattle.blk_lru.specs.Lists.{last_node_of}
+use Rattle.blk_cache.proofs.RoomNodes.{at-end, place-listed, place-rests}
+use Rattle.blk_cache.proofs.room_search.in_front.Goals as goal
+
+pub returns-in-Some-clause-untold : goal.returns-in-Some-clause-untold
+returns-in-Some-clause-untold g c is_open place =
+    c.before-in-Some.ensures.untold (λ image there. (is_open image there).agrees) (λ image there. place-listed c.args.behind.now c.in-Some.node image c.in-Some.is (place image there))
+
+pub returns-in-None-clause-node : goal.returns-in-None-clause-node
+returns-in-None-clause-node g c =
+    if_ok_weaker c.last.result
+    (λ node last image there agrees front place. let e = at-end front c.args.behind.now image c.in-None.is place in last image there e.1 ∙ ap last_node_of e.0)
+    c.last.ensures.node
+
+pub returns-in-None-clause-untold : goal.returns-in-None-clause-untold
+returns-in-None-clause-untold g c is_open place =
+    c.last.ensures.untold (λ image there. (is_open image there).whole_index) (λ image there. (is_open image there).agrees) (λ image there. place-rests c.args.behind.now image (place image there))

@@ -1,0 +1,51 @@
+-- What a cache keeps once a group is evicted.
+use Rattle.std.specs.Prelude.{◌≡◌, ℕ, ◌+◌, List, [], ◌∷◌, length, sum_by, true}
+use Rattle.std.specs.declared.option.Option.TheVariants.{Some}
+use Rattle.blk_image.specs.Image.{Image, Index, byte}
+use Rattle.blk_format.specs.Headers.{this_id_of}
+use Rattle.blk_model.specs.Items.{Item}
+use Rattle.blk_model.specs.Room.{Group, items_of_group, without}
+use Rattle.blk_model.specs.State.{Object, State, is_named, object_at}
+use Rattle.blk_volume.specs.Layout.{Layout}
+use Rattle.blk_kept.specs.Keeping.{Keeps}
+use Rattle.blk_kept.specs.RemovalLaws.{layout_removed}
+use Rattle.blk_disk.specs.Tables.{Agrees}
+use Rattle.blk_cache.specs.declared.cache.Cache.{Cache}
+use Rattle.blk_cache.specs.CacheKeeping.{KeepsState, node_of_object}
+use Rattle.blk_cache.specs.RoomLaws.{IsLastUnpinned, group_for, item_charge}
+
+-- each object that a handle names lies where it lay
+abbrev pub NamedObjectsStay : State → (old new : Layout) → Type 0
+NamedObjectsStay state old new =
+    (number : ℕ) (object : Object) → object_at state number ≡ Some object → is_named state number ≡ true
+    → (node_of_object new number object ≡ node_of_object old number object) × (new.at (node_of_object old number object) ≡ old.at (node_of_object old number object))
+
+-- a cache has so many items and bytes less; its names, its limits and its mark are as before
+pub record HasFewer (old new : Cache) (item_count charged : ℕ) : Type 0 where
+  pub items_less : old.items ≡ new.items + item_count
+  pub bytes_less : old.bytes ≡ new.bytes + charged
+  pub limits : new.limits ≡ old.limits
+  pub open_bytes : new.open_bytes ≡ old.open_bytes
+  pub handles : new.handles ≡ old.handles
+  pub mark : new.mark ≡ old.mark
+
+-- the folder keeps a state without a group by a layout, in the same session, and the cache has as many items and bytes less as the group
+pub record IsEvicted (state : State) (group : Group) (layout left : Layout) (old new : Cache) (from image : Image) : Type 0 where
+  pub kept : Keeps (without (group ∷ []) state) left [] image
+  pub stay : NamedObjectsStay (without (group ∷ []) state) layout left
+  pub fewer : HasFewer old new (length (items_of_group group)) (sum_by (item_charge state) (items_of_group group))
+  pub files : Agrees new.files image
+  pub session : this_id_of (byte image Index) ≡ this_id_of (byte from Index)
+
+-- then the cache keeps the state without the group, where it is that of the last item that isn't pinned
+abbrev pub EvictedStatesAreKept : Type 0
+EvictedStatesAreKept =
+    (state : State) (front : List Item) (item : Item) (behind : List Item) (left : Layout) (old new : Cache) (from image : Image) (k : KeepsState old state from)
+    → IsLastUnpinned state [] front item behind → IsEvicted state (group_for item front) k.layout left old new from image
+    → KeepsState new (without (group_for item front ∷ []) state) image
+
+-- where an item goes alone that isn't pinned, each object that a handle names lies where it lay
+abbrev pub NamedObjectsLieApart : Type 0
+NamedObjectsLieApart =
+    (cache : Cache) (state : State) (image : Image) (front : List Item) (item : Item) (behind : List Item) (contents : ℕ) (k : KeepsState cache state image) → IsLastUnpinned state [] front item behind
+    → NamedObjectsStay (without (group_for item front ∷ []) state) k.layout (layout_removed k.layout (k.layout.place item) contents)

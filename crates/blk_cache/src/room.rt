@@ -1,0 +1,78 @@
+// Where there is room.
+ghost use Rattle.std.specs.Prelude.{◌≡◌, ◌&&◌, ◌+◌, ◌<◌, ◌==◌, ◌^◌, [], nat_le, nat_lt, not};
+ghost use Rattle.blk_image.specs.Image.{Image};
+ghost use Rattle.blk_model.specs.Refusals.{is_full};
+ghost use Rattle.blk_model.specs.Room.{fits, low, room};
+ghost use Rattle.blk_model.specs.State.{State};
+ghost use Rattle.blk_model.specs.Bounds.{bounds_of};
+ghost use Rattle.blk_handles.specs.Bindings.{open_count};
+ghost use Rattle.blk_cache.specs.CacheKeeping.{KeepsState};
+ghost use Rattle.blk_cache.specs.RoomLaws.{is_over};
+
+use crate::cache::Cache;
+
+// A cache goes down to its limit less so much of it, once items are evicted.
+const FREE_SHARE: u64 = 16;
+
+impl Cache {
+    /// Whether there is no room for so many more bytes and items: the open objects and what is added exceed a limit. No
+    /// part is covered.
+    pub(crate) fn is_full(&self, bytes: u64, items: u64) -> bool
+        ensures full { (state : State) (image : Image) → KeepsState self.now state image → result ≡ is_full (room state [] bytes items) }
+    {
+        self.asks_too_much(bytes, items)
+    }
+
+    // Whether something is asked for, and the open objects and what is added exceed a limit.
+    fn asks_too_much(&self, bytes: u64, items: u64) -> bool
+        ensures { result ≡ (not (bytes == 0 && items == 0) && is_over (bounds_of self.now.limits) self.now.open_bytes (open_count self.now.handles) bytes items) }
+    {
+        if bytes == 0 && items == 0 {
+            return false;
+        }
+        let open = self.handles.open_objects() as u64;
+        let most_items = u64::from(self.limits.max_items);
+        exceeds(self.open_bytes, bytes, self.limits.max_bytes) || exceeds(open, items, most_items)
+    }
+
+    /// Whether so many more bytes and items fit.
+    pub(crate) fn fits(&self, bytes: u64, items: u64) -> bool
+        ensures fits { (state : State) (image : Image) → KeepsState self.now state image → result ≡ fits state.limits.max_bytes bytes items state }
+    {
+        let most = self.limits.max_bytes;
+        self.fits_below(most, bytes, items)
+    }
+
+    /// Whether enough items are evicted for so many more bytes and items: they fit below the low-water mark.
+    pub(crate) fn is_enough(&self, bytes: u64, items: u64) -> bool
+        ensures enough { (state : State) (image : Image) → KeepsState self.now state image → result ≡ fits (low state) bytes items state }
+    {
+        let most = self.limits.max_bytes;
+        self.fits_below(most - most / FREE_SHARE, bytes, items)
+    }
+
+    // Whether there are no more bytes than these then, and no more items than the limit.
+    fn fits_below(&self, most: u64, bytes: u64, items: u64) -> bool
+        requires small { most < 2 ^ 63 }
+        ensures { (state : State) (image : Image) → KeepsState self.now state image → result ≡ fits most bytes items state }
+    {
+        let most_items = u64::from(self.limits.max_items);
+        is_within(self.bytes, bytes, most) && is_within(self.items, items, most_items)
+    }
+}
+
+// Whether a number and one more exceed a limit.
+fn exceeds(number: u64, more: u64, most: u64) -> bool
+    requires small { most < 2 ^ 63 }
+    ensures { result ≡ nat_lt most (number + more) }
+{
+    number.saturating_add(more) > most
+}
+
+// Whether a number and one more are within a limit.
+fn is_within(number: u64, more: u64, most: u64) -> bool
+    requires small { most < 2 ^ 63 }
+    ensures { result ≡ nat_le (number + more) most }
+{
+    number.saturating_add(more) <= most
+}
