@@ -127,7 +127,7 @@ part-is-named key name streams role is = go (length (stream 0 streams) == 0) (na
   go false c h = absurd (none-some h)
 
 -- the role of a record that isn't flagged as a part's
-other-role : (key : List ℕ) (e : RecordFields) (name : List ℕ) (streams : List (List ℕ)) (role : Role) → role_of e name streams ≡ Some role → (e.flags == child) ≡ false → part_number key role ≡ None
+pub other-role : (key : List ℕ) (e : RecordFields) (name : List ℕ) (streams : List (List ℕ)) (role : Role) → role_of e name streams ≡ Some role → (e.flags == child) ≡ false → part_number key role ≡ None
 unfolding role_of
 other-role key e name streams role is other = go (e.flags == parent) (e.flags == child) other is where
   go : (b c : Bool) → c ≡ false → (if b then parent_role e streams else if c then part_role name streams else Some IsPlain) ≡ Some role → part_number key role ≡ None
@@ -136,7 +136,7 @@ other-role key e name streams role is other = go (e.flags == parent) (e.flags ==
   go false true f h = absurd (let z : true ≡ false = f in cc)
 
 -- and of one that is
-its-role : (key : List ℕ) (e : RecordFields) (name : List ℕ) (streams : List (List ℕ)) (role : Role) → role_of e name streams ≡ Some role → (e.flags == child) ≡ true → part_number key role ≡ number_said key (read_name name)
+pub its-role : (key : List ℕ) (e : RecordFields) (name : List ℕ) (streams : List (List ℕ)) (role : Role) → role_of e name streams ≡ Some role → (e.flags == child) ≡ true → part_number key role ≡ number_said key (read_name name)
 unfolding role_of
 its-role key e name streams role is its = go (e.flags == parent) (e.flags == child) (ap (λ (w : ℕ). w == parent) (eqb-true e.flags child its)) its is where
   go : (b c : Bool) → b ≡ false → c ≡ true → (if b then parent_role e streams else if c then part_role name streams else Some IsPlain) ≡ Some role → part_number key role ≡ number_said key (read_name name)

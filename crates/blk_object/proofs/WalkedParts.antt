@@ -10,7 +10,7 @@ use Rattle.blk_image.specs.Image.{Image}
 use Rattle.blk_image.proofs.Runs.{some_inj}
 use Rattle.blk_model.specs.Items.{Item, item_of, main, part, same_item}
 use Rattle.blk_model.specs.State.{State}
-use Rattle.blk_model.proofs.Same.{same_bytes, same_item_self}
+use Rattle.blk_model.proofs.Same.{bytes_eq_self, same_bytes, same_item_self}
 use Rattle.blk_format.specs.BlockFiles.{is_among}
 use Rattle.blk_volume.specs.Entries.{IsParent, IsPart, IsPlain, Role}
 use Rattle.blk_volume.specs.Found.{row_with}
@@ -128,11 +128,15 @@ next-item layout [] node is = absurd (none-some (sym is))
 next-item layout (item ∷ behind) node is = record { item = item; behind = behind; left_is = refl; place = sym (some_inj is) }
 
 -- the number of the part of a key that an item is
-item_number : List ℕ → Item → Option ℕ
+pub item_number : List ℕ → Item → Option ℕ
 item_number key (main other) = None
 item_number key (part other n) = if bytes_eq other key then Some n else None
 
-role-number : (key stored : List ℕ) (streams : List (List ℕ)) (role : Role) (item : Item) → item_of (row_with stored role streams) ≡ item → part_number key role ≡ item_number key item
+pub own-number : (key : List ℕ) (n : ℕ) → item_number key (part key n) ≡ Some n
+unfolding item_number
+own-number key n = rw (bytes_eq_self key) refl
+
+pub role-number : (key stored : List ℕ) (streams : List (List ℕ)) (role : Role) (item : Item) → item_of (row_with stored role streams) ≡ item → part_number key role ≡ item_number key item
 unfolding item_number
 role-number key stored streams IsPlain item is = subst (λ (i : Item). None ≡ item_number key i) is refl
 role-number key stored streams (IsParent index) item is = subst (λ (i : Item). None ≡ item_number key i) is refl
@@ -146,7 +150,7 @@ not-a-part key (part other n) is = go (bytes_eq other key) is where
   go true h = absurd (none-some (sym h))
   go false h = refl
 
-its-part : (key : List ℕ) (item : Item) (number : ℕ) → item_number key item ≡ Some number → item ≡ part key number
+pub its-part : (key : List ℕ) (item : Item) (number : ℕ) → item_number key item ≡ Some number → item ≡ part key number
 unfolding item_number
 its-part key (main other) number is = absurd (none-some is)
 its-part key (part other n) number is = go (bytes_eq other key) refl is where
