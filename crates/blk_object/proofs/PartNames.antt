@@ -1,6 +1,6 @@
 -- The part that is read at a node.
-use Rattle.std.proofs.Common.{◌≡◌, ◌≢◌, ℕ, ◌+◌, ◌-◌, ◌≤◌, List, [], ◌∷◌, ◌++◌, length, take, drop, length-take, length-drop, length-append, refl, ap, ap₂, sym, ◌∙◌, subst, arith, Bool, true, false, Option, None, Some}
-use Rattle.std.specs.Prelude.{◌==◌, ◌&&◌, min, nat_le, nat_lt, not, if◌then◌else◌}
+use Rattle.std.proofs.Common.{◌≡◌, ◌≢◌, ℕ, ◌-◌, ◌≤◌, List, ◌∷◌, ◌++◌, length, take, drop, length-take, length-drop, length-append, refl, ap, sym, ◌∙◌, subst, arith, Bool, true, false, Option, None, Some}
+use Rattle.std.specs.Prelude.{◌==◌, ◌&&◌, nat_le, nat_lt, not, if◌then◌else◌}
 use Rattle.std.specs.Int.{cast_unsigned, w64}
 use Rattle.std.specs.Option.{option_and_then, option_map}
 use Rattle.std.proofs.lemmas.Bool.{and_from, and_parts, eqb-true}
@@ -16,7 +16,7 @@ use Rattle.blk_format.specs.Standing.{stands}
 use Rattle.blk_format.specs.SparseIndex.{ParentIndex, PartIndex, read_parent_index, read_part_index}
 use Rattle.blk_volume.specs.Entries.{IsParent, IsPart, IsPlain, Role, is_covered, is_key_length, longest_key_with, parent_role, part_role, role_of, stored_key, stream}
 use Rattle.blk_volume.specs.Loads.{Loaded}
-use Rattle.blk_volume.specs.View.{NodeFields, RecordFields, entry_at, fields_of, node_at, node_fields_at, stands_as, store_of}
+use Rattle.blk_volume.specs.View.{NodeFields, RecordFields, node_at, node_fields_at, stands_as, store_of}
 use Rattle.blk_laws.proofs.chains.ChainWords.{shown-fields}
 use Rattle.blk_laws.proofs.updates.StillShown.{core-standing}
 use Rattle.blk_laws.proofs.walks.Loads.{load-then}
@@ -29,7 +29,6 @@ use Rattle.blk_lru.specs.Nodes.{link_at}
 use Rattle.blk_ranges.specs.ChildNames.{name_within}
 use Rattle.blk_ranges.specs.declared.names.ChildName.{ChildName}
 use Rattle.blk_ranges.proofs.Spelling.{joined}
-use Rattle.blk_object.specs.declared.listed_parts.ListedPart.{ListedPart}
 use Rattle.blk_object.specs.ListedParts.{LoadsAt, number_said, part_loaded, part_number}
 use Rattle.blk_object.specs.Owning.{LoadsWith}
 use Rattle.blk_object.proofs.OwnedCharges.{key-length}

@@ -1,20 +1,25 @@
 -- The record that a search by the name of a part finds is the part's.
-use Rattle.std.proofs.Common.{◌≡◌, ℕ, ◌<◌, List, refl, ap, sym, ◌∙◌, subst, lit<, Bool, true, false, Option, None, Some, ⊎_elim}
-use Rattle.std.specs.Prelude.{◌==◌}
-use Rattle.std.proofs.lemmas.Bool.{cases_Bool, eq-eqb}
+use Rattle.std.proofs.Common.{◌≡◌, ℕ, ◌<◌, List, ap, sym, ◌∙◌, subst, lit<, Bool, true, false, Option, None, Some, Ok, ⊎_elim}
+use Rattle.std.specs.Prelude.{◌==◌, ◌&&◌}
+use Rattle.std.proofs.lemmas.Bool.{and_parts, cases_Bool, eq-eqb, eqb-true}
 use Rattle.std.proofs.lemmas.Nat.{mod_below}
 use Rattle.blk_image.specs.Image.{Image}
 use Rattle.blk_image.proofs.Runs.{some_inj}
-use Rattle.blk_model.specs.Items.{Item, part}
+use Rattle.blk_model.specs.Items.{Item, item_of, part}
 use Rattle.blk_model.specs.State.{State}
 use Rattle.blk_format.specs.BlockFiles.{is_among}
 use Rattle.blk_format.specs.Hash.{hash}
-use Rattle.blk_format.specs.Names.{read_name}
+use Rattle.blk_format.specs.Names.{Name, child_name, read_name}
+use Rattle.blk_format.specs.SparseIndex.{PartIndex}
+use Rattle.blk_format.proofs.NameLemmas.{reads_names}
+use Rattle.std.specs.Str.{bytes_eq}
+use Rattle.blk_volume.specs.Audit.{is_parent_role}
+use Rattle.blk_laws.proofs.walks.Shown.{role-name}
 use Rattle.blk_format.specs.Records.{child}
 use Rattle.blk_volume.specs.Chains.{Chain}
-use Rattle.blk_volume.specs.Entries.{stored_key}
+use Rattle.blk_volume.specs.Entries.{IsParent, IsPart, Role, role_of, stored_key}
 use Rattle.blk_volume.specs.Found.{row_with}
-use Rattle.blk_volume.specs.Layout.{IsListedRecord, IsPlacedAt, Layout, is_listed, rule_of}
+use Rattle.blk_volume.specs.Layout.{IsListedRecord, IsPartAt, IsPlacedAt, Layout, is_listed, rule_of}
 use Rattle.blk_volume.specs.Loads.{Loaded, load}
 use Rattle.blk_volume.specs.Searches.{bucket_of_key, chained_for}
 use Rattle.blk_volume.specs.View.{RecordFields, store_of}
@@ -25,7 +30,7 @@ use Rattle.blk_chain.specs.Finding.{IsFound}
 use Rattle.blk_kept.specs.GroupLaws.{gone_nodes}
 use Rattle.blk_kept.specs.PartlyOut.{KeepsPartlyOut}
 use Rattle.blk_kept.proofs.Groups as groups
-use Rattle.blk_object.specs.ListedParts.{FoundNamesAreTheParts, number_said, part_number}
+use Rattle.blk_object.specs.ListedParts.{FoundNamesAreTheParts, PartsHaveTheirNames, number_said, part_number}
 use Rattle.blk_object.proofs.FoundEntries.{standing-among}
 use Rattle.blk_object.proofs.PartNames.{its-role, other-role}
 use Rattle.blk_object.proofs.WalkedParts.{item_number, its-part, own-number, role-number}
@@ -99,3 +104,37 @@ module _ (state : State) (layout : Layout) (keep : Item → Bool) (chains : ℕ 
 
 pub names-find-parts : FoundNamesAreTheParts
 names-find-parts state layout keep chains unlinked key n was entry before image k listed stays here f = found-its-own state layout keep chains unlinked key n was entry before image k listed stays here f
+
+-- ---- the name of a part
+
+number-named : (key stored : List ℕ) (streams : List (List ℕ)) (name : Name) (index : PartIndex) (n : ℕ) → item_of (row_with stored (IsPart name index) streams) ≡ part key n → name.part ≡ n
+number-named key stored streams name index n is = let same : part name.key name.part ≡ part key n = is in cc
+
+pub names-are-theirs : PartsHaveTheirNames
+names-are-theirs state layout keep chains unlinked key n was main_was index image k listed stays here main_here role =
+    subst (λ (l : Loaded). l.key ≡ child_name key index.signature n) same
+    (load-then (store_of image) (rule_of layout (layout.place (part key n))) (layout.place (part key n)) placed.loaded loads (λ nf e g.
+    let is_named : role_of e placed.loaded.key placed.loaded.streams ≡ Some (IsPart p.name p.index) = g.facts.role ∙ ap Some p.role in
+    let read : read_name placed.loaded.key ≡ Some p.name = role-name e placed.loaded.key placed.loaded.streams p.name p.index is_named in
+    ((reads_names placed.loaded.key p.name).0 read).printed ∙ ap (λ (x : List ℕ). child_name x p.name.signature p.name.part) p.of_key ∙ ap (λ (x : ℕ). child_name key x p.name.part) signature ∙ ap (child_name key index.signature) number))
+  where
+    placed : IsPlacedAt state layout (part key n)
+    placed = k.lies.laid (part key n) listed
+
+    same : placed.loaded ≡ was
+    same = some_inj (sym placed.here ∙ here)
+
+    loads : load (store_of image) (rule_of layout (layout.place (part key n))) (layout.place (part key n)) ≡ Ok placed.loaded
+    loads = k.holds.each (layout.place (part key n)) placed.loaded placed.here (groups.stay-apart state layout keep k.numbers k.lies k.owners (layout.place (part key n)) (groups.stays-in state layout keep k.numbers k.lies k.owners (part key n) listed stays))
+
+    p : IsPartAt state layout key placed.loaded
+    p = placed.parent
+
+    signature : p.name.signature ≡ index.signature
+    signature =
+        let parent_same : p.parent ≡ main_was = some_inj (sym p.at_parent ∙ main_here) in
+        let is : is_parent_role p.name p.parent.key (IsParent index) ≡ true = ap (is_parent_role p.name p.parent.key) (sym (ap (λ (l : Loaded). l.role) parent_same ∙ role)) ∙ p.of in
+        sym (eqb-true index.signature p.name.signature (and_parts (bytes_eq p.parent.key p.name.key) (index.signature == p.name.signature) (and_parts (bytes_eq p.parent.key p.name.key && (index.signature == p.name.signature)) (index.has_part p.name.part) is).0).1)
+
+    number : p.name.part ≡ n
+    number = number-named key placed.loaded.key placed.loaded.streams p.name p.index n (ap (λ (r : Role). item_of (row_with placed.loaded.key r placed.loaded.streams)) (sym p.role) ∙ item-row state (part key n) (row_with placed.loaded.key placed.loaded.role placed.loaded.streams) placed.row)

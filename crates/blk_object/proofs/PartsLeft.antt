@@ -1,6 +1,6 @@
 -- What a part that is found, and none, are to the state.
-use Rattle.std.proofs.Common.{◌≡◌, ℕ, ◌%◌, ◌<◌, lit<, List, [], ◌∷◌, ◌++◌, length, append_assoc, refl, ap, sym, ◌∙◌, subst, Bool, true, false, Option, None, Some, ⊎_elim}
-use Rattle.std.specs.Prelude.{◌&&◌, ◌||◌, ◌^◌, filter, not}
+use Rattle.std.proofs.Common.{◌≡◌, ℕ, ◌%◌, ◌<◌, lit<, List, [], ◌∷◌, ◌++◌, length, refl, ap, sym, ◌∙◌, subst, Bool, true, false, Option, None, Some, ⊎_elim}
+use Rattle.std.specs.Prelude.{◌||◌, ◌^◌, filter, not}
 use Rattle.std.specs.Str.{bytes_eq}
 use Rattle.std.proofs.lemmas.Bool.{and_from, and_parts, cases_Bool}
 use Rattle.blk_model.specs.Items.{Item, key_of, main, part, same_item}
@@ -22,7 +22,6 @@ use Rattle.blk_kept.specs.PartlyOutStops.{LeavesOtherKeys}
 use Rattle.blk_kept.proofs.PartlyOut.{only-listed}
 use Rattle.blk_kept.proofs.Removals.{filter-alike}
 use Rattle.blk_object.specs.ListedParts.{AreSearched, FirstPartsLieNext, FoundPartsLieNext, HaveNoPart, NoPartsLeftAreAllOut, is_part_of}
-use Rattle.blk_object.specs.RemovingNext.{CountsLeft}
 
 -- ---- none is left
 
@@ -60,13 +59,14 @@ module _ (state : State) (key : List ℕ) (keep : Item → Bool) (leaves : Leave
 
 pub none-left : NoPartsLeftAreAllOut
 none-left state layout keep chains unlinked key image k c leaves none =
-    let same = same-left state key keep leaves none in
-    (only-listed state layout keep (is_of_another key) chains unlinked image k (keeps-others state key keep leaves none),
-    record {
-      sizes = c.sizes ∙ ap (λ (items : List Item). length items) same;
-      num_entries = c.num_entries ∙ ap (λ (items : List Item). length items) same;
-      num_bytes = c.num_bytes ∙ ap (λ (items : List Item). charges_at layout (nodes_of layout items) % 2 ^ 32) same;
-    })
+    let same = same-left state key keep leaves none in (
+      only-listed state layout keep (is_of_another key) chains unlinked image k (keeps-others state key keep leaves none),
+      record {
+        sizes = c.sizes ∙ ap (λ (items : List Item). length items) same;
+        num_entries = c.num_entries ∙ ap (λ (items : List Item). length items) same;
+        num_bytes = c.num_bytes ∙ ap (λ (items : List Item). charges_at layout (nodes_of layout items) % 2 ^ 32) same;
+      },
+    )
 
 -- ---- one is found
 
@@ -74,10 +74,10 @@ searched-in : (layout : Layout) (from : Option ℕ) (all items : List Item) (ite
 searched-in layout None all items item are there = ap (λ (xs : List Item). is_in xs item) are ∙ there
 searched-in layout (Some node) all items item are there =
     ap (λ (xs : List Item). is_in xs item) are.2 ∙ in-append are.0 (are.1 ∷ items) item ∙ last (is_in are.0 item) (same_item item are.1) (is_in items item) there where
-  last : (a b c : Bool) → c ≡ true → (a || (b || c)) ≡ true
-  last true b c e = refl
-  last false true c e = refl
-  last false false c e = e
+      last : (a b c : Bool) → c ≡ true → (a || (b || c)) ≡ true
+      last true b c e = refl
+      last false true c e = refl
+      last false false c e = e
 
 amid-in : (passed behind : List Item) (item : Item) → is_in (passed ++ item ∷ behind) item ≡ true
 amid-in passed behind item = in-append passed (item ∷ behind) item ∙ (rw (same_item_self item) (or-true (is_in passed item))) where

@@ -1,14 +1,12 @@
 -- The use list is walked in search of a part of a key.
 use Rattle.std.proofs.Common.{◌≡◌, ◌+◌, ◌≤◌, ℕ, List, [], ◌∷◌, ◌++◌, length, length-append, append_assoc, append-nil, refl, ap, sym, ◌∙◌, subst, arith, Bool, true, false, Option, None, Some}
-use Rattle.std.specs.Prelude.{◌&&◌, ◌||◌, filter, is_some, if◌then◌else◌}
-use Rattle.std.specs.List.{AllByRecursion}
-use Rattle.std.specs.Option.{option_map}
+use Rattle.std.specs.Prelude.{◌||◌, filter, is_some, if◌then◌else◌}
 use Rattle.std.specs.Str.{bytes_eq}
 use Rattle.std.proofs.lemmas.Bool.{and_parts}
 use Rattle.std.proofs.lemmas.List.{length-map}
 use Rattle.blk_image.specs.Image.{Image}
 use Rattle.blk_image.proofs.Runs.{some_inj}
-use Rattle.blk_model.specs.Items.{Item, item_of, main, part, same_item}
+use Rattle.blk_model.specs.Items.{Item, item_of, main, part}
 use Rattle.blk_model.specs.State.{State}
 use Rattle.blk_model.proofs.Same.{bytes_eq_self, same_bytes, same_item_self}
 use Rattle.blk_format.specs.BlockFiles.{is_among}
@@ -85,8 +83,8 @@ pub list-rests : (nodes : List ℕ) (image : Image) → HasListAtRest nodes imag
 list-rests nodes image rest = subst (λ (ns : List ℕ). HasListAtRest ns image) (sym (list-walked nodes image rest)) rest
 
 -- the first node of the list is that of the first item that is left
-pub starts-first : (layout : Layout) (all items : List Item) (image : Image) (node : Option ℕ) → HasListAtRest (nodes_of layout all) image → all ≡ items → (IsListAtRest image → node ≡ first_node_of (walked image)) → node ≡ first_node layout items
-starts-first layout all items image node rest are h =
+pub starts-first : (layout : Layout) (all items : List Item) (image : Image) (found : Option ℕ) → HasListAtRest (nodes_of layout all) image → all ≡ items → (IsListAtRest image → found ≡ first_node_of (walked image)) → found ≡ first_node layout items
+starts-first layout all items image found rest are h =
     h (list-rests (nodes_of layout all) image rest) ∙ ap first_node_of (list-walked (nodes_of layout all) image rest) ∙ first-is layout all ∙ ap (first_node layout) are
 
 -- an item amid the list
@@ -257,7 +255,7 @@ module _ (state : State) (layout : Layout) (keep : Item → Bool) (chains : ℕ 
 
 -- nothing is left
 pub walk-ended : (layout : Layout) (key : List ℕ) (all items : List Item) (turn : ℕ) → IsWalkedTo layout key all items None turn → HaveNoPart key items
-walk-ended layout key all items turn w = subst (HaveNoPart key) (sym (w.split ∙ ap (λ (xs : List Item). w.passed ++ xs) (nothing w.left w.next_is) ∙ append-nil w.passed)) w.none where
+walk-ended layout key whole items turn w = subst (HaveNoPart key) (sym (w.split ∙ ap (λ (xs : List Item). w.passed ++ xs) (nothing w.left w.next_is) ∙ append-nil w.passed)) w.none where
   nothing : (left : List Item) → None ≡ first_node layout left → left ≡ []
   nothing [] is = refl
   nothing (item ∷ left) is = absurd (none-some is)

@@ -8,7 +8,8 @@ use Rattle.blk_model.specs.Items.{Item, main, part}
 use Rattle.blk_model.specs.Sizes.{part_count}
 use Rattle.blk_model.specs.State.{State}
 use Rattle.blk_format.specs.Address.{blocks_256, kind_of}
-use Rattle.blk_format.specs.Names.{Name}
+use Rattle.blk_format.specs.Names.{Name, child_name}
+use Rattle.blk_format.specs.SparseIndex.{ParentIndex}
 use Rattle.blk_volume.specs.Entries.{IsParent, IsPart, IsPlain, Role}
 use Rattle.blk_volume.specs.Layout.{Layout, is_listed}
 use Rattle.blk_volume.specs.Loads.{Loaded, Rule, load}
@@ -129,3 +130,10 @@ FoundNamesAreTheParts =
     (state : State) (layout : Layout) (keep : Item → Bool) (chains : ℕ → List ℕ) (unlinked key : List ℕ) (n : ℕ) (was : Loaded) (entry : ℕ) (before : Option ℕ) (image : Image)
     → KeepsPartlyOut state layout keep chains unlinked image → is_listed state (part key n) ≡ true → keep (part key n) ≡ true → layout.at (layout.place (part key n)) ≡ Some was
     → IsFound was.key true entry before image → entry ≡ was.contents
+
+-- the name of a part is that of its key, the signature of the index of its parent, whether that is out or not, and its number
+abbrev pub PartsHaveTheirNames : Type 0
+PartsHaveTheirNames =
+    (state : State) (layout : Layout) (keep : Item → Bool) (chains : ℕ → List ℕ) (unlinked key : List ℕ) (n : ℕ) (was main_was : Loaded) (index : ParentIndex) (image : Image)
+    → KeepsPartlyOut state layout keep chains unlinked image → is_listed state (part key n) ≡ true → keep (part key n) ≡ true → layout.at (layout.place (part key n)) ≡ Some was
+    → layout.at (layout.place (main key)) ≡ Some main_was → main_was.role ≡ IsParent index → was.key ≡ child_name key index.signature n

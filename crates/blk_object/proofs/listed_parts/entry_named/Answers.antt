@@ -1,5 +1,4 @@
-use Rattle.std.proofs.Common.{rules, ◌≡◌, ◌+◌, ◌≤◌, ◌∙◌, sym, ap, arith, true, false}
-use Rattle.blk_format.specs.Address.{byte_size}
+use Rattle.std.proofs.Common.{rules, ◌≡◌, ◌∙◌, sym, ap, arith, true, false}
 use Rattle.blk_disk.specs.Tables.{is_record_among}
 use Rattle.blk_lru.proofs.NodeWords.{node_kind, node_room, node_stands}
 use Rattle.blk_lru.proofs.LinkReads.{dangling_untold, read_link}

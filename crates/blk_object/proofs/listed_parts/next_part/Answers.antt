@@ -1,16 +1,14 @@
-use Rattle.std.proofs.Common.{rules, ◌≡◌, ◌≤◌, ◌+◌, ◌∙◌, None, Some, Option, ℕ, IfSome, IsTrue, length, true, false, sym, ap, subst, arith}
+use Rattle.std.proofs.Common.{rules, ◌≡◌, ◌∙◌, None, Option, ℕ, true, false, sym, ap, subst, arith}
 use Rattle.std.specs.Option.{ForSome}
 use Rattle.std.specs.Prelude.{filter, is_some}
 use Rattle.blk_image.specs.Image.{Image}
 use Rattle.blk_image.specs.Told.{Told}
 use Rattle.blk_image.proofs.Runs.{some_inj}
 use Rattle.blk_io.specs.Faults.{IfDamaged}
-use Rattle.blk_io.proofs.Carried.{carried, if_damaged_weaker}
+use Rattle.blk_io.proofs.Carried.{carried}
 use Rattle.blk_volume.specs.Loads.{Loaded}
-use Rattle.blk_disk.specs.Open.{IsOpen}
-use Rattle.blk_disk.specs.Tables.{Agrees, is_node_among}
+use Rattle.blk_disk.specs.Tables.{Agrees}
 use Rattle.blk_lru.specs.Lists.{IsListed}
-use Rattle.blk_entry.specs.Keys.{most_key}
 use Rattle.blk_object.specs.ListedParts.{LoadsAt}
 use Rattle.blk_object.proofs.WalkedParts.{IsWalkedTo, found-none, found-some, step-finds, step-listed, step-loads, step-walks, turns-ended, walk-begun, walk-ended}
 use Rattle.blk_object.proofs.listed_parts.next_part.Goals as goal

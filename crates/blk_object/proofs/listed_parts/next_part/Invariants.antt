@@ -1,4 +1,4 @@
-use Rattle.std.proofs.Common.{◌≡◌, ◌≤◌, IsTrue, length, IfSome}
+use Rattle.std.proofs.Common.{◌≤◌, IsTrue, length, IfSome}
 use Rattle.std.specs.Option.{ForSome}
 use Rattle.blk_image.specs.Told.{Stays}
 use Rattle.blk_disk.specs.Tables.{is_node_among}

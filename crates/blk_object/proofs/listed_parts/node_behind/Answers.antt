@@ -1,4 +1,4 @@
-use Rattle.std.proofs.Common.{◌≡◌, Some, None, sym, ◌∙◌, subst, Option, ℕ}
+use Rattle.std.proofs.Common.{sym, ◌∙◌, subst, Option, ℕ}
 use Rattle.std.specs.Prelude.{filter}
 use Rattle.blk_lru.proofs.Results.{if_ok_weaker}
 use Rattle.blk_image.specs.Image.{Image}

@@ -1,9 +1,7 @@
 use Rattle.std.proofs.Common.{rules, ◌≡◌, ◌∙◌, None, Some, sym, ap, subst}
-use Rattle.std.specs.Option.{ForSome}
 use Rattle.blk_image.specs.Told.{Told}
 use Rattle.blk_io.specs.Faults.{IfDamaged}
 use Rattle.blk_io.proofs.Carried.{carried}
-use Rattle.blk_disk.specs.Tables.{Agrees}
 use Rattle.blk_object.proofs.OwnedPlaces.{loaded-checks}
 use Rattle.blk_object.proofs.PartNames.{key-readable, not-a-part, part-read}
 use Rattle.blk_object.proofs.listed_parts.number_of.Goals as goal

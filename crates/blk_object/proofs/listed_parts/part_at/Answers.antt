@@ -4,12 +4,7 @@ use Rattle.blk_image.specs.Told.{Told}
 use Rattle.blk_io.specs.Faults.{IfDamaged}
 use Rattle.blk_io.proofs.Carried.{carried}
 use Rattle.blk_disk.specs.Tables.{Agrees}
-use Rattle.blk_object.specs.ListedParts.{LoadsAt}
-use Rattle.blk_object.specs.Owning.{LoadsWith}
-use Rattle.blk_volume.specs.Loads.{Loaded}
-use Rattle.blk_image.specs.Image.{Image}
 use Rattle.blk_object.proofs.PartNames.{at-with, part-none, part-some}
-use Rattle.blk_object.proofs.listed_parts.part_at.Given as given
 use Rattle.blk_object.proofs.listed_parts.part_at.Goals as goal
 
 pub returns-in_err-number-clause-untold : goal.returns-in_err-number-clause-untold

@@ -1,4 +1,4 @@
-use Rattle.std.proofs.Common.{◌≡◌, ◌∙◌, ap, sym, length, List, ℕ}
+use Rattle.std.proofs.Common.{◌∙◌, ap, sym, length, List, ℕ}
 use Rattle.blk_object.proofs.PartNames.{cut-name, name-length}
 use Rattle.blk_object.proofs.listed_parts.part_named.Goals as goal
 
