@@ -1,5 +1,5 @@
 -- The counters while items of an object are out.
-use Rattle.std.proofs.Common.{◌≡◌, ℕ, ◌%◌, ◌<◌, List, [], ◌∷◌, refl, ap, sym, ◌∙◌, subst, lit≤, Bool, true, false, Option, None, Some, length}
+use Rattle.std.proofs.Common.{◌≡◌, ℕ, ◌%◌, ◌<◌, List, [], ◌∷◌, refl, ap, sym, ◌∙◌, subst, lit≤, Bool, true, false, Some, length}
 use Rattle.std.specs.Prelude.{◌^◌, filter}
 use Rattle.std.specs.List.{sum_by}
 use Rattle.std.specs.Option.{ForSome}
@@ -12,20 +12,19 @@ use Rattle.blk_disk.specs.Open.{IsOpen}
 use Rattle.blk_model.specs.Effects.{doomed}
 use Rattle.blk_model.specs.Items.{Item}
 use Rattle.blk_model.specs.Room.{whole, without}
-use Rattle.blk_model.specs.State.{Object, State}
+use Rattle.blk_model.specs.State.{State}
 use Rattle.blk_model.proofs.Doomed.{state_doomed}
 use Rattle.blk_format.specs.Claims.{Claim}
 use Rattle.blk_laws.specs.IndexWrites.{IsIndexWord}
 use Rattle.blk_volume.specs.Found.{charge_of}
-use Rattle.blk_volume.specs.Layout.{Layout, nodes_of, order}
+use Rattle.blk_volume.specs.Layout.{Layout, nodes_of}
 use Rattle.blk_volume.specs.Loads.{Loaded}
-use Rattle.blk_volume.specs.Removal.{is_of_another, without_items}
-use Rattle.blk_volume.specs.Tidy.{loaded_at}
+use Rattle.blk_volume.specs.Removal.{is_of_another}
 use Rattle.blk_kept.specs.Changes.{ChangesOnly, SameCounters}
 use Rattle.blk_kept.specs.CountsOfParts.{charges_at}
-use Rattle.blk_kept.specs.GroupLaws.{IsLess, gone_nodes, layout_less}
-use Rattle.blk_kept.specs.Keeping.{CountsItems, Keeps}
-use Rattle.blk_kept.specs.PartlyOut.{KeepsPartlyOut, keeps_but}
+use Rattle.blk_kept.specs.GroupLaws.{gone_nodes, layout_less}
+use Rattle.blk_kept.specs.Keeping.{Keeps}
+use Rattle.blk_kept.specs.PartlyOut.{keeps_but}
 use Rattle.blk_kept.proofs.ChangedStates.{same-state, unheld-less}
 use Rattle.blk_kept.proofs.CommandEnding.{dooms-end, groups-turn}
 use Rattle.blk_kept.proofs.CountsOfParts.{next-less}

@@ -38,7 +38,7 @@ can-be-searched state layout unlinked image key k =
     }
 
 -- a record that stands in a chain is among its records
-standing-among : (words : List ℕ) (w : ℕ) (before : Option ℕ) (prefix suffix : List ℕ) → StandsBehind words w before prefix suffix → is_among words w ≡ true
+pub standing-among : (words : List ℕ) (w : ℕ) (before : Option ℕ) (prefix suffix : List ℕ) → StandsBehind words w before prefix suffix → is_among words w ≡ true
 standing-among words w None prefix suffix stands = ap (λ (xs : List ℕ). is_among xs w) stands.1 ∙ among-front [] w suffix
 standing-among words w (Some v) prefix suffix stands = ap (λ (xs : List ℕ). is_among xs w) (stands ∙ sym (append_assoc prefix (v ∷ []) (w ∷ suffix))) ∙ among-front (prefix ++ v ∷ []) w suffix
 

@@ -1,5 +1,5 @@
 -- The next item of an object goes: what each call adds.
-use Rattle.std.proofs.Common.{◌≡◌, ◌⊎◌, inl, inr, ℕ, ◌%◌, List, [], ◌∷◌, ◌++◌, refl, ap, sym, ◌∙◌, subst, Bool, true, Option, Some}
+use Rattle.std.proofs.Common.{◌≡◌, inl, inr, ℕ, ◌%◌, List, [], ◌++◌, refl, ap, sym, ◌∙◌, subst, Bool, true, Option, Some}
 use Rattle.std.specs.Prelude.{◌^◌}
 use Rattle.std.specs.Option.{ForSome}
 use Rattle.blk_image.specs.Image.{Image}
@@ -17,7 +17,6 @@ use Rattle.blk_kept.specs.Keeping.{KeepsUncounted}
 use Rattle.blk_kept.specs.PartlyOut.{KeepsPartlyOut, chains_but, keeps_but}
 use Rattle.blk_kept.specs.PartlyOutStops.{LeavesOtherKeys}
 use Rattle.blk_kept.proofs.Free.{then-found}
-use Rattle.blk_kept.proofs.PartlyOut.{kept-begin}
 use Rattle.blk_kept.proofs.PartlyOutStops.{own-items-leave, partly-out-finds}
 use Rattle.blk_stream.proofs.Joined.{IsTold, told_then}
 use Rattle.blk_object.specs.Freeing.{AreFreeable, AreGoing, Removes}

@@ -24,3 +24,4 @@ pub mod GoingNext
 pub mod PartNames
 pub mod WalkedParts
 pub mod PartsLeft
+pub mod PartsFound

@@ -1,6 +1,6 @@
 -- The part that is read at a node.
-use Rattle.std.proofs.Common.{◌≡◌, ◌≢◌, ℕ, ◌+◌, ◌-◌, ◌≤◌, List, [], ◌∷◌, ◌++◌, length, take, drop, length-take, length-drop, length-append, refl, ap, ap₂, sym, ◌∙◌, subst, arith, Bool, true, false, Option, None, Some}
-use Rattle.std.specs.Prelude.{◌==◌, ◌&&◌, min, nat_le, nat_lt, not, if◌then◌else◌}
+use Rattle.std.proofs.Common.{◌≡◌, ◌≢◌, ℕ, ◌-◌, ◌≤◌, List, ◌∷◌, ◌++◌, length, take, drop, length-take, length-drop, length-append, refl, ap, sym, ◌∙◌, subst, arith, Bool, true, false, Option, None, Some}
+use Rattle.std.specs.Prelude.{◌==◌, ◌&&◌, nat_le, nat_lt, not, if◌then◌else◌}
 use Rattle.std.specs.Int.{cast_unsigned, w64}
 use Rattle.std.specs.Option.{option_and_then, option_map}
 use Rattle.std.proofs.lemmas.Bool.{and_from, and_parts, eqb-true}
@@ -16,7 +16,7 @@ use Rattle.blk_format.specs.Standing.{stands}
 use Rattle.blk_format.specs.SparseIndex.{ParentIndex, PartIndex, read_parent_index, read_part_index}
 use Rattle.blk_volume.specs.Entries.{IsParent, IsPart, IsPlain, Role, is_covered, is_key_length, longest_key_with, parent_role, part_role, role_of, stored_key, stream}
 use Rattle.blk_volume.specs.Loads.{Loaded}
-use Rattle.blk_volume.specs.View.{NodeFields, RecordFields, entry_at, fields_of, node_at, node_fields_at, stands_as, store_of}
+use Rattle.blk_volume.specs.View.{NodeFields, RecordFields, node_at, node_fields_at, stands_as, store_of}
 use Rattle.blk_laws.proofs.chains.ChainWords.{shown-fields}
 use Rattle.blk_laws.proofs.updates.StillShown.{core-standing}
 use Rattle.blk_laws.proofs.walks.Loads.{load-then}
@@ -29,7 +29,6 @@ use Rattle.blk_lru.specs.Nodes.{link_at}
 use Rattle.blk_ranges.specs.ChildNames.{name_within}
 use Rattle.blk_ranges.specs.declared.names.ChildName.{ChildName}
 use Rattle.blk_ranges.proofs.Spelling.{joined}
-use Rattle.blk_object.specs.declared.listed_parts.ListedPart.{ListedPart}
 use Rattle.blk_object.specs.ListedParts.{LoadsAt, number_said, part_loaded, part_number}
 use Rattle.blk_object.specs.Owning.{LoadsWith}
 use Rattle.blk_object.proofs.OwnedCharges.{key-length}
@@ -127,7 +126,7 @@ part-is-named key name streams role is = go (length (stream 0 streams) == 0) (na
   go false c h = absurd (none-some h)
 
 -- the role of a record that isn't flagged as a part's
-other-role : (key : List ℕ) (e : RecordFields) (name : List ℕ) (streams : List (List ℕ)) (role : Role) → role_of e name streams ≡ Some role → (e.flags == child) ≡ false → part_number key role ≡ None
+pub other-role : (key : List ℕ) (e : RecordFields) (name : List ℕ) (streams : List (List ℕ)) (role : Role) → role_of e name streams ≡ Some role → (e.flags == child) ≡ false → part_number key role ≡ None
 unfolding role_of
 other-role key e name streams role is other = go (e.flags == parent) (e.flags == child) other is where
   go : (b c : Bool) → c ≡ false → (if b then parent_role e streams else if c then part_role name streams else Some IsPlain) ≡ Some role → part_number key role ≡ None
@@ -136,7 +135,7 @@ other-role key e name streams role is other = go (e.flags == parent) (e.flags ==
   go false true f h = absurd (let z : true ≡ false = f in cc)
 
 -- and of one that is
-its-role : (key : List ℕ) (e : RecordFields) (name : List ℕ) (streams : List (List ℕ)) (role : Role) → role_of e name streams ≡ Some role → (e.flags == child) ≡ true → part_number key role ≡ number_said key (read_name name)
+pub its-role : (key : List ℕ) (e : RecordFields) (name : List ℕ) (streams : List (List ℕ)) (role : Role) → role_of e name streams ≡ Some role → (e.flags == child) ≡ true → part_number key role ≡ number_said key (read_name name)
 unfolding role_of
 its-role key e name streams role is its = go (e.flags == parent) (e.flags == child) (ap (λ (w : ℕ). w == parent) (eqb-true e.flags child its)) its is where
   go : (b c : Bool) → b ≡ false → c ≡ true → (if b then parent_role e streams else if c then part_role name streams else Some IsPlain) ≡ Some role → part_number key role ≡ number_said key (read_name name)

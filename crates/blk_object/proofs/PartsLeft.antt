@@ -1,6 +1,6 @@
 -- What a part that is found, and none, are to the state.
-use Rattle.std.proofs.Common.{◌≡◌, ℕ, ◌%◌, List, [], ◌∷◌, ◌++◌, length, append_assoc, refl, ap, sym, ◌∙◌, subst, Bool, true, false, Option, None, Some, ⊎_elim}
-use Rattle.std.specs.Prelude.{◌&&◌, ◌||◌, ◌^◌, filter, not}
+use Rattle.std.proofs.Common.{◌≡◌, ℕ, ◌%◌, ◌<◌, lit<, List, [], ◌∷◌, ◌++◌, length, refl, ap, sym, ◌∙◌, subst, Bool, true, false, Option, None, Some, ⊎_elim}
+use Rattle.std.specs.Prelude.{◌||◌, ◌^◌, filter, not}
 use Rattle.std.specs.Str.{bytes_eq}
 use Rattle.std.proofs.lemmas.Bool.{and_from, and_parts, cases_Bool}
 use Rattle.blk_model.specs.Items.{Item, key_of, main, part, same_item}
@@ -8,7 +8,12 @@ use Rattle.blk_model.specs.State.{State}
 use Rattle.blk_model.proofs.Same.{bytes_eq_self, one_item, same_bytes, same_item_self}
 use Rattle.blk_volume.specs.Layout.{Layout, is_in, is_listed, nodes_of}
 use Rattle.blk_volume.specs.Removal.{is_of_another}
-use Rattle.blk_volume.specs.Searches.{bucket_of_key}
+use Rattle.blk_volume.specs.Chains.{Chain}
+use Rattle.blk_volume.specs.Searches.{bucket_of_key, chained_for}
+use Rattle.blk_volume.specs.View.{store_of}
+use Rattle.blk_format.specs.Hash.{hash}
+use Rattle.std.proofs.lemmas.Nat.{mod_below}
+use Rattle.blk_laws.proofs.chains.Chains.{chain-is}
 use Rattle.blk_laws.proofs.commands.Opening.{in-append}
 use Rattle.blk_laws.proofs.commands.Removing.{in-filter}
 use Rattle.blk_chain.specs.Unlinking.{StandsBehind}
@@ -16,8 +21,7 @@ use Rattle.blk_kept.specs.CountsOfParts.{charges_at}
 use Rattle.blk_kept.specs.PartlyOutStops.{LeavesOtherKeys}
 use Rattle.blk_kept.proofs.PartlyOut.{only-listed}
 use Rattle.blk_kept.proofs.Removals.{filter-alike}
-use Rattle.blk_object.specs.ListedParts.{AreSearched, FirstPartsLieNext, HaveNoPart, NoPartsLeftAreAllOut, is_part_of}
-use Rattle.blk_object.specs.RemovingNext.{CountsLeft}
+use Rattle.blk_object.specs.ListedParts.{AreSearched, FirstPartsLieNext, FoundPartsLieNext, HaveNoPart, NoPartsLeftAreAllOut, is_part_of}
 
 -- ---- none is left
 
@@ -101,3 +105,10 @@ first-next state layout keep chains unlinked key from items found before prefix 
       node_is = first.node_is;
       entry_is = first.entry_is;
     }
+
+pub found-next : FoundPartsLieNext
+found-next state layout keep chains unlinked key from items found name before image k are first same f =
+    let below : bucket_of_key name < 65536 = mod_below (hash name) 65536 (lit< tt) in
+    let chain_same : chained_for (store_of image) name ≡ chains (bucket_of_key name) = ap (λ (c : Chain). c.reached) (chain-is (store_of image) (bucket_of_key name) (chains (bucket_of_key name)) k.holds.no_record (k.holds.chains (bucket_of_key name) below)) in
+    first-next state layout keep chains unlinked key from items found before f.prefix f.suffix image k are first
+    (subst (λ (x : List ℕ). StandsBehind (chains (bucket_of_key x)) found.entry before f.prefix f.suffix) (sym same) (subst (λ (ws : List ℕ). StandsBehind ws found.entry before f.prefix f.suffix) chain_same f.stands))

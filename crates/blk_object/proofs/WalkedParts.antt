@@ -1,16 +1,14 @@
 -- The use list is walked in search of a part of a key.
 use Rattle.std.proofs.Common.{◌≡◌, ◌+◌, ◌≤◌, ℕ, List, [], ◌∷◌, ◌++◌, length, length-append, append_assoc, append-nil, refl, ap, sym, ◌∙◌, subst, arith, Bool, true, false, Option, None, Some}
-use Rattle.std.specs.Prelude.{◌&&◌, ◌||◌, filter, is_some, if◌then◌else◌}
-use Rattle.std.specs.List.{AllByRecursion}
-use Rattle.std.specs.Option.{option_map}
+use Rattle.std.specs.Prelude.{◌||◌, filter, is_some, if◌then◌else◌}
 use Rattle.std.specs.Str.{bytes_eq}
 use Rattle.std.proofs.lemmas.Bool.{and_parts}
 use Rattle.std.proofs.lemmas.List.{length-map}
 use Rattle.blk_image.specs.Image.{Image}
 use Rattle.blk_image.proofs.Runs.{some_inj}
-use Rattle.blk_model.specs.Items.{Item, item_of, main, part, same_item}
+use Rattle.blk_model.specs.Items.{Item, item_of, main, part}
 use Rattle.blk_model.specs.State.{State}
-use Rattle.blk_model.proofs.Same.{same_bytes, same_item_self}
+use Rattle.blk_model.proofs.Same.{bytes_eq_self, same_bytes, same_item_self}
 use Rattle.blk_format.specs.BlockFiles.{is_among}
 use Rattle.blk_volume.specs.Entries.{IsParent, IsPart, IsPlain, Role}
 use Rattle.blk_volume.specs.Found.{row_with}
@@ -85,8 +83,8 @@ pub list-rests : (nodes : List ℕ) (image : Image) → HasListAtRest nodes imag
 list-rests nodes image rest = subst (λ (ns : List ℕ). HasListAtRest ns image) (sym (list-walked nodes image rest)) rest
 
 -- the first node of the list is that of the first item that is left
-pub starts-first : (layout : Layout) (all items : List Item) (image : Image) (node : Option ℕ) → HasListAtRest (nodes_of layout all) image → all ≡ items → (IsListAtRest image → node ≡ first_node_of (walked image)) → node ≡ first_node layout items
-starts-first layout all items image node rest are h =
+pub starts-first : (layout : Layout) (all items : List Item) (image : Image) (found : Option ℕ) → HasListAtRest (nodes_of layout all) image → all ≡ items → (IsListAtRest image → found ≡ first_node_of (walked image)) → found ≡ first_node layout items
+starts-first layout all items image found rest are h =
     h (list-rests (nodes_of layout all) image rest) ∙ ap first_node_of (list-walked (nodes_of layout all) image rest) ∙ first-is layout all ∙ ap (first_node layout) are
 
 -- an item amid the list
@@ -128,11 +126,15 @@ next-item layout [] node is = absurd (none-some (sym is))
 next-item layout (item ∷ behind) node is = record { item = item; behind = behind; left_is = refl; place = sym (some_inj is) }
 
 -- the number of the part of a key that an item is
-item_number : List ℕ → Item → Option ℕ
+pub item_number : List ℕ → Item → Option ℕ
 item_number key (main other) = None
 item_number key (part other n) = if bytes_eq other key then Some n else None
 
-role-number : (key stored : List ℕ) (streams : List (List ℕ)) (role : Role) (item : Item) → item_of (row_with stored role streams) ≡ item → part_number key role ≡ item_number key item
+pub own-number : (key : List ℕ) (n : ℕ) → item_number key (part key n) ≡ Some n
+unfolding item_number
+own-number key n = rw (bytes_eq_self key) refl
+
+pub role-number : (key stored : List ℕ) (streams : List (List ℕ)) (role : Role) (item : Item) → item_of (row_with stored role streams) ≡ item → part_number key role ≡ item_number key item
 unfolding item_number
 role-number key stored streams IsPlain item is = subst (λ (i : Item). None ≡ item_number key i) is refl
 role-number key stored streams (IsParent index) item is = subst (λ (i : Item). None ≡ item_number key i) is refl
@@ -146,7 +148,7 @@ not-a-part key (part other n) is = go (bytes_eq other key) is where
   go true h = absurd (none-some (sym h))
   go false h = refl
 
-its-part : (key : List ℕ) (item : Item) (number : ℕ) → item_number key item ≡ Some number → item ≡ part key number
+pub its-part : (key : List ℕ) (item : Item) (number : ℕ) → item_number key item ≡ Some number → item ≡ part key number
 unfolding item_number
 its-part key (main other) number is = absurd (none-some is)
 its-part key (part other n) number is = go (bytes_eq other key) refl is where
@@ -253,7 +255,7 @@ module _ (state : State) (layout : Layout) (keep : Item → Bool) (chains : ℕ 
 
 -- nothing is left
 pub walk-ended : (layout : Layout) (key : List ℕ) (all items : List Item) (turn : ℕ) → IsWalkedTo layout key all items None turn → HaveNoPart key items
-walk-ended layout key all items turn w = subst (HaveNoPart key) (sym (w.split ∙ ap (λ (xs : List Item). w.passed ++ xs) (nothing w.left w.next_is) ∙ append-nil w.passed)) w.none where
+walk-ended layout key whole items turn w = subst (HaveNoPart key) (sym (w.split ∙ ap (λ (xs : List Item). w.passed ++ xs) (nothing w.left w.next_is) ∙ append-nil w.passed)) w.none where
   nothing : (left : List Item) → None ≡ first_node layout left → left ≡ []
   nothing [] is = refl
   nothing (item ∷ left) is = absurd (none-some is)

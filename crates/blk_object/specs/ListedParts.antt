@@ -8,15 +8,17 @@ use Rattle.blk_model.specs.Items.{Item, main, part}
 use Rattle.blk_model.specs.Sizes.{part_count}
 use Rattle.blk_model.specs.State.{State}
 use Rattle.blk_format.specs.Address.{blocks_256, kind_of}
-use Rattle.blk_format.specs.Names.{Name}
+use Rattle.blk_format.specs.Names.{Name, child_name}
+use Rattle.blk_format.specs.SparseIndex.{ParentIndex}
 use Rattle.blk_volume.specs.Entries.{IsParent, IsPart, IsPlain, Role}
-use Rattle.blk_volume.specs.Layout.{Layout}
+use Rattle.blk_volume.specs.Layout.{Layout, is_listed}
 use Rattle.blk_volume.specs.Loads.{Loaded, Rule, load}
 use Rattle.blk_volume.specs.View.{store_of}
 use Rattle.blk_disk.specs.declared.tables.BlockFiles.{BlockFiles}
 use Rattle.blk_disk.specs.Tables.{is_node_among, stands_among}
 use Rattle.blk_kept.specs.PartlyOut.{KeepsPartlyOut}
 use Rattle.blk_kept.specs.PartlyOutStops.{LeavesOtherKeys}
+use Rattle.blk_chain.specs.Finding.{IsFound}
 use Rattle.blk_chain.specs.Unlinking.{StandsBehind}
 use Rattle.blk_volume.specs.Removal.{is_of_another}
 use Rattle.blk_volume.specs.Searches.{bucket_of_key}
@@ -113,3 +115,25 @@ FirstPartsLieNext =
     → KeepsPartlyOut state layout keep chains unlinked image → AreSearched layout from (filter keep state.uses) items → (first : IsFirstPart layout key items found)
     → StandsBehind (chains (bucket_of_key first.was.key)) found.entry before prefix suffix
     → LiesNext state layout keep chains (part key found.number) found.node found.entry before
+
+-- so it may where a search by the name of the part finds its record
+abbrev pub FoundPartsLieNext : Type 0
+FoundPartsLieNext =
+    (state : State) (layout : Layout) (keep : Item → Bool) (chains : ℕ → List ℕ) (unlinked key : List ℕ) (from : Option ℕ) (items : List Item) (found : ListedPart) (name : List ℕ) (before : Option ℕ) (image : Image)
+    → KeepsPartlyOut state layout keep chains unlinked image → AreSearched layout from (filter keep state.uses) items → (first : IsFirstPart layout key items found)
+    → first.was.key ≡ name → IsFound name true found.entry before image
+    → LiesNext state layout keep chains (part key found.number) found.node found.entry before
+
+-- and the record that it finds is the part's: no other record of its chain has its name
+abbrev pub FoundNamesAreTheParts : Type 0
+FoundNamesAreTheParts =
+    (state : State) (layout : Layout) (keep : Item → Bool) (chains : ℕ → List ℕ) (unlinked key : List ℕ) (n : ℕ) (was : Loaded) (entry : ℕ) (before : Option ℕ) (image : Image)
+    → KeepsPartlyOut state layout keep chains unlinked image → is_listed state (part key n) ≡ true → keep (part key n) ≡ true → layout.at (layout.place (part key n)) ≡ Some was
+    → IsFound was.key true entry before image → entry ≡ was.contents
+
+-- the name of a part is that of its key, the signature of the index of its parent, whether that is out or not, and its number
+abbrev pub PartsHaveTheirNames : Type 0
+PartsHaveTheirNames =
+    (state : State) (layout : Layout) (keep : Item → Bool) (chains : ℕ → List ℕ) (unlinked key : List ℕ) (n : ℕ) (was main_was : Loaded) (index : ParentIndex) (image : Image)
+    → KeepsPartlyOut state layout keep chains unlinked image → is_listed state (part key n) ≡ true → keep (part key n) ≡ true → layout.at (layout.place (part key n)) ≡ Some was
+    → layout.at (layout.place (main key)) ≡ Some main_was → main_was.role ≡ IsParent index → was.key ≡ child_name key index.signature n

@@ -41,8 +41,8 @@ pub struct ListedPart {
 
 /// The first part of a key in the use list, from its front on, or behind the node of an item; `None` where there is none.
 ///
-/// Nothing is changed. Of each item this takes three folder calls for its node and its record, and of a part one more for
-/// its name, which is read into `room`. At most as many items are looked at as a cache may have.
+/// Nothing is changed. This takes three folder calls for each item, and two more for a part, of which the name is read
+/// into `room`. At most as many items are looked at as a cache may have.
 pub fn next_part<F: Folder>(
     f: &mut F,
     files: &BlockFiles,
