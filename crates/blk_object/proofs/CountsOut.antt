@@ -33,7 +33,6 @@ use Rattle.blk_kept.proofs.GroupsGone.{whole-groups-go}
 use Rattle.blk_kept.proofs.PartlyFreed.{out-changes}
 use Rattle.blk_kept.proofs.PartlyOut.{partly-out-ends}
 use Rattle.blk_kept.proofs.Writes.{index-words, other-word}
-use Rattle.blk_object.specs.Counters.{AreCountedLess}
 use Rattle.blk_object.specs.RemovingNext.{CountedLessIsStillOut, CountedOutDoomsEnd, CountedOutEndsKept, CountedOutGroupsAreGone, CountsLeft, KeepsOut, KeptStatesCountAll, NextItemsAreCountedLess}
 use Rattle.blk_object.proofs.CounterWords.{bytes-set, charge-less, counter_steps, entries-set, first, one-less, quiet-counters, second, size-set, third}
 
