@@ -52,7 +52,7 @@ pub(crate) const KEY: u64 = 96;
 // The word of node 0, and the bytes of a header.
 pub(crate) const NODES: u32 = 0x9000_0000;
 
-pub(crate) const HEADER: u64 = 8192;
+const HEADER: u64 = 8192;
 
 // An entry: its record's address word, its key with the word of its place where it is long, its flags, and the size and address of
 // each of its streams.

@@ -1,5 +1,5 @@
 // Objects that are made and removed, in a folder in memory that tells nothing.
-use crate::folders::{HEAD, HEADER, Mem, give_blocks};
+use crate::folders::{HEAD, Mem, give_blocks};
 use blk_chain::find;
 use blk_disk::BlockFiles;
 use blk_entry::node_of;
@@ -47,7 +47,10 @@ fn removed(f: &mut Mem, key: &[u8]) -> Result<Option<u64>, Fault> {
     let files = BlockFiles::load(f)?;
     match find(f, &files, key, false) {
         Ok(Some(found)) => {
-            let node = node_of(f, &files, found.entry)?;
+            let word = node_of(f, &files, found.entry)?.word();
+            let Some(node) = files.node(word) else {
+                return Ok(None);
+            };
             let start = f.calls();
             remove_item(f, &files, &found, node)?;
             Ok(Some(f.calls().wrapping_sub(start)))
@@ -57,12 +60,21 @@ fn removed(f: &mut Mem, key: &[u8]) -> Result<Option<u64>, Fault> {
     }
 }
 
-// Whether each of the three keys has an object.
+// Whether a key has an object.
+fn is_there(f: &mut Mem, files: &BlockFiles, key: &[u8]) -> Result<bool, Fault> {
+    match find(f, files, key, false) {
+        Ok(Some(_)) => Ok(true),
+        Ok(None) => Ok(false),
+        Err(fault) => Err(fault),
+    }
+}
+
+// Whether each of the three keys has one.
 fn are_there(f: &mut Mem) -> Result<[bool; 3], Fault> {
     let files = BlockFiles::load(f)?;
     let mut there = [false; 3];
     for (slot, key) in there.iter_mut().zip(KEYS) {
-        *slot = find(f, &files, key, false)?.is_some();
+        *slot = is_there(f, &files, key)?;
     }
     Ok(there)
 }
@@ -91,17 +103,9 @@ fn an_object_is_made(rt: HostRuntime) -> Result<(), Fail> {
 
     // Node, moment and length of the key in the record; moment, contents and mark in the node.
     let [low, high] = MOMENT_WORDS;
-    let record = words(
-        &mut f,
-        FileId::Block(1),
-        [8, 24, 28, 32].map(|at| HEADER + at),
-    );
+    let record = words(&mut f, FileId::Block(1), [8200, 8216, 8220, 8224]);
     assert_eq!(rt; record, Ok([0x9000_0000, low, high, 3]));
-    let node = words(
-        &mut f,
-        FileId::Block(0),
-        [0, 4, 24, 28].map(|at| HEADER + at),
-    );
+    let node = words(&mut f, FileId::Block(0), [8192, 8196, 8216, 8220]);
     assert_eq!(rt; node, Ok([low, high, 0xA001_0000, MARK]));
     Ok(())
 }
@@ -114,11 +118,7 @@ fn long_keys_lie_in_blocks_and_files(rt: HostRuntime) -> Result<(), Fail> {
     let (places, _) = made(&mut f, &key)?;
     assert_eq!(rt; places, [0xA001_0001, 0x9000_0001]);
     assert_eq!(rt; counted(&mut f), Ok([2, 22000, 2, 0x9000_0001]));
-    let long = words(
-        &mut f,
-        FileId::Block(1),
-        [36, 256 + 36, 8, 256 + 8].map(|at| HEADER + at),
-    );
+    let long = words(&mut f, FileId::Block(1), [8228, 8484, 8200, 8456]);
     let wanted = [0xB102_0000, 0x8000_0001, 0x9000_0000, 0x9000_0001];
     assert_eq!(rt; long, Ok(wanted));
     assert_eq!(rt; f.length(FileId::External(1)), Ok(Some(20001)));

@@ -47,7 +47,7 @@ fn session<F: Folder>(alloc: Global, f: &mut SilentFolder<F>) -> Result<(Shown, 
 #[test]
 fn an_empty_folder_is_opened_and_ended(rt: HostRuntime) -> Result<(), Fail> {
     let mut f = SilentFolder::new(MemFolder::without_trail(rt.alloc()));
-    for (number, most) in [(1, 60), (2, 134)] {
+    for (number, most) in [(1, 60), (2, 74)] {
         let (shown, opening, ending) = session(rt.alloc(), &mut f)?;
         assert_eq!(rt; shown, ((0, 0), number, [1, 0]));
         assert_eq!(rt; ending, 1);
