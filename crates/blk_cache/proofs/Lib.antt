@@ -24,9 +24,13 @@ pub mod Notes
 pub mod RoomGroups
 pub mod RoomPins
 pub mod RoomTexts
+pub mod StepTexts
 pub mod RoomNodes
 pub mod RoomBound
 pub mod RoomLast
 pub mod RoomCounts
 pub mod RoomKept
 pub mod RoomApart
+pub mod Evictions
+pub mod RoomMade
+pub mod CreateWhole

@@ -12,3 +12,7 @@ pub mod RoomLaws
 pub mod RoomPrinting
 pub mod RoomSearch
 pub mod RoomKept
+pub mod Evicting
+pub mod MakingRoom
+pub mod Stepping
+pub mod Listing

@@ -9,25 +9,79 @@ ghost use Rattle.blk_model.specs.Refusals.{no_room, refused};
 ghost use Rattle.blk_model.specs.Request.{to_create};
 ghost use Rattle.blk_model.specs.Sizes.{handle_names};
 ghost use Rattle.blk_model.specs.State.{State};
+ghost use Rattle.blk_model.specs.declared.Answer.TheVariants as answer;
 ghost use Rattle.blk_disk.specs.Open.{IsOpen};
 ghost use Rattle.blk_disk.specs.Tables.{is_node_among, is_record_among};
 ghost use Rattle.blk_handles.specs.Bindings.{AreShared, binding_for, binding_of, open_with};
 ghost use Rattle.blk_kept.specs.Changes.{Finds};
-ghost use Rattle.blk_kept.specs.Commands.{IsDone, MayStop};
+ghost use Rattle.blk_kept.specs.Commands.{Does, IsDone, MayStop, MayStopAtEach};
 ghost use Rattle.blk_object.specs.Making.{CanHaveNew};
 ghost use Rattle.blk_cache.specs.CacheKeeping.{KeepsState};
-ghost use Rattle.blk_cache.specs.CommandClauses.{KeepsAny, open_refusal};
+ghost use Rattle.blk_cache.specs.CommandClauses.{IsRefused, KeepsAny, open_refusal};
 ghost use Rattle.blk_cache.specs.Creating.{CountsOneMore, HasRoomFor, IsReadyForSome, IsReadyToCreate, KeepsWithRoom, create_refusal};
 ghost use Rattle.blk_cache.specs.Looking.{IsLookDamage};
+ghost use Rattle.blk_cache.specs.RoomPrinting.{FailsWhereItRose};
+ghost use Rattle.blk_cache.specs.Stepping.{HasLine, SaysEvicted, SaysFront};
 
 use crate::cache::Cache;
 use crate::looking::{Live, find_live};
+use crate::making_room::Room;
 use blk_addr::Addr;
-use blk_io::{Fault, Folder};
+use blk_io::{Fault, Folder, Sink};
 use blk_model::{Answer, Refusal};
 use blk_object::make_entry;
 
 impl Cache {
+    /// Makes a new object with a key, to which it gives a handle name, once there is room for it; what is evicted for that
+    /// is printed as it goes.
+    ///
+    /// It is refused with `BadKey` where the key has no bytes or more than 32768, `BadHandle` where the name is 4096 or
+    /// more, `HandleBusy` where it is bound, `Exists` where a live object has the key, and `Full` where the open objects
+    /// and what is added exceed a limit, the first of these. After a fault nothing is promised of the cache but that it may
+    /// be let go.
+    pub(crate) fn create<F: Folder, K: Sink>(
+        &mut self,
+        f: &mut F,
+        out: &mut K,
+        failed: &mut bool,
+        handle: u16,
+        key: &[u8],
+        moment: u64,
+    ) -> Result<Answer, Fault>
+        requires is_open { ForSome (F.told f.old).files (IsOpen self.old.files) }
+        ensures does { IfOk result (λ answer. Does (KeepsState self.old) (KeepsState self.new) (F.told f.old) (F.told f.new) moment (to_create handle key.now) answer) }
+        ensures stops { MayStopAtEach (KeepsState self.old) (F.told f.old) (F.told f.new) moment (to_create handle key.now) }
+
+        // What it evicts is printed, and on any answer a front of that.
+        ensures says { OnOk result (SaysEvicted self.old (F.told f.old) moment (to_create handle key.now) failed.old failed.new (K.written out.old) (K.written out.new)) }
+        ensures front { SaysFront self.old (F.told f.old) moment (to_create handle key.now) (K.written out.old) (K.written out.new) }
+        ensures fails { FailsWhereItRose failed.old failed.new (K.faults out.old) (K.faults out.new) }
+
+        // What the names and the key tell is refused on every folder, and a refusal does nothing.
+        ensures refuses { IfSome (open_refusal self.old.handles handle key.now) (λ why. result ≡ Ok (answer.Refused why)) }
+        ensures quiet { IfOk result (λ answer. IsRefused answer → Stays (F.told f.old) (F.told f.new)) }
+        ensures unchanged { IfOk result (λ answer. IsRefused answer → self.new ≡ self.old) }
+
+        ensures has_line { IfOk result HasLine }
+        ensures is_open { OnOk result (ForSome (F.told f.new).files (IsOpen self.new.files)) }
+        ensures notes { self.new.notes ≡ self.old.notes }
+
+        // A folder that tells its files gives no damage where the cache keeps a state.
+        ensures untold { ForSome (F.told f.old).files (KeepsAny self.old) → IfDamaged result (λ _. (F.told f.old).files ≡ None) }
+        ensures silent { (F.told f.old).files ≡ None → (F.told f.new).files ≡ None }
+        ensures later { F.faults f.old ≤ F.faults f.new }
+        ensures sink_later { K.faults out.old ≤ K.faults out.new }
+        ensures device { IfDevice result (Rises (F.faults f.old) (F.faults f.new)) }
+    {
+        if let Some(why) = self.refuses_create(f, handle, key)? {
+            return Ok(Answer::Refused(why));
+        }
+        match self.make_room(f, out, failed, key.len() as u64, 1)? {
+            Room::Full => Ok(Answer::Refused(Refusal::Full)),
+            Room::Made => self.end_create(f, handle, key, moment),
+        }
+    }
+
     // Ends a Create that isn't refused, once all that it evicts is out: its object is made, with a free handle name
     // bound to it.
     pub(crate) fn end_create<F: Folder>(

@@ -1,4 +1,4 @@
-// Why a cache is not opened.
+// Why a cache is not opened, and why a command has no answer.
 use blk_addr::NoMemory;
 use blk_audit::ScanFault;
 use blk_io::{Damage, Fault};
@@ -51,5 +51,30 @@ impl From<NoMemory> for OpenFault {
 
     fn from(_: NoMemory) -> Self {
         OpenFault::Memory
+    }
+}
+
+/// Why a command has no answer.
+#[derive(Clone, Copy, Debug, PartialEq, Eq)]
+pub enum StepFault {
+    /// The folder failed.
+    Device,
+    /// The sink failed. The command is done, and noted.
+    Sink,
+    /// What the folder holds failed a check, which it doesn't where the folder tells its files.
+    Damaged(Damage),
+}
+
+impl From<Fault> for StepFault {
+    ghost use Rattle.std.specs.Prelude.{◌≡◌};
+    ghost use Rattle.blk_cache.specs.Stepping.{of_step_fault};
+
+    ghost from_gives = { λ fault stepping. stepping ≡ of_step_fault fault };
+
+    fn from(fault: Fault) -> Self {
+        match fault {
+            Fault::Device => StepFault::Device,
+            Fault::Damaged(damage) => StepFault::Damaged(damage),
+        }
     }
 }

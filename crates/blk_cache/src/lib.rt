@@ -6,9 +6,13 @@ mod close;
 mod create;
 mod create_laws;
 mod ending;
+mod evicting;
 mod fault;
+mod goal;
 mod laws;
+mod list;
 mod looking;
+mod making_room;
 mod names;
 mod open;
 mod opening;
@@ -22,7 +26,7 @@ mod total;
 
 pub use cache::Cache;
 pub use create_laws::creates_have_room;
-pub use fault::OpenFault;
+pub use fault::{OpenFault, StepFault};
 pub use laws::{kept_folders_end_sound, repaired_folders_keep_their_state};
 pub use room_laws::{
     evicted_states_are_kept, groups_are_counted_less, groups_go_one_after_another,

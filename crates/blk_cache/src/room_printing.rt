@@ -31,8 +31,8 @@ pub(crate) fn say_evicted_part<K: Sink>(out: &mut K, failed: &mut bool, key: &[u
     );
 }
 
-// Prints a line, unless the sink failed before.
-fn say<K: Sink>(out: &mut K, failed: &mut bool, fields: &[Field])
+/// Prints a line, unless the sink failed before.
+pub(crate) fn say<K: Sink>(out: &mut K, failed: &mut bool, fields: &[Field])
     ensures prints { Prints failed.old failed.new (K.written out.old) (K.written out.new) (line (map field_text fields.now)) }
     ensures failed { FailsWhereItRose failed.old failed.new (K.faults out.old) (K.faults out.new) }
     ensures later { K.faults out.old ≤ K.faults out.new }

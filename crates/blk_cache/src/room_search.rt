@@ -87,8 +87,8 @@ fn in_front<F: Folder>(
     }
 }
 
-// The record of a node, by one folder call.
-fn record_of<F: Folder>(f: &mut F, files: &BlockFiles, node: Addr) -> Result<Addr, Fault>
+/// The record of a node, by one folder call.
+pub(crate) fn record_of<F: Folder>(f: &mut F, files: &BlockFiles, node: Addr) -> Result<Addr, Fault>
     requires stands { IsTrue (is_node_among files.now node) }
     ensures record_is { IfOk result (λ entry. ForSome (F.told f.old).files (λ image. entry ≡ (node_at image node).contents)) }
     ensures stands { IfOk result (λ entry. IsTrue (is_record_among files.now entry)) }

@@ -1,47 +1,155 @@
-// Commands with their notes.
-ghost use Rattle.std.specs.Prelude.{◌≡◌, ◌≤◌, ◌+◌, ◌∷◌, [], IfOk, None, OnErr, OnOk};
-ghost use Rattle.std.specs.Option.{ForSome};
+// Commands with their notes, and what they print.
+ghost use Rattle.std.specs.Prelude.{◌≡◌, ◌≢◌, ◌≤◌, ◌+◌, ◌∷◌, ◌++◌, [], IfOk, IfSome, None, OnErr, OnOk, Some, is_some, position, true};
+ghost use Rattle.std.specs.Option.{ForSome, option_map};
 ghost use Rattle.blk_image.specs.Steps.{Note};
 ghost use Rattle.blk_image.specs.Told.{Applies, Rises, Stays};
 ghost use Rattle.blk_io.specs.Faults.{IfDamaged, IfDevice};
-ghost use Rattle.blk_model.specs.Request.{to_open};
+ghost use Rattle.blk_io.specs.Streams.{Appends};
+ghost use Rattle.blk_model.specs.Reply.{answer_of, answered};
+ghost use Rattle.blk_model.specs.Request.{request_of, to_close};
+ghost use Rattle.blk_model.specs.Step.{step};
 ghost use Rattle.blk_disk.specs.Open.{IsOpen};
-ghost use Rattle.blk_kept.specs.Commands.{Does, ForKept, IsNoted, IsStepped, note_number};
+ghost use Rattle.blk_kept.specs.Commands.{Does, ForKept, IsNoted, IsStepped, MayStopAtEach, note_number};
+ghost use Rattle.blk_script.specs.Reply.{reply_text};
 ghost use Rattle.blk_cache.specs.CacheKeeping.{KeepsState};
 ghost use Rattle.blk_cache.specs.CommandClauses.{IsRefused, KeepsAny, OnlyNotesChange};
+ghost use Rattle.blk_cache.specs.RoomPrinting.{FailsWhereItRose, Prints};
+ghost use Rattle.blk_cache.specs.Stepping.{HasLine, IfDone, IfSink, IfStepDamaged, IfStepDevice, IsBuilt, SaysEvicted, SaysFront, evicted_first, outcome_text};
 
 use crate::cache::Cache;
-use blk_io::{Fault, Folder};
-use blk_model::Answer;
+use crate::fault::StepFault;
+use blk_io::{Fault, Folder, Sink};
+use blk_model::{Answer, Command};
+use blk_script::print_reply;
 
 impl Cache {
-    /// Does an Open, and notes that one command more is done.
-    pub(crate) fn step_open<F: Folder>(
+    /// Does one command at a moment, in microseconds since 1970 UTC: what it evicts is printed as it goes, all is written,
+    /// it is noted that one command more is done, and then the reply is printed.
+    ///
+    /// A refusal is an answer, and changes nothing; its note is made too.
+    ///
+    /// # Errors
+    ///
+    /// `Sink` where the sink failed in this call: the command is done all the same, and noted. `Device` where the folder
+    /// failed, and `Damaged` where it tells nothing and a check failed: then nothing is promised of the cache but that it
+    /// may be let go, and the folder may be opened again.
+    pub fn step<F: Folder, K: Sink>(
         &mut self,
         f: &mut F,
-        handle: u16,
-        key: &[u8],
+        out: &mut K,
         moment: u64,
-    ) -> Result<Answer, Fault>
+        command: &Command,
+    ) -> Result<Answer, StepFault>
         requires is_open { ForSome (F.told f.old).files (IsOpen self.old.files) }
-        ensures does { IfOk result (λ answer. Does (KeepsState self.old) (KeepsState self.new) (F.told f.old) (F.told f.new) moment (to_open handle key.now) answer) }
+        requires built { IsBuilt (request_of command.now) }
 
-        // It is made in part with no note, or it is done and the note is last; the second where it succeeds.
-        ensures stepped { ForKept (KeepsState self.old) (F.told f.old) (IsStepped (F.told f.old) (F.told f.new) moment (to_open handle key.now) (note_number (self.old.notes + 1))) }
-        ensures noted { OnOk result (ForKept (KeepsState self.old) (F.told f.old) (IsNoted (F.told f.old) (F.told f.new) moment (to_open handle key.now) (note_number (self.old.notes + 1)))) }
-        ensures counts { OnOk result (self.new.notes ≡ note_number (self.old.notes + 1)) }
+        // The answer is the map's, and the state after it is kept, also where only the sink failed.
+        ensures answered { IfOk result (λ answer. ForKept (KeepsState self.old) (F.told f.old) (λ state. answer ≡ answer_of (step state moment (request_of command.now)).reply)) }
+        ensures kept { IfDone result (ForKept (KeepsState self.old) (F.told f.old) (λ state. ForSome (F.told f.new).files (KeepsState self.new (step state moment (request_of command.now)).state))) }
+
+        // It is made in part with no note, or it is done and the note is last; the second where it is done.
+        ensures stepped { ForKept (KeepsState self.old) (F.told f.old) (IsStepped (F.told f.old) (F.told f.new) moment (request_of command.now) (note_number (self.old.notes + 1))) }
+        ensures noted { IfDone result (ForKept (KeepsState self.old) (F.told f.old) (IsNoted (F.told f.old) (F.told f.new) moment (request_of command.now) (note_number (self.old.notes + 1)))) }
+        ensures counts { IfDone result (self.new.notes ≡ note_number (self.old.notes + 1)) }
 
         // A refused one makes its note alone.
         ensures alone { IfOk result (λ answer. IsRefused answer → Applies (F.told f.old) (F.told f.new) (Note (note_number (self.old.notes + 1)) ∷ [])) }
 
-        ensures is_open { ForSome (F.told f.new).files (IsOpen self.new.files) }
+        // What it evicts is printed, and then the reply; where there is no answer, a front of it, and no reply where the folder failed.
+        ensures printed { OnOk result (ForKept (KeepsState self.old) (F.told f.old) (λ state. K.written out.new ≡ option_map (λ w. w ++ outcome_text (step state moment (request_of command.now))) (K.written out.old))) }
+        ensures front { ForKept (KeepsState self.old) (F.told f.old) (λ state. Appends (K.written out.old) (K.written out.new) (outcome_text (step state moment (request_of command.now)))) }
+        ensures unanswered { IfStepDevice result (SaysFront self.old (F.told f.old) moment (request_of command.now) (K.written out.old) (K.written out.new)) }
+
+        ensures is_open { IfDone result (ForSome (F.told f.new).files (IsOpen self.new.files)) }
+        ensures untold { ForSome (F.told f.old).files (KeepsAny self.old) → IfStepDamaged result (λ _. (F.told f.old).files ≡ None) }
+        ensures later { F.faults f.old ≤ F.faults f.new }
+        ensures printed_later { K.faults out.old ≤ K.faults out.new }
+        ensures device { IfStepDevice result (Rises (F.faults f.old) (F.faults f.new)) }
+        ensures sink { IfSink result (Rises (K.faults out.old) (K.faults out.new)) }
+    {
+        let mut failed = false;
+        let answer = self.perform(f, out, &mut failed, moment, command)?;
+        self.note(f)?;
+        reply(out, &mut failed, &answer);
+        if failed {
+            Err(StepFault::Sink)
+        } else {
+            Ok(answer)
+        }
+    }
+
+    /// Does the Close of the least handle name that is bound, and notes it; nothing is printed. It answers whether a name
+    /// was bound; where none was, nothing is done.
+    ///
+    /// # Errors
+    ///
+    /// As `step`.
+    pub fn close_next<F: Folder>(&mut self, f: &mut F, moment: u64) -> Result<bool, Fault>
+        requires is_open { ForSome (F.told f.old).files (IsOpen self.old.files) }
+        ensures bound { IfOk result (λ closed. closed ≡ is_some (position is_some self.old.handles)) }
+
+        // Where a name is bound its Close is done, and noted.
+        ensures does { IfOk result (λ _. IfSome (position is_some self.old.handles) (λ handle. Does (KeepsState self.old) (KeepsState self.new) (F.told f.old) (F.told f.new) moment (to_close handle) Answer.Done)) }
+        ensures stepped { IfSome (position is_some self.old.handles) (λ handle. ForKept (KeepsState self.old) (F.told f.old) (IsStepped (F.told f.old) (F.told f.new) moment (to_close handle) (note_number (self.old.notes + 1)))) }
+        ensures noted { OnOk result (IfSome (position is_some self.old.handles) (λ handle. ForKept (KeepsState self.old) (F.told f.old) (IsNoted (F.told f.old) (F.told f.new) moment (to_close handle) (note_number (self.old.notes + 1))))) }
+        ensures counts { OnOk result (IfSome (position is_some self.old.handles) (λ _. self.new.notes ≡ note_number (self.old.notes + 1))) }
+
+        // Where none is, nothing is done.
+        ensures nothing { position is_some self.old.handles ≡ None → Stays (F.told f.old) (F.told f.new) }
+        ensures unchanged { position is_some self.old.handles ≡ None → self.new ≡ self.old }
+
+        ensures is_open { OnOk result (ForSome (F.told f.new).files (IsOpen self.new.files)) }
         ensures untold { ForSome (F.told f.old).files (KeepsAny self.old) → IfDamaged result (λ _. (F.told f.old).files ≡ None) }
         ensures later { F.faults f.old ≤ F.faults f.new }
         ensures device { IfDevice result (Rises (F.faults f.old) (F.faults f.new)) }
     {
-        let answer = self.open(f, handle, key, moment)?;
+        let Some(handle) = self.handles.least_name() else {
+            return Ok(false);
+        };
+        self.close(f, handle)?;
         self.note(f)?;
-        Ok(answer)
+        Ok(true)
+    }
+
+    /// Whether a handle name is bound: `close_next` has one to close.
+    pub fn has_names(&self) -> bool
+        ensures { result ≡ is_some (position is_some self.now.handles) }
+    {
+        self.handles.least_name().is_some()
+    }
+
+    // Does a command but for its note and its reply.
+    fn perform<F: Folder, K: Sink>(
+        &mut self,
+        f: &mut F,
+        out: &mut K,
+        failed: &mut bool,
+        moment: u64,
+        command: &Command,
+    ) -> Result<Answer, Fault>
+        requires is_open { ForSome (F.told f.old).files (IsOpen self.old.files) }
+        requires built { IsBuilt (request_of command.now) }
+        ensures does { IfOk result (λ answer. Does (KeepsState self.old) (KeepsState self.new) (F.told f.old) (F.told f.new) moment (request_of command.now) answer) }
+        ensures stops { MayStopAtEach (KeepsState self.old) (F.told f.old) (F.told f.new) moment (request_of command.now) }
+        ensures says { OnOk result (SaysEvicted self.old (F.told f.old) moment (request_of command.now) failed.old failed.new (K.written out.old) (K.written out.new)) }
+        ensures front { SaysFront self.old (F.told f.old) moment (request_of command.now) (K.written out.old) (K.written out.new) }
+        ensures failed { FailsWhereItRose failed.old failed.new (K.faults out.old) (K.faults out.new) }
+        ensures quiet { IfOk result (λ answer. IsRefused answer → Stays (F.told f.old) (F.told f.new)) }
+        ensures has_line { IfOk result HasLine }
+        ensures notes { self.new.notes ≡ self.old.notes }
+        ensures is_open { OnOk result (ForSome (F.told f.new).files (IsOpen self.new.files)) }
+        ensures untold { ForSome (F.told f.old).files (KeepsAny self.old) → IfDamaged result (λ _. (F.told f.old).files ≡ None) }
+        ensures later { F.faults f.old ≤ F.faults f.new }
+        ensures printed_later { K.faults out.old ≤ K.faults out.new }
+        ensures device { IfDevice result (Rises (F.faults f.old) (F.faults f.new)) }
+    {
+        match *command {
+            Command::Create { handle, key } => self.create(f, out, failed, handle, key, moment),
+            Command::Open { handle, key } => self.open(f, handle, key, moment),
+            Command::Close { handle } => self.close(f, handle),
+            Command::Total => Ok(self.total()),
+            _ => unreachable!(),
+        }
     }
 
     // Notes that one command more is done.
@@ -61,4 +169,17 @@ impl Cache {
             Err(_) => Err(Fault::Device),
         }
     }
+}
+
+// Prints the line of an answer, unless the sink failed before.
+fn reply<K: Sink>(out: &mut K, failed: &mut bool, answer: &Answer)
+    requires has_line { HasLine answer.now }
+    ensures prints { Prints failed.old failed.new (K.written out.old) (K.written out.new) (reply_text (answered answer.now)) }
+    ensures failed { FailsWhereItRose failed.old failed.new (K.faults out.old) (K.faults out.new) }
+    ensures later { K.faults out.old ≤ K.faults out.new }
+{
+    if *failed {
+        return;
+    }
+    *failed = print_reply(out, answer).is_err();
 }

@@ -1,0 +1,87 @@
+-- What a step of a cache owes: one command, with what it prints and its note.
+use Rattle.std.specs.Prelude.{◌≡◌, ◌≢◌, ℕ, Bool, List, ◌++◌, Result, Ok, Err}
+use Rattle.std.specs.declared.option.Option.{Option}
+use Rattle.blk_image.specs.Told.{Told}
+use Rattle.blk_io.specs.Streams.{Appends}
+use Rattle.blk_io.specs.declared.fault.Damage.{Damage}
+use Rattle.blk_io.specs.declared.fault.Fault.{Fault}
+use Rattle.blk_io.specs.declared.fault.Fault.TheVariants as fault
+use Rattle.blk_model.specs.Request.{Request, to_close, to_create, to_open, to_total}
+use Rattle.blk_model.specs.State.{State}
+use Rattle.blk_model.specs.Step.{Outcome, step}
+use Rattle.blk_model.specs.declared.Answer.{Answer}
+use Rattle.blk_model.specs.declared.Answer.TheVariants as answer
+use Rattle.blk_kept.specs.Commands.{ForKept}
+use Rattle.blk_script.specs.Reply.{evicted_text, reply_text}
+use Rattle.blk_cache.specs.declared.cache.Cache.{Cache}
+use Rattle.blk_cache.specs.declared.fault.StepFault.{StepFault}
+use Rattle.blk_cache.specs.declared.fault.StepFault.TheVariants as step_fault
+use Rattle.blk_cache.specs.CacheKeeping.{KeepsState}
+use Rattle.blk_cache.specs.RoomPrinting.{Prints}
+
+-- Texts.
+
+-- the lines of what a command evicts, one for each item
+abbrev pub evicted_first : Outcome → List ℕ
+evicted_first outcome = evicted_text outcome.groups
+
+-- the text of a command: the lines of what it evicts, and then its reply
+abbrev pub outcome_text : Outcome → List ℕ
+outcome_text outcome = evicted_first outcome ++ reply_text outcome.reply
+
+-- what a command evicts was printed, unless the sink failed, whatever state was kept before
+abbrev pub SaysEvicted : Cache → Told → (moment : ℕ) → Request → (failed_before failed : Bool) → (old new : Option (List ℕ)) → Type 0
+SaysEvicted cache told moment request failed_before failed old new = ForKept (KeepsState cache) told (λ state. Prints failed_before failed old new (evicted_first (step state moment request)))
+
+-- a front of it was printed
+abbrev pub SaysFront : Cache → Told → (moment : ℕ) → Request → (old new : Option (List ℕ)) → Type 0
+SaysFront cache told moment request old new = ForKept (KeepsState cache) told (λ state. Appends old new (evicted_first (step state moment request)))
+
+-- Answers.
+
+-- a fault of a call on the folder as one of a step
+abbrev pub of_step_fault : Fault → StepFault
+of_step_fault fault.Device = step_fault.Device
+of_step_fault (fault.Damaged damage) = step_fault.Damaged damage
+
+-- where the command is done, this holds: it is answered, or only the sink failed
+abbrev pub IfDone : {A : Type 0} → Result A StepFault → Type 0 → Type 0
+IfDone (Ok a) P = P
+IfDone (Err step_fault.Sink) P = P
+IfDone (Err step_fault.Device) P = Unit {0}
+IfDone (Err (step_fault.Damaged damage)) P = Unit {0}
+
+-- where the answer is that the sink failed, this holds
+abbrev pub IfSink : {A : Type 0} → Result A StepFault → Type 0 → Type 0
+IfSink (Err step_fault.Sink) P = P
+IfSink (Err step_fault.Device) P = Unit {0}
+IfSink (Err (step_fault.Damaged damage)) P = Unit {0}
+IfSink (Ok a) P = Unit {0}
+
+-- where it is that the folder failed
+abbrev pub IfStepDevice : {A : Type 0} → Result A StepFault → Type 0 → Type 0
+IfStepDevice (Err step_fault.Device) P = P
+IfStepDevice (Err step_fault.Sink) P = Unit {0}
+IfStepDevice (Err (step_fault.Damaged damage)) P = Unit {0}
+IfStepDevice (Ok a) P = Unit {0}
+
+-- where it is a damage, the damage is so
+abbrev pub IfStepDamaged : {A : Type 0} → Result A StepFault → (Damage → Type 0) → Type 0
+IfStepDamaged (Err (step_fault.Damaged damage)) P = P damage
+IfStepDamaged (Err step_fault.Device) P = Unit {0}
+IfStepDamaged (Err step_fault.Sink) P = Unit {0}
+IfStepDamaged (Ok a) P = Unit {0}
+
+-- Until the other commands are built.
+
+-- a cache does this command
+abbrev pub IsBuilt : Request → Type 0
+IsBuilt (to_create handle key) = Unit {0}
+IsBuilt (to_open handle key) = Unit {0}
+IsBuilt (to_close handle) = Unit {0}
+IsBuilt to_total = Unit {0}
+IsBuilt _ = ⊥
+
+-- an answer has a line of its own
+abbrev pub HasLine : Answer → Type 0
+HasLine given = (n : ℕ) → given ≢ answer.Bytes n
