@@ -1,24 +1,33 @@
 -- Objects that handles name lie apart from an item that isn't pinned.
 use Rattle.std.proofs.Common.{◌≡◌, ℕ, Bool, true, false, List, [], ◌∷◌, Option, Some, None, refl, sym, ap, ◌∙◌}
-use Rattle.std.specs.Prelude.{◌==◌, if◌then◌else◌}
+use Rattle.std.specs.Prelude.{◌==◌, filter, if◌then◌else◌, not}
 use Rattle.std.specs.Option.{option_and_then, option_map_or}
-use Rattle.std.proofs.lemmas.Bool.{eqb-true}
+use Rattle.std.proofs.Common.{⊎_elim}
+use Rattle.std.specs.Str.{bytes_eq}
+use Rattle.std.proofs.lemmas.Bool.{and_parts, cases_Bool, eqb-true}
 use Rattle.blk_image.specs.Image.{Image}
 use Rattle.blk_image.proofs.Runs.{some_inj}
-use Rattle.blk_model.specs.Items.{Item, main}
+use Rattle.blk_model.specs.Items.{Item, key_of, main, part}
 use Rattle.blk_model.specs.Room.{Group, is_pinned, left_of, without}
 use Rattle.blk_model.specs.State.{Object, State, is_named, live_with, object_at}
 use Rattle.blk_model.proofs.Evicted.{map_at}
+use Rattle.blk_model.proofs.Same.{same_bytes}
 use Rattle.blk_format.specs.BlockFiles.{is_among}
-use Rattle.blk_volume.specs.Layout.{IsDoomedAt, is_in, is_listed, order}
+use Rattle.blk_volume.specs.Layout.{IsDoomedAt, Layout, is_in, is_listed, order}
 use Rattle.blk_volume.specs.ListView.{put}
+use Rattle.blk_volume.specs.Loads.{Loaded}
+use Rattle.blk_volume.specs.Removal.{is_of_another}
+use Rattle.blk_kept.specs.GroupLaws.{gone_nodes, layout_less}
+use Rattle.blk_kept.specs.Keeping.{KeepsUncounted}
+use Rattle.blk_kept.specs.RemovalLaws.{layout_removed}
+use Rattle.blk_laws.proofs.commands.Removing.{in-filter}
 use Rattle.blk_laws.proofs.states.Changing.{same-place}
-use Rattle.blk_laws.proofs.states.Laid.{is_among-node}
+use Rattle.blk_laws.proofs.states.Laid.{IsNodeOf, is_among-node, node-of}
 use Rattle.blk_laws.proofs.states.Settling.{main-listed, main-owned}
 use Rattle.blk_cache.specs.declared.cache.Cache.{Cache}
 use Rattle.blk_cache.specs.CacheKeeping.{KeepsState, node_of_object}
-use Rattle.blk_cache.specs.RoomKept.{NamedObjectsLieApart}
-use Rattle.blk_cache.specs.RoomLaws.{group_for}
+use Rattle.blk_cache.specs.RoomKept.{NamedObjectsLieApart, NamedObjectsStay, WholeGroupsLieApart}
+use Rattle.blk_cache.specs.RoomLaws.{IsLastUnpinned, group_for}
 use Rattle.blk_cache.proofs.RoomGroups.{loose-for}
 use Rattle.blk_cache.proofs.RoomKept.{named-stays}
 use Rattle.blk_cache.proofs.RoomLast.{in-middle}
@@ -34,20 +43,20 @@ put-apart {A = A} values place node apart = go (node == place) refl where
   go true e = absurd (apart (eqb-true node place e))
   go false e = refl
 
-module _ (cache : Cache) (state : State) (image : Image) (k : KeepsState cache state image) (item : Item) (listed : is_listed state item ≡ true) (unpinned : is_pinned state [] item ≡ false) where
-  apart : (number : ℕ) (object : Object) → object_at state number ≡ Some object → is_named state number ≡ true → node_of_object k.layout number object ≡ k.layout.place item → ⊥
+module _ (state : State) (layout : Layout) (unlinked : List ℕ) (image : Image) (k : KeepsUncounted state layout unlinked image) (item : Item) (listed : is_listed state item ≡ true) (unpinned : is_pinned state [] item ≡ false) where
+  apart : (number : ℕ) (object : Object) → object_at state number ≡ Some object → is_named state number ≡ true → node_of_object layout number object ≡ layout.place item → ⊥
   apart number object here named node = by object.live refl where
     by : (l : Bool) → object.live ≡ l → ⊥
     by true alive =
-        let at : k.layout.place (main object.key) ≡ k.layout.place item = sym (ap (λ (b : Bool). if b then k.layout.place (main object.key) else k.layout.place_of_doomed number) alive) ∙ node in
-        let same : main object.key ≡ item = same-place state k.layout k.kept.entries.represents.holds.lies (main object.key) item (main-listed state k.kept.entries.valid number object true here alive) listed at in
-        let owner-is : live_with state object.key ≡ Some number = main-owned state k.kept.entries.valid number object true here alive in
+        let at : layout.place (main object.key) ≡ layout.place item = sym (ap (λ (b : Bool). if b then layout.place (main object.key) else layout.place_of_doomed number) alive) ∙ node in
+        let same : main object.key ≡ item = same-place state layout k.represents.holds.lies (main object.key) item (main-listed state k.valid number object true here alive) listed at in
+        let owner-is : live_with state object.key ≡ Some number = main-owned state k.valid number object true here alive in
         let pinned : is_pinned state [] (main object.key) ≡ true = ap (λ (o : Option ℕ). option_map_or (is_named state) o false) owner-is ∙ named in
         clash (sym pinned ∙ ap (is_pinned state []) same ∙ unpinned)
     by false dead =
-        let d : IsDoomedAt state k.layout number object = k.kept.entries.represents.holds.lies.doomed_objects number object here dead in
-        let at : k.layout.place_of_doomed number ≡ k.layout.place item = sym (ap (λ (b : Bool). if b then k.layout.place (main object.key) else k.layout.place_of_doomed number) dead) ∙ node in
-        clash (sym (is_among-node k.layout state.uses item listed) ∙ ap (is_among (order state k.layout)) (sym at) ∙ d.unlisted)
+        let d : IsDoomedAt state layout number object = k.represents.holds.lies.doomed_objects number object here dead in
+        let at : layout.place_of_doomed number ≡ layout.place item = sym (ap (λ (b : Bool). if b then layout.place (main object.key) else layout.place_of_doomed number) dead) ∙ node in
+        clash (sym (is_among-node layout state.uses item listed) ∙ ap (is_among (order state layout)) (sym at) ∙ d.unlisted)
 
 -- what was there, of an object that is left
 was-there : (state : State) (group : Group) (number : ℕ) (object : Object) → object_at (without (group ∷ []) state) number ≡ Some object → (was : Object) × (object_at state number ≡ Some was)
@@ -63,12 +72,57 @@ named-as-before : (state : State) (group : Group) (number : ℕ) → is_named (w
 unfolding without
 named-as-before state group number named = named
 
-pub lie-apart : NamedObjectsLieApart
-lie-apart cache state image front item behind contents k is number object here named =
+-- where an item goes alone
+pub alone-apart : (state : State) (layout : Layout) (unlinked : List ℕ) (image : Image) (front : List Item) (item : Item) (behind : List Item) (contents : ℕ) → KeepsUncounted state layout unlinked image → IsLastUnpinned state [] front item behind
+    → NamedObjectsStay (without (group_for item front ∷ []) state) layout (layout_removed layout (layout.place item) contents)
+alone-apart state layout unlinked image front item behind contents k is number object here named =
     let listed : is_listed state item ≡ true = ap (λ (l : List Item). is_in l item) is.listed ∙ in-middle front item behind in
     let w = was-there state (group_for item front) number object here in
     let was_named = named-as-before state (group_for item front) number named in
-    let shrunk = named-stays state k.kept.entries.valid (group_for item front) (loose-for (is_pinned state []) item front is.unpinned) number w.0 w.1 was_named in
+    let shrunk = named-stays state k.valid (group_for item front) (loose-for (is_pinned state []) item front is.unpinned) number w.0 w.1 was_named in
     let same = some_inj (sym here ∙ shrunk) in
-    let off : node_of_object k.layout number object ≡ k.layout.place item → ⊥ = λ e. apart cache state image k item listed is.unpinned number w.0 w.1 was_named (sym (ap (node_of_object k.layout number) same) ∙ e) in
-    (refl, put-apart k.layout.at (k.layout.place item) (node_of_object k.layout number object) off)
+    let off : node_of_object layout number object ≡ layout.place item → ⊥ = λ e. apart state layout unlinked image k item listed is.unpinned number w.0 w.1 was_named (sym (ap (node_of_object layout number) same) ∙ e) in
+    (refl, put-apart layout.at (layout.place item) (node_of_object layout number object) off)
+
+pub lie-apart : NamedObjectsLieApart
+lie-apart cache state image front item behind contents k is = alone-apart state k.layout [] image front item behind contents k.kept.entries is
+
+-- ---- whole objects
+
+-- what lies at a node that doesn't go is as it was
+stays-at : (at : ℕ → Option Loaded) (gone : List ℕ) (node : ℕ) → is_among gone node ≡ false → (if is_among gone node then None else at node) ≡ at node
+stays-at at gone node off = ap (λ (b : Bool). if b then None else at node) off
+
+not-not : (b : Bool) → not (not b) ≡ true → b ≡ true
+not-not true e = refl
+not-not false e = e
+
+module _ (state : State) (layout : Layout) (unlinked : List ℕ) (image : Image) (front : List Item) (key : List ℕ) (behind : List Item) (k : KeepsUncounted state layout unlinked image) (is : IsLastUnpinned state [] front (main key) behind) where
+  -- no item of the key is pinned
+  its-unpinned : (item : Item) → key_of item ≡ key → is_pinned state [] item ≡ false
+  its-unpinned (main other) same = ap (λ (x : List ℕ). is_pinned state [] (main x)) same ∙ is.unpinned
+  its-unpinned (part other n) same = refl
+
+  off-gone : (number : ℕ) (object : Object) → object_at state number ≡ Some object → is_named state number ≡ true → is_among (gone_nodes state layout (is_of_another key)) (node_of_object layout number object) ≡ false
+  off-gone number object here named = ⊎_elim
+      (λ (e : is_among (gone_nodes state layout (is_of_another key)) (node_of_object layout number object) ≡ true).
+      let a : IsNodeOf layout (filter (λ item. not (is_of_another key item)) state.uses) (node_of_object layout number object) = node-of layout (filter (λ item. not (is_of_another key item)) state.uses) (node_of_object layout number object) e in
+      let both = and_parts (not (is_of_another key a.item)) (is_in state.uses a.item) (sym (in-filter (λ item. not (is_of_another key item)) state.uses a.item) ∙ a.among) in
+      let same : key ≡ key_of a.item = same_bytes key (key_of a.item) (not-not (bytes_eq key (key_of a.item)) both.0) in
+      absurd (apart state layout unlinked image k a.item both.1 (its-unpinned a.item (sym same)) number object here named (sym a.is)))
+      (λ (e : is_among (gone_nodes state layout (is_of_another key)) (node_of_object layout number object) ≡ false). e)
+      (cases_Bool (is_among (gone_nodes state layout (is_of_another key)) (node_of_object layout number object)))
+
+-- where a whole object goes
+pub key-apart : (state : State) (layout : Layout) (unlinked : List ℕ) (image : Image) (front : List Item) (key : List ℕ) (behind : List Item) (chains : ℕ → List ℕ) → KeepsUncounted state layout unlinked image → IsLastUnpinned state [] front (main key) behind
+    → NamedObjectsStay (without (group_for (main key) front ∷ []) state) layout (layout_less layout (gone_nodes state layout (is_of_another key)) chains)
+key-apart state layout unlinked image front key behind chains k is number object here named =
+    let w = was-there state (group_for (main key) front) number object here in
+    let was_named = named-as-before state (group_for (main key) front) number named in
+    let shrunk = named-stays state k.valid (group_for (main key) front) (loose-for (is_pinned state []) (main key) front is.unpinned) number w.0 w.1 was_named in
+    let same = some_inj (sym here ∙ shrunk) in
+    let off : is_among (gone_nodes state layout (is_of_another key)) (node_of_object layout number object) ≡ false = ap (λ (o : Object). is_among (gone_nodes state layout (is_of_another key)) (node_of_object layout number o)) same ∙ off-gone state layout unlinked image front key behind k is number w.0 w.1 was_named in
+    (refl, stays-at layout.at (gone_nodes state layout (is_of_another key)) (node_of_object layout number object) off)
+
+pub whole-apart : WholeGroupsLieApart
+whole-apart cache state image front key behind chains k is = key-apart state k.layout [] image front key behind chains k.kept.entries is

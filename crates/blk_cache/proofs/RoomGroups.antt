@@ -95,7 +95,7 @@ one-shortest enough group groups e =
     let more = done-first enough (group ∷ []) groups in
     (more.0, ap (λ (b : Bool). cond b [] (shortest enough (group ∷ []) groups)) e ∙ more.1)
 
-without-none : (state : State) → without [] state ≡ state
+pub without-none : (state : State) → without [] state ≡ state
 unfolding without
 without-none state = refl
 

@@ -126,7 +126,7 @@ evicted-kept state front item behind there old new from image k is gone =
     let fewer_bytes = gone.fewer.bytes_less in
     let items_were = k.items_are in
     let bytes_were = k.bytes_are in
-    record {
+    record { layout_is = refl; kept = record {
       layout = there;
       kept = gone.kept;
       limits = limits-left state (group_for item front) ∙ k.limits ∙ ap bounds_of (sym gone.fewer.limits);
@@ -139,4 +139,4 @@ evicted-kept state front item behind there old new from image k is gone =
           (subst (λ (bs : Bindings). IsBoundAs state k.layout (named_by state name) (binding_of bs name)) (sym gone.fewer.handles) (k.names name)));
       files = gone.files;
       mark = gone.fewer.mark ∙ k.mark ∙ sym gone.session;
-    }
+    } }

@@ -12,3 +12,5 @@ pub mod RoomLaws
 pub mod RoomPrinting
 pub mod RoomSearch
 pub mod RoomKept
+pub mod Evicting
+pub mod MakingRoom

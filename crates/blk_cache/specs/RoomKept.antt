@@ -3,10 +3,12 @@ use Rattle.std.specs.Prelude.{◌≡◌, ℕ, ◌+◌, List, [], ◌∷◌, leng
 use Rattle.std.specs.declared.option.Option.TheVariants.{Some}
 use Rattle.blk_image.specs.Image.{Image, Index, byte}
 use Rattle.blk_format.specs.Headers.{this_id_of}
-use Rattle.blk_model.specs.Items.{Item}
+use Rattle.blk_model.specs.Items.{Item, main}
 use Rattle.blk_model.specs.Room.{Group, items_of_group, without}
 use Rattle.blk_model.specs.State.{Object, State, is_named, object_at}
 use Rattle.blk_volume.specs.Layout.{Layout}
+use Rattle.blk_volume.specs.Removal.{is_of_another}
+use Rattle.blk_kept.specs.GroupLaws.{gone_nodes, layout_less}
 use Rattle.blk_kept.specs.Keeping.{Keeps}
 use Rattle.blk_kept.specs.RemovalLaws.{layout_removed}
 use Rattle.blk_disk.specs.Tables.{Agrees}
@@ -37,15 +39,26 @@ pub record IsEvicted (state : State) (group : Group) (layout left : Layout) (old
   pub files : Agrees new.files image
   pub session : this_id_of (byte image Index) ≡ this_id_of (byte from Index)
 
--- then the cache keeps the state without the group, where it is that of the last item that isn't pinned
+-- a cache keeps a state by a layout
+pub record KeepsBy (cache : Cache) (state : State) (layout : Layout) (image : Image) : Type 0 where
+  pub kept : KeepsState cache state image
+  pub layout_is : kept.layout ≡ layout
+
+-- then the cache keeps the state without the group by that layout, where it is the group of the last item that isn't pinned
 abbrev pub EvictedStatesAreKept : Type 0
 EvictedStatesAreKept =
     (state : State) (front : List Item) (item : Item) (behind : List Item) (left : Layout) (old new : Cache) (from image : Image) (k : KeepsState old state from)
     → IsLastUnpinned state [] front item behind → IsEvicted state (group_for item front) k.layout left old new from image
-    → KeepsState new (without (group_for item front ∷ []) state) image
+    → KeepsBy new (without (group_for item front ∷ []) state) left image
 
 -- where an item goes alone that isn't pinned, each object that a handle names lies where it lay
 abbrev pub NamedObjectsLieApart : Type 0
 NamedObjectsLieApart =
     (cache : Cache) (state : State) (image : Image) (front : List Item) (item : Item) (behind : List Item) (contents : ℕ) (k : KeepsState cache state image) → IsLastUnpinned state [] front item behind
     → NamedObjectsStay (without (group_for item front ∷ []) state) k.layout (layout_removed k.layout (k.layout.place item) contents)
+
+-- and so where a whole object goes that no handle names, with its parts
+abbrev pub WholeGroupsLieApart : Type 0
+WholeGroupsLieApart =
+    (cache : Cache) (state : State) (image : Image) (front : List Item) (key : List ℕ) (behind : List Item) (chains : ℕ → List ℕ) (k : KeepsState cache state image) → IsLastUnpinned state [] front (main key) behind
+    → NamedObjectsStay (without (group_for (main key) front ∷ []) state) k.layout (layout_less k.layout (gone_nodes state k.layout (is_of_another key)) chains)

@@ -1,5 +1,5 @@
 //! The laws of room, each the contract of a function with an empty body.
-ghost use Rattle.blk_cache.specs.RoomKept.{EvictedStatesAreKept, NamedObjectsLieApart};
+ghost use Rattle.blk_cache.specs.RoomKept.{EvictedStatesAreKept, NamedObjectsLieApart, WholeGroupsLieApart};
 ghost use Rattle.blk_cache.specs.RoomLaws.{GroupsAreCountedLess, ItemsThatStayArePinnedAsBefore, NamedObjectsArePinned, NothingMoreGoes, PartsAreInFront, RoomIsMade, RoomIsTold, TheLastUnpinnedGoesNext, TheOthersGoFromWhatIsLeft};
 ghost use Rattle.blk_cache.specs.RoomPrinting.{FaultsGoOn, NothingIsPrinted, PrintsGoOn};
 
@@ -33,8 +33,9 @@ pub fn groups_are_counted_less()
 {}
 
 /// Once the group of the last item that isn't pinned is out of the folder, the cache keeps the state without it; where
-/// the item goes alone, the objects that handles name lie where they lay.
+/// the item goes alone, or an object goes with its parts, the objects that handles name lie where they lay.
 pub fn evicted_states_are_kept()
     ensures kept { EvictedStatesAreKept }
     ensures apart { NamedObjectsLieApart }
+    ensures whole { WholeGroupsLieApart }
 {}

@@ -1,0 +1,42 @@
+-- What is evicted where room is made.
+use Rattle.std.proofs.Common.{◌≡◌, ℕ, Bool, true, false, List, [], ◌∷◌, ◌++◌, Option, refl, sym, ap, subst, ◌∙◌}
+use Rattle.std.specs.Prelude.{◌+◌, ◌-◌, ◌/◌, ◌&&◌, ◌||◌, ◌==◌, if◌then◌else◌, nat_le, reverse}
+use Rattle.blk_image.specs.Image.{Image}
+use Rattle.blk_model.specs.Refusals.{evicted_for, is_full}
+use Rattle.blk_model.specs.Room.{Group, Room, after, full, evicted_until, fits, groups_from_back, is_pinned, items, low, room, shortest, total, without}
+use Rattle.blk_model.specs.State.{Bounds, State}
+use Rattle.blk_model.specs.Sizes.{free_share}
+use Rattle.blk_cache.specs.declared.goal.Goal.TheVariants as goal
+use Rattle.blk_cache.specs.Evicting.{IsEvicting, is_met}
+use Rattle.blk_cache.proofs.RoomPins.{room-made}
+
+limits-left : (groups : List Group) (state : State) → (without groups state).limits ≡ state.limits
+unfolding without
+limits-left [] state = refl
+limits-left (group ∷ groups) state = refl
+
+-- the low-water mark is the same, whatever has gone
+met-same : (bytes more : ℕ) (groups : List Group) (state : State) → is_met (goal.Room bytes more) (without groups state) ≡ fits (low state) bytes more (without groups state)
+met-same bytes more groups state = ap (λ (l : Bounds). nat_le (total (without groups state) + bytes) (l.max_bytes - l.max_bytes / free_share) && nat_le (items (without groups state) + more) (without groups state).limits.max_items) (limits-left groups state)
+
+-- so what is evicted until the goal is met is what the map evicts
+pub until-met : (bytes more : ℕ) (state : State) → evicted_until (is_met (goal.Room bytes more)) state [] ≡ evicted_until (fits (low state) bytes more) state []
+unfolding evicted_until
+until-met bytes more state = ap (λ (enough : List Group → Bool). shortest enough [] (groups_from_back (is_pinned state []) (reverse state.uses))) (λ i groups. met-same bytes more groups state i)
+
+-- where there is room and it is wanted, this is evicted
+pub wanted-goes : (state : State) (bytes more : ℕ) → is_full (room state [] bytes more) ≡ false → ((bytes == 0 && more == 0) || fits state.limits.max_bytes bytes more state) ≡ false → evicted_until (is_met (goal.Room bytes more)) state [] ≡ evicted_for (room state [] bytes more)
+wanted-goes state bytes more passes wanted = until-met bytes more state ∙ sym (ap (λ (b : Bool). if b then [] else evicted_until (fits (low state) bytes more) state []) wanted) ∙ sym (room-made state bytes more passes)
+
+-- and where it isn't wanted, nothing
+pub none-goes : (state : State) (bytes more : ℕ) → is_full (room state [] bytes more) ≡ false → ((bytes == 0 && more == 0) || fits state.limits.max_bytes bytes more state) ≡ true → evicted_for (room state [] bytes more) ≡ []
+none-goes state bytes more passes wanted = room-made state bytes more passes ∙ ap (λ (b : Bool). if b then [] else evicted_until (fits (low state) bytes more) state []) wanted
+
+-- nothing is evicted where there is no room
+pub full-none : (state : State) (bytes more : ℕ) → is_full (room state [] bytes more) ≡ true → evicted_for (room state [] bytes more) ≡ []
+full-none state bytes more is = go (room state [] bytes more) is where
+  go : (r : Room) → is_full r ≡ true → evicted_for r ≡ []
+  go full e = refl
+  go (after groups) e = absurd (no e) where
+    no : false ≡ true → ⊥
+    no e = cc

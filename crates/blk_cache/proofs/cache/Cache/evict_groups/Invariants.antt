@@ -1,0 +1,24 @@
+use Rattle.std.proofs.Common.{◌≡◌, ◌≤◌, None, true}
+use Rattle.std.specs.Prelude.{IfSome, IsTrue}
+use Rattle.std.specs.Option.{ForSome}
+use Rattle.blk_model.specs.State.{State}
+use Rattle.blk_disk.specs.Open.{IsOpen}
+use Rattle.blk_disk.specs.Tables.{is_node_among}
+use Rattle.blk_cache.specs.CacheKeeping.{KeepsState}
+use Rattle.blk_cache.specs.Evicting.{OnlyItemsChange, is_met}
+use Rattle.blk_cache.specs.RoomPrinting.{FailsWhereItRose}
+use Rattle.blk_cache.proofs.Evictions.{HasEvicted}
+use Rattle.blk_cache.proofs.cache.Cache.evict_groups.Given as goal
+
+abbrev pub invariant-loop : goal.invariant-loop
+invariant-loop g l = record {
+  stands : IfSome l.behind (λ node. IsTrue (is_node_among l.self.files node));
+  is_open : ForSome (g.F.Folder.told l.f).files (IsOpen l.self.files);
+  others : OnlyItemsChange l.fn.self l.self;
+  silent : (g.F.Folder.told l.fn.f).files ≡ None → (g.F.Folder.told l.f).files ≡ None;
+  later : g.F.Folder.faults l.fn.f ≤ g.F.Folder.faults l.f;
+  sink_later : g.K.Sink.faults l.fn.out ≤ g.K.Sink.faults l.out;
+  quiet : l.fn.failed ≡ true → (l.failed ≡ true) × (g.K.Sink.written l.out ≡ g.K.Sink.written l.fn.out);
+  fails : FailsWhereItRose l.fn.failed l.failed (g.K.Sink.faults l.fn.out) (g.K.Sink.faults l.out);
+  evicted : ForSome (g.F.Folder.told l.fn.f).files (λ image. (state : State) → KeepsState l.fn.self state image → HasEvicted (is_met l.fn.goal) state l.fn.self l.self l.behind l.counter (g.F.Folder.told l.fn.f) (g.F.Folder.told l.f) l.fn.failed l.failed (g.K.Sink.written l.fn.out) (g.K.Sink.written l.out));
+}

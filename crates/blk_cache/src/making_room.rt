@@ -1,0 +1,92 @@
+// Room is made.
+ghost use Rattle.std.specs.Prelude.{◌≡◌, ◌≤◌, ◌&&◌, ◌||◌, ◌==◌, [], IfOk, None, OnOk, true};
+ghost use Rattle.blk_image.specs.Image.{Image};
+ghost use Rattle.std.specs.Option.{ForSome};
+ghost use Rattle.blk_image.specs.Told.{Passes, Rises, Stays};
+ghost use Rattle.blk_io.specs.Faults.{IfDamaged, IfDevice};
+ghost use Rattle.blk_io.specs.Streams.{Appends};
+ghost use Rattle.blk_model.specs.Refusals.{evicted_for, is_full as is_full_room};
+ghost use Rattle.blk_model.specs.Room.{fits, room, without};
+ghost use Rattle.blk_model.specs.State.{State};
+ghost use Rattle.blk_script.specs.Reply.{evicted_text};
+ghost use Rattle.blk_disk.specs.Open.{IsOpen};
+ghost use Rattle.blk_kept.specs.Commands.{ForKept};
+ghost use Rattle.blk_cache.specs.CacheKeeping.{KeepsState};
+ghost use Rattle.blk_cache.specs.CommandClauses.{KeepsAny};
+ghost use Rattle.blk_cache.specs.Evicting.{IsEvicting, OnlyItemsChange};
+ghost use Rattle.blk_cache.specs.MakingRoom.{says_full};
+ghost use Rattle.blk_cache.specs.RoomPrinting.{FailsWhereItRose, Prints};
+
+use crate::cache::Cache;
+use crate::goal::Goal;
+use blk_io::{Fault, Folder, Sink};
+
+/// Whether there is room for what a command adds.
+#[derive(Clone, Copy, Debug, PartialEq, Eq)]
+pub(crate) enum Room {
+    /// The open objects and what is added exceed a limit.
+    Full,
+    /// There is room, and what had to go for it is evicted.
+    Made,
+}
+
+impl Cache {
+    /// Makes room for so many more bytes and items, where there can be room, and prints what is evicted for it. No part
+    /// is covered.
+    ///
+    /// Nothing is evicted where they fit, or nothing is asked for; and whether there can be room is told by what is kept
+    /// in memory. After a fault nothing is promised of the cache but that it may be let go.
+    pub(crate) fn make_room<F: Folder, K: Sink>(
+        &mut self,
+        f: &mut F,
+        out: &mut K,
+        failed: &mut bool,
+        bytes: u64,
+        items: u64,
+    ) -> Result<Room, Fault>
+        requires is_open { ForSome (F.told f.old).files (IsOpen self.old.files) }
+
+        // There is no room exactly where the map has none; then nothing is done.
+        ensures full { IfOk result (λ answer. ForKept (KeepsState self.old) (F.told f.old) (λ state. says_full answer ≡ is_full_room (room state [] bytes items))) }
+        ensures stays { IfOk result (λ answer. says_full answer ≡ true → Stays (F.told f.old) (F.told f.new)) }
+        ensures unchanged { IfOk result (λ answer. says_full answer ≡ true → self.new ≡ self.old) }
+        ensures unprinted { IfOk result (λ answer. says_full answer ≡ true → K.written out.new ≡ K.written out.old) }
+
+        // Each state that was kept is kept without what is evicted for it, and that is printed.
+        ensures made { OnOk result (ForKept (KeepsState self.old) (F.told f.old) (λ state. ForSome (F.told f.new).files (KeepsState self.new (without (evicted_for (room state [] bytes items)) state)))) }
+        ensures prints { OnOk result (ForKept (KeepsState self.old) (F.told f.old) (λ state. Prints failed.old failed.new (K.written out.old) (K.written out.new) (evicted_text (evicted_for (room state [] bytes items))))) }
+
+        // At each word the first of that are out; on any answer a front of its text was printed.
+        ensures stops { ForKept (KeepsState self.old) (F.told f.old) (λ state. Passes (F.told f.old) (F.told f.new) (IsEvicting (evicted_for (room state [] bytes items)) state)) }
+        ensures front { ForKept (KeepsState self.old) (F.told f.old) (λ state. Appends (K.written out.old) (K.written out.new) (evicted_text (evicted_for (room state [] bytes items)))) }
+
+        // Where the sink failed before nothing is printed.
+        ensures quiet { failed.old ≡ true → (failed.new ≡ true) × (K.written out.new ≡ K.written out.old) }
+        ensures fails { FailsWhereItRose failed.old failed.new (K.faults out.old) (K.faults out.new) }
+        ensures others { OnlyItemsChange self.old self.new }
+        ensures is_open { ForSome (F.told f.new).files (IsOpen self.new.files) }
+
+        // A folder that tells its files gives no damage where the cache keeps a state.
+        ensures untold { ForSome (F.told f.old).files (KeepsAny self.old) → IfDamaged result (λ _. (F.told f.old).files ≡ None) }
+        ensures silent { (F.told f.old).files ≡ None → (F.told f.new).files ≡ None }
+        ensures later { F.faults f.old ≤ F.faults f.new }
+        ensures sink_later { K.faults out.old ≤ K.faults out.new }
+        ensures device { IfDevice result (Rises (F.faults f.old) (F.faults f.new)) }
+    {
+        if self.is_full(bytes, items) {
+            return Ok(Room::Full);
+        }
+        if self.wants_none(bytes, items) {
+            return Ok(Room::Made);
+        }
+        self.evict_until(f, out, failed, &Goal::Room { bytes, items })?;
+        Ok(Room::Made)
+    }
+
+    // Whether nothing is evicted for so many more bytes and items: nothing is asked for, or they fit.
+    fn wants_none(&self, bytes: u64, items: u64) -> bool
+        ensures none { (state : State) (image : Image) → KeepsState self.now state image → result ≡ ((bytes == 0 && items == 0) || fits state.limits.max_bytes bytes items state) }
+    {
+        (bytes == 0 && items == 0) || self.fits(bytes, items)
+    }
+}
