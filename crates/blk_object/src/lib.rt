@@ -3,6 +3,7 @@
 
 mod counters;
 mod counting_laws;
+mod finding_laws;
 mod freeing;
 mod freeing_laws;
 mod listed_parts;
@@ -17,6 +18,7 @@ mod removing_parts;
 
 pub use counters::count_less;
 pub use counting_laws::{left_items_are_counted, parts_go_until_none_is_left};
+pub use finding_laws::left_items_are_found;
 pub use freeing::free_places;
 pub use freeing_laws::freed_words_are_gone;
 pub use listed_parts::{ListedPart, next_part};
