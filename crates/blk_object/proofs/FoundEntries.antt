@@ -24,7 +24,7 @@ use Rattle.blk_entry.specs.Keys.{HasReadableKey, key_at}
 use Rattle.blk_object.specs.RemovingFound.{FoundEntriesLieBehind, KeptStatesCanBeSearched}
 use Rattle.blk_object.proofs.ChainsOut.{among-front}
 
-readable : (image : Image) (w : ℕ) (fields : RecordFields) (key : List ℕ) → (store_of image).entry w ≡ Some fields → is_key_length w fields ≡ true → stored_key (store_of image) w fields ≡ Some key → HasReadableKey w image
+pub readable : (image : Image) (w : ℕ) (fields : RecordFields) (key : List ℕ) → (store_of image).entry w ≡ Some fields → is_key_length w fields ≡ true → stored_key (store_of image) w fields ≡ Some key → HasReadableKey w image
 unfolding key_at store_of
 readable image w fields key here long is = record { key = key; is = rw (here, long) is }
 

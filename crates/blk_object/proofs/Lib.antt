@@ -12,6 +12,7 @@ pub mod ChainsOut
 pub mod TakenItems
 pub mod FreedPlaces
 pub mod FreeingRuns
+pub mod Sessions
 pub mod OwnedPlaces
 pub mod OwnedCharges
 pub mod PlainObjects
@@ -25,3 +26,4 @@ pub mod PartNames
 pub mod WalkedParts
 pub mod PartsLeft
 pub mod PartsFound
+pub mod FoundLeft

@@ -3,6 +3,7 @@
 
 mod counters;
 mod counting_laws;
+mod finding_laws;
 mod freeing;
 mod freeing_laws;
 mod listed_parts;
@@ -12,11 +13,13 @@ mod owning;
 mod owning_laws;
 mod removing;
 mod removing_laws;
+mod removing_mains;
 mod removing_objects;
 mod removing_parts;
 
 pub use counters::count_less;
 pub use counting_laws::{left_items_are_counted, parts_go_until_none_is_left};
+pub use finding_laws::left_items_are_found;
 pub use freeing::free_places;
 pub use freeing_laws::freed_words_are_gone;
 pub use listed_parts::{ListedPart, next_part};
@@ -28,5 +31,6 @@ pub use removing_laws::{
     found_entries_may_go_out, less_is_counted, plain_objects_go_alone, taken_items_are_removed,
     taken_parts_are_out,
 };
+pub use removing_mains::take_main;
 pub use removing_objects::remove_item;
-pub use removing_parts::remove_next;
+pub use removing_parts::remove_part;
