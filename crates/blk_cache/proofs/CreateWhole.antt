@@ -1,6 +1,7 @@
 -- A Create whole: why it is refused, what it evicts, and how the making of its object follows on the making of room.
-use Rattle.std.proofs.Common.{◌≡◌, ℕ, Bool, true, false, List, [], length, Option, Some, None, Result, Ok, Err, refl, sym, ap, subst, ◌∙◌}
+use Rattle.std.proofs.Common.{◌≡◌, ℕ, Bool, true, false, List, [], ◌∷◌, ◌++◌, length, Option, Some, None, Result, Ok, Err, refl, sym, ap, subst, ◌∙◌}
 use Rattle.std.specs.Option.{ForSome, option_map}
+use Rattle.std.specs.Prelude.{IfOk, OnOk}
 use Rattle.blk_image.specs.Image.{Image}
 use Rattle.blk_image.specs.Steps.{after}
 use Rattle.blk_image.specs.Told.{Passes, Told}
@@ -10,27 +11,31 @@ use Rattle.blk_io.specs.Streams.{Appends}
 use Rattle.blk_io.specs.declared.fault.Damage.{Damage}
 use Rattle.blk_io.specs.declared.fault.Fault.{Fault}
 use Rattle.blk_io.specs.declared.fault.Fault.TheVariants as fault
+use Rattle.blk_model.specs.Holding.{rest}
 use Rattle.blk_model.specs.Refusals.{evicted, evicted_for, is_full, no_room, refused, room_for}
 use Rattle.blk_model.specs.Request.{to_create}
 use Rattle.blk_model.specs.Room.{Group, Room, after as makes, full, room, without}
 use Rattle.blk_model.specs.State.{State}
 use Rattle.blk_model.specs.Step.{Outcome, outcome, step}
 use Rattle.blk_model.specs.declared.Answer.{Answer}
+use Rattle.blk_model.specs.declared.Answer.TheVariants as answer
 use Rattle.blk_model.specs.declared.Refusal.{Refusal}
 use Rattle.blk_model.specs.declared.Refusal.TheVariants as refusal
+use Rattle.blk_kept.specs.Changes.{Finds}
 use Rattle.blk_kept.specs.Commands.{Does, ForKept, IsDone, MayStop, MayStopAtEach}
 use Rattle.blk_kept.specs.CommandStates.{with_room}
-use Rattle.blk_kept.proofs.Stopping.{stop-evicted}
+use Rattle.blk_kept.proofs.Stopping.{stop-before, stop-evicted}
 use Rattle.blk_script.specs.Reply.{evicted_text}
 use Rattle.blk_cache.specs.declared.cache.Cache.{Cache}
 use Rattle.blk_cache.specs.CacheKeeping.{KeepsState}
-use Rattle.blk_cache.specs.CommandClauses.{KeepsAny}
+use Rattle.blk_cache.specs.CommandClauses.{IsRefused, KeepsAny}
 use Rattle.blk_cache.specs.Creating.{IsReadyForSome, IsReadyToCreate, create_refusal}
 use Rattle.blk_cache.specs.Evicting.{IsEvicting}
 use Rattle.blk_cache.specs.RoomPrinting.{Prints}
 use Rattle.blk_cache.specs.Stepping.{SaysEvicted, SaysFront}
 use Rattle.blk_cache.proofs.CreateRoom.{wants-one}
-use Rattle.blk_cache.proofs.RoomTexts.{none-printed}
+use Rattle.blk_cache.proofs.RoomGroups.{without-none}
+use Rattle.blk_cache.proofs.RoomTexts.{none-behind, none-printed}
 
 -- ---- answers
 
@@ -83,7 +88,7 @@ module _ (moment handle : ℕ) (key : List ℕ) where
 
     -- nor does what fails before
     pub front-before : SaysFront cache told moment (to_create handle key) old old
-    front-before image there state k = record { front = []; rest = evicted_text (step state moment (to_create handle key)).groups; split = refl; written = (none-printed failed_before old).front.written }
+    front-before image there state k = record { front = []; rest = evicted_text (step state moment (to_create handle key)).groups; split = refl; written = none-behind old }
 
     module _ (is : ForKept (KeepsState cache) told (λ state. refused moment (to_create handle key) state ≡ create_refusal None (no_room moment (to_create handle key) state))) where
       pub made-says : ForKept (KeepsState cache) told (λ state. Prints failed_before failed old new (evicted_text (evicted_for (room state [] (length key) 1)))) → SaysEvicted cache told moment (to_create handle key) failed_before failed old new
@@ -98,27 +103,38 @@ module _ (moment handle : ℕ) (key : List ℕ) where
 pub there-after : (told mid : Told) (P : Image → Type 0) → Passes told mid P → (image : Image) → told.files ≡ Some image → (from : Image) × (mid.files ≡ Some from)
 there-after told mid P p image there = (after p.steps image, p.applies.files ∙ ap (option_map (after p.steps)) there)
 
+full-none : (r : Room) → is_full r ≡ true → evicted_for r ≡ []
+full-none full e = refl
+full-none (makes groups) e = absurd (let z : false ≡ true = e in cc)
+
+first-none : (first others : List Group) → [] ≡ first ++ others → first ≡ []
+first-none [] others e = refl
+first-none (group ∷ first) others e = cc
+
 module _ (cache : Cache) (told mid : Told) (moment handle : ℕ) (key : List ℕ)
     (is : ForKept (KeepsState cache) told (λ state. refused moment (to_create handle key) state ≡ create_refusal None (no_room moment (to_create handle key) state)))
-    (free : ForKept (KeepsState cache) told (λ state. is_full (room state [] (length key) 1) ≡ false))
     (evicting : ForKept (KeepsState cache) told (λ state. Passes told mid (IsEvicting (evicted_for (room state [] (length key) 1)) state))) where
 
-  passes : ForKept (KeepsState cache) told (λ state. refused moment (to_create handle key) state ≡ None)
-  passes image there state k = not-refused moment handle key state (is image there state k) (free image there state k)
+  -- at a word at which room is made it may be stopped
+  room-stop : (image i : Image) (state : State) → told.files ≡ Some image → KeepsState cache state image → IsEvicting (evicted_for (room state [] (length key) 1)) state i → MayStop state moment (to_create handle key) i
+  room-stop image i state there k e = by (is_full (room state [] (length key) 1)) refl where
+    by : (over : Bool) → is_full (room state [] (length key) 1) ≡ over → MayStop state moment (to_create handle key) i
+    by true over =
+        let none : e.first ≡ [] = first-none e.first e.others (sym (full-none (room state [] (length key) 1) over) ∙ e.split) in
+        stop-before state moment (to_create handle key) i k.kept.entries.valid (subst (λ (s : State). Finds (rest s) i) (ap (λ (groups : List Group). without groups state) none ∙ without-none state) e.finds)
+    by false free = stop-evicted state moment (to_create handle key) e.first e.others i k.kept.entries.valid (record { passes = not-refused moment handle key state (is image there state k) free; groups = evicted-is moment handle key state ∙ e.split }) e.finds
 
-  -- at each word at which room is made it may be stopped
   pub room-stops : MayStopAtEach (KeepsState cache) told mid moment (to_create handle key)
   room-stops image there state k =
-      let may : (i : Image) → IsEvicting (evicted_for (room state [] (length key) 1)) state i → MayStop state moment (to_create handle key) i
-      = λ i e. stop-evicted state moment (to_create handle key) e.first e.others i k.kept.entries.valid (record { passes = passes image there state k; groups = evicted-is moment handle key state ∙ e.split }) e.finds in
+      let may : (i : Image) → IsEvicting (evicted_for (room state [] (length key) 1)) state i → MayStop state moment (to_create handle key) i = λ i e. room-stop image i state there k e in
       passes_weaker (evicting image there state k) may may
 
-  module _ (new : Cache) (made : ForKept (KeepsState cache) told (λ state. ForSome mid.files (KeepsState new (without (evicted_for (room state [] (length key) 1)) state)))) where
+  module _ (free : ForKept (KeepsState cache) told (λ state. is_full (room state [] (length key) 1) ≡ false)) (new : Cache) (made : ForKept (KeepsState cache) told (λ state. ForSome mid.files (KeepsState new (without (evicted_for (room state [] (length key) 1)) state)))) where
     -- then the object is to be made
     pub ready : (image from : Image) (state : State) → told.files ≡ Some image → mid.files ≡ Some from → KeepsState cache state image → IsReadyToCreate new state moment handle key from
     ready image from state there here k = record {
       valid = k.kept.entries.valid;
-      passes = passes image there state k;
+      passes = not-refused moment handle key state (is image there state k) (free image there state k);
       kept = subst (λ (groups : List Group). KeepsState new (without groups state) from) (sym (evicted-is moment handle key state)) (made image there state k from here);
     }
 
@@ -151,3 +167,17 @@ module _ (cache : Cache) (told mid : Told) (moment handle : ℕ) (key : List ℕ
           let k = (some image there) in
           let at = there-after told mid (MayStop k.0 moment (to_create handle key)) (room-stops image there k.0 k.1) image there in
           absurd (clash (sym none ∙ at.1))
+
+-- an answer that is none of a refusal
+pub only-done : (r : Result Answer Fault) (P : Type 0) → IfOk r (λ given. given ≡ answer.Done) → IfOk r (λ given. IsRefused given → P)
+only-done (Ok given) P done = λ refused. absurd (subst IsRefused done refused)
+only-done (Err e) P done = tt
+
+-- from one claim of an answer to another
+pub if_ok_weaker : {A : Type 0} (r : Result A Fault) {P Q : A → Type 0} → ((a : A) → P a → Q a) → IfOk r P → IfOk r Q
+if_ok_weaker (Ok a) weaker holds = weaker a holds
+if_ok_weaker (Err e) weaker holds = tt
+
+pub on-ok : {A : Type 0} (r : Result A Fault) (P : Type 0) → P → OnOk r P
+on-ok (Ok a) P holds = holds
+on-ok (Err e) P holds = tt

@@ -5,7 +5,7 @@ use Rattle.blk_io.specs.Streams.{Appends}
 use Rattle.blk_cache.specs.RoomPrinting.{FaultsGoOn, NothingIsPrinted, Prints, PrintsGoOn}
 
 -- nothing is at the end
-none-behind : (old : Option (List ℕ)) → old ≡ option_map (λ (w : List ℕ). w ++ []) old
+pub none-behind : (old : Option (List ℕ)) → old ≡ option_map (λ (w : List ℕ). w ++ []) old
 none-behind None = refl
 none-behind (Some w) = ap Some (sym (append-nil w))
 

@@ -60,3 +60,4 @@ pub record CountsOneMore (old new : Cache) (charge : ℕ) : Type 0 where
   pub limits : new.limits ≡ old.limits
   pub files : new.files ≡ old.files
   pub mark : new.mark ≡ old.mark
+  pub notes : new.notes ≡ old.notes

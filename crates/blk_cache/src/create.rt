@@ -7,7 +7,7 @@ ghost use Rattle.blk_model.specs.Effects.{created};
 ghost use Rattle.blk_model.specs.Holding.{rest};
 ghost use Rattle.blk_model.specs.Refusals.{no_room, refused};
 ghost use Rattle.blk_model.specs.Request.{to_create};
-ghost use Rattle.blk_model.specs.Sizes.{handle_names};
+ghost use Rattle.blk_model.specs.Sizes.{handle_names, longest_key};
 ghost use Rattle.blk_model.specs.State.{State};
 ghost use Rattle.blk_model.specs.declared.Answer.TheVariants as answer;
 ghost use Rattle.blk_disk.specs.Open.{IsOpen};
@@ -92,7 +92,7 @@ impl Cache {
         moment: u64,
     ) -> Result<Answer, Fault>
         requires some { 1 ≤ length key.now }
-        requires most { length key.now ≤ 32768 }
+        requires most { length key.now ≤ longest_key }
         requires known { handle < handle_names }
         requires free { binding_of self.old.handles handle ≡ None }
         requires is_open { ForSome (F.told f.old).files (IsOpen self.old.files) }
@@ -101,6 +101,9 @@ impl Cache {
         ensures does { IfOk result (λ answer. ForSome (F.told f.old).files (λ from. (state : State) → IsReadyToCreate self.old state moment handle key.now from → IsDone (KeepsState self.new) (F.told f.new) moment (to_create handle key.now) answer state)) }
         ensures stops { ForSome (F.told f.old).files (λ from. (state : State) → IsReadyToCreate self.old state moment handle key.now from → Passes (F.told f.old) (F.told f.new) (MayStop state moment (to_create handle key.now))) }
 
+        ensures done { IfOk result (λ answer. answer ≡ answer.Done) }
+        ensures has_line { IfOk result HasLine }
+        ensures notes { self.new.notes ≡ self.old.notes }
         ensures is_open { OnOk result (ForSome (F.told f.new).files (IsOpen self.new.files)) }
         ensures untold { ForSome (F.told f.old).files (IsReadyForSome self.old handle key.now) → IfDamaged result (λ _. (F.told f.old).files ≡ None) }
         ensures silent { (F.told f.old).files ≡ None → (F.told f.new).files ≡ None }
@@ -124,7 +127,7 @@ impl Cache {
         moment: u64,
     ) -> Result<(), Fault>
         requires some { 1 ≤ length key.now }
-        requires most { length key.now ≤ 32768 }
+        requires most { length key.now ≤ longest_key }
         requires known { handle < handle_names }
         requires free { binding_of self.old.handles handle ≡ None }
         requires is_open { ForSome (F.told f.old).files (IsOpen self.old.files) }
@@ -135,6 +138,7 @@ impl Cache {
         // At each word what was at rest is found.
         ensures stops { ForSome (F.told f.old).files (λ from. (state : State) → KeepsState self.old state from → CanHaveNew state handle key.now → Passes (F.told f.old) (F.told f.new) (Finds (rest state))) }
 
+        ensures notes { self.new.notes ≡ self.old.notes }
         ensures is_open { OnOk result (ForSome (F.told f.new).files (IsOpen self.new.files)) }
 
         // A folder that tells its files gives no damage where the cache keeps such a state.
