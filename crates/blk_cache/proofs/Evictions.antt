@@ -285,18 +285,15 @@ module _ (enough : State → Bool) (state : State) (valid : IsValidState state) 
 
 -- ---- damages
 
+none-some : (image : Image) → ◌≡◌ {A = Option Image} (Some image) None → ⊥
+none-some image e = cc
+
 -- a call on a folder that tells nothing more than one that told its files before, and tells them still
 pub untold-on : {A : Type 0} (result : Result A Fault) (told now : Told) (P : Image → Type 0) → (told.files ≡ None → now.files ≡ None) → ((from : Image) → told.files ≡ Some from → (image : Image) × (now.files ≡ Some image) × P image)
     → (ForSome now.files P → IfDamaged result (λ _. now.files ≡ None)) → IfDamaged result (λ _. told.files ≡ None)
 untold-on {A} result told now P silent holds call = go told.files refl where
   go : (o : Option Image) → told.files ≡ o → IfDamaged result (λ _. told.files ≡ None)
-  go None e = if_damaged_weaker result (λ _. now.files ≡ None) (λ _. told.files ≡ None) (λ damage none. e) (call (λ image there. absurd (no image (sym there ∙ silent e))))
-  where
-    no : (image : Image) → ◌≡◌ {A = Option Image} (Some image) None → ⊥
-    no image e = cc
+  go None e = if_damaged_weaker result (λ _. now.files ≡ None) (λ _. told.files ≡ None) (λ damage none. e) (call (λ image there. absurd (none-some image (sym there ∙ silent e))))
   go (Some from) e =
       let h = holds from e in
-      if_damaged_weaker result (λ _. now.files ≡ None) (λ _. told.files ≡ None) (λ damage none. absurd (no h.0 (sym h.1 ∙ none))) (call (λ image there. subst P (some_inj (sym h.1 ∙ there)) h.2))
-  where
-    no : (image : Image) → ◌≡◌ {A = Option Image} (Some image) None → ⊥
-    no image e = cc
+      if_damaged_weaker result (λ _. now.files ≡ None) (λ _. told.files ≡ None) (λ damage none. absurd (none-some h.0 (sym h.1 ∙ none))) (call (λ image there. subst P (some_inj (sym h.1 ∙ there)) h.2))

@@ -32,3 +32,5 @@ pub mod RoomKept
 pub mod RoomApart
 pub mod Evictions
 pub mod RoomMade
+pub mod GroupsOut
+pub mod EvictedGroups

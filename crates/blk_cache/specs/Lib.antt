@@ -14,3 +14,4 @@ pub mod RoomSearch
 pub mod RoomKept
 pub mod Evicting
 pub mod MakingRoom
+pub mod EvictingGroups
