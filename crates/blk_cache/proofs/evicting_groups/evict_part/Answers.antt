@@ -1,4 +1,4 @@
-use Rattle.std.proofs.Common.{◌≡◌, ℕ, [], ◌∷◌, List, Option, None, Some, true, refl, sym, ◌∙◌, ap, subst}
+use Rattle.std.proofs.Common.{rules, ◌≡◌, ℕ, [], ◌∷◌, List, Option, None, Some, true, refl, sym, ◌∙◌, ap, subst}
 use Rattle.std.specs.Option.{option_map}
 use Rattle.blk_io.specs.Streams.{Appends}
 use Rattle.blk_model.specs.Items.{part}
@@ -31,13 +31,15 @@ returns-in_default-clause-untold g c from there state layout is =
 pub returns-clause-prints : goal.returns-clause-prints
 returns-clause-prints g c = on-ok-any c.remove_alone.result (λ from there state layout is.
     subst (λ (text : List ℕ). Prints c.args.failed.now c.say_evicted_part.new.failed (g.K.Sink.written c.args.out.now) (g.K.Sink.written c.say_evicted_part.new.out) text)
-    (ap (λ (key : List ℕ). evicted_line (part key c.in-Some.child.part)) c.parent_key.ensures
+    ((let e : c.from.result ≡ c.in-Some.child.part = search rules in ap (λ (n : ℕ). evicted_line (part c.parent_key.result.now n)) e)
+    ∙ ap (λ (key : List ℕ). evicted_line (part key c.in-Some.child.part)) c.parent_key.ensures
     ∙ sym (as-text state layout from c.args.found.now true c.args.name.now is ∙ ap evicted_line (part-said state layout from c.args.found.now c.args.name.now is c.in-Some.child (subst (λ (o : Option ChildName). option_map (name_within c.args.name.now) o ≡ read_name c.args.name.now) c.in-Some.is c.read_child_name.ensures.name))))
     c.say_evicted_part.ensures.prints)
 
 pub returns-clause-front : goal.returns-clause-front
 returns-clause-front g c from there state layout is =
     subst (λ (text : List ℕ). Appends (g.K.Sink.written c.args.out.now) (g.K.Sink.written c.say_evicted_part.new.out) text)
-    (ap (λ (key : List ℕ). evicted_line (part key c.in-Some.child.part)) c.parent_key.ensures
+    ((let e : c.from.result ≡ c.in-Some.child.part = search rules in ap (λ (n : ℕ). evicted_line (part c.parent_key.result.now n)) e)
+    ∙ ap (λ (key : List ℕ). evicted_line (part key c.in-Some.child.part)) c.parent_key.ensures
     ∙ sym (as-text state layout from c.args.found.now true c.args.name.now is ∙ ap evicted_line (part-said state layout from c.args.found.now c.args.name.now is c.in-Some.child (subst (λ (o : Option ChildName). option_map (name_within c.args.name.now) o ≡ read_name c.args.name.now) c.in-Some.is c.read_child_name.ensures.name))))
     c.say_evicted_part.ensures.prints.front
