@@ -1,5 +1,5 @@
 -- Groups that are evicted one after another: what has gone as the loop goes.
-use Rattle.std.proofs.Common.{◌≡◌, ◌⊎◌, ℕ, ◌+◌, ◌≤◌, Bool, true, false, not, cond, List, [], ◌∷◌, ◌++◌, length, map, Option, Some, None, Result, refl, sym, ap, subst, ◌∙◌, arith, inl, inr, append_assoc, append-nil, ⊎_elim}
+use Rattle.std.proofs.Common.{◌≡◌, ◌⊎◌, ℕ, ◌+◌, ◌≤◌, Bool, true, false, not, cond, List, [], ◌∷◌, ◌++◌, length, map, Option, Some, None, Result, Ok, Err, refl, sym, ap, subst, ◌∙◌, arith, inl, inr, append_assoc, append-nil, ⊎_elim}
 use Rattle.std.specs.Option.{ForSome, option_map}
 use Rattle.std.specs.List.{AllByRecursion, filter, flat_map, sum_by}
 use Rattle.std.specs.Str.{bytes_eq}
@@ -13,6 +13,7 @@ use Rattle.blk_image.specs.Told.{Passes, Told}
 use Rattle.blk_image.proofs.Runs.{passes_none, passes_stayed, passes_then, passes_weaker, some_inj}
 use Rattle.blk_io.specs.declared.fault.Damage.{Damage}
 use Rattle.blk_io.specs.declared.fault.Fault.{Fault}
+use Rattle.blk_io.specs.declared.fault.Fault.TheVariants.{Damaged, Device}
 use Rattle.blk_io.specs.Faults.{IfDamaged}
 use Rattle.blk_io.specs.Streams.{Appends}
 use Rattle.blk_io.proofs.Carried.{if_damaged_weaker}
@@ -285,18 +286,27 @@ module _ (enough : State → Bool) (state : State) (valid : IsValidState state) 
 
 -- ---- damages
 
+any-damaged : {A : Type 0} (result : Result A Fault) (P : Damage → Type 0) → ((damage : Damage) → P damage) → IfDamaged result P
+any-damaged (Ok x) P all = tt
+any-damaged (Err Device) P all = tt
+any-damaged (Err (Damaged damage)) P all = all damage
+
+none-some : (image : Image) → ◌≡◌ {A = Option Image} (Some image) None → ⊥
+none-some image e = cc
+
 -- a call on a folder that tells nothing more than one that told its files before, and tells them still
 pub untold-on : {A : Type 0} (result : Result A Fault) (told now : Told) (P : Image → Type 0) → (told.files ≡ None → now.files ≡ None) → ((from : Image) → told.files ≡ Some from → (image : Image) × (now.files ≡ Some image) × P image)
     → (ForSome now.files P → IfDamaged result (λ _. now.files ≡ None)) → IfDamaged result (λ _. told.files ≡ None)
 untold-on {A} result told now P silent holds call = go told.files refl where
   go : (o : Option Image) → told.files ≡ o → IfDamaged result (λ _. told.files ≡ None)
-  go None e = if_damaged_weaker result (λ _. now.files ≡ None) (λ _. told.files ≡ None) (λ damage none. e) (call (λ image there. absurd (no image (sym there ∙ silent e))))
-  where
-    no : (image : Image) → ◌≡◌ {A = Option Image} (Some image) None → ⊥
-    no image e = cc
+  go None e = if_damaged_weaker result (λ _. now.files ≡ None) (λ _. told.files ≡ None) (λ damage none. e) (call (λ image there. absurd (none-some image (sym there ∙ silent e))))
   go (Some from) e =
       let h = holds from e in
-      if_damaged_weaker result (λ _. now.files ≡ None) (λ _. told.files ≡ None) (λ damage none. absurd (no h.0 (sym h.1 ∙ none))) (call (λ image there. subst P (some_inj (sym h.1 ∙ there)) h.2))
-  where
-    no : (image : Image) → ◌≡◌ {A = Option Image} (Some image) None → ⊥
-    no image e = cc
+      if_damaged_weaker result (λ _. now.files ≡ None) (λ _. told.files ≡ None) (λ damage none. absurd (none-some h.0 (sym h.1 ∙ none))) (call (λ image there. subst P (some_inj (sym h.1 ∙ there)) h.2))
+
+-- a call that gives no damage where its premise holds
+pub untold-where : {A : Type 0} (result : Result A Fault) (told : Told) (P : Image → Type 0) → ForSome told.files P → ForSome told.files (λ from. P from → IfDamaged result (λ _. told.files ≡ None)) → IfDamaged result (λ _. told.files ≡ None)
+untold-where {A} result told P holds call = go told.files refl where
+  go : (o : Option Image) → told.files ≡ o → IfDamaged result (λ _. told.files ≡ None)
+  go None e = any-damaged result (λ _. told.files ≡ None) (λ damage. e)
+  go (Some from) e = call from e (holds from e)

@@ -34,3 +34,5 @@ pub mod RoomApart
 pub mod Evictions
 pub mod RoomMade
 pub mod CreateWhole
+pub mod GroupsOut
+pub mod EvictedGroups

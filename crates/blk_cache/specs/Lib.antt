@@ -16,3 +16,4 @@ pub mod Evicting
 pub mod MakingRoom
 pub mod Stepping
 pub mod Listing
+pub mod EvictingGroups

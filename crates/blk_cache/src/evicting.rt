@@ -16,6 +16,7 @@ ghost use Rattle.blk_cache.specs.Evicting.{ForEachLast, IsEvicting, KeepsInPlace
 ghost use Rattle.blk_cache.specs.RoomPrinting.{FailsWhereItRose, Prints};
 
 use crate::cache::Cache;
+use crate::evicting_groups::evict_group;
 use crate::goal::Goal;
 use crate::room_search::Unpinned;
 use blk_io::{Fault, Folder, Sink};
@@ -127,11 +128,9 @@ impl Cache {
         ensures sink_later { K.faults out.old ≤ K.faults out.new }
         ensures device { IfDevice result (Rises (F.faults f.old) (F.faults f.new)) }
     {
-        let _f = f;
-        let _out = out;
-        let _failed = failed;
-        let _found = found;
-        self.items = self.items.saturating_sub(1);
+        let gone = evict_group(f, &self.files, &mut self.name, out, failed, found)?;
+        self.items = self.items.saturating_sub(gone.items);
+        self.bytes = self.bytes.saturating_sub(gone.bytes);
         Ok(())
     }
 }

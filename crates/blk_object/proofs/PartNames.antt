@@ -145,7 +145,7 @@ its-role key e name streams role is its = go (e.flags == parent) (e.flags == chi
 
 -- ---- what is read
 
-head-flags : (image : Image) (entry : ℕ) (head : Head) (e : RecordFields) → IsRecordHead image entry head → (store_of image).entry entry ≡ Some e → e.flags ≡ head.flags
+pub head-flags : (image : Image) (entry : ℕ) (head : Head) (e : RecordFields) → IsRecordHead image entry head → (store_of image).entry entry ≡ Some e → e.flags ≡ head.flags
 head-flags image entry head e is here = sym (ap (λ (x : RecordFields). x.flags) (shown-fields image entry e here)) ∙ sym is.flags
 
 -- a record that isn't flagged as a part's is none
@@ -169,7 +169,7 @@ pub key-readable : (image : Image) (entry : ℕ) (loaded : Loaded) → LoadsWith
 key-readable image entry loaded with_record = record { key = loaded.key; is = key-there image entry loaded with_record }
 
 -- it is no longer than a name
-key-short : (image : Image) (entry : ℕ) (loaded : Loaded) → LoadsWith entry loaded image → length loaded.key ≤ 32796
+pub key-short : (image : Image) (entry : ℕ) (loaded : Loaded) → LoadsWith entry loaded image → length loaded.key ≤ 32796
 unfolding is_key_length
 key-short image entry loaded with_record = load-then (store_of image) with_record.rule with_record.node loaded with_record.loads (λ n e f.
     let len : length loaded.key ≡ e.key_len = key-length image n.contents e loaded.key f.facts.keyed.key in
@@ -180,7 +180,7 @@ key-short image entry loaded with_record = load-then (store_of image) with_recor
     go k true len within = grind (arith, nat_tests)
     go k false len within = grind (arith, nat_tests)
 
-all-piece : (key old new : List ℕ) (n : ℕ) → length key ≤ length old → IsPiece key 0 old new n → take n new ≡ key
+pub all-piece : (key old new : List ℕ) (n : ℕ) → length key ≤ length old → IsPiece key 0 old new n → take n new ≡ key
 all-piece key old new n room piece =
     let many : n ≡ length key = omega (arith, room, piece.many) in
     piece.front ∙ take_all n key (omega (arith, many))

@@ -27,7 +27,7 @@ no-part object k m none has =
 
 module _ (state : State) (number : ℕ) (object : Object) (valid : IsValidState state) (here : object_at state number ≡ Some object) (live : object.live ≡ true) (none : object.parts ≡ []) where
   -- so none of its parts is listed
-  no-listed : (m : ℕ) → is_listed state (part object.key m) ≡ true → ⊥
+  pub no-listed : (m : ℕ) → is_listed state (part object.key m) ≡ true → ⊥
   no-listed m listed =
       let some = in-times (part object.key m) state.uses listed in let all = valid.listed (part object.key m) in
       let o : Owner state (part object.key m) = has_owner state (part object.key m) (omega (arith, some, all)) in

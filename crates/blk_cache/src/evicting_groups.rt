@@ -1,0 +1,239 @@
+// A group goes out of a folder, and is printed.
+ghost use Rattle.std.specs.Prelude.{◌≡◌, ◌≤◌, ◌+◌, [], ◌∷◌, Bool, IfOk, IfSome, IsTrue, List, None, OnOk, length, true, ℕ};
+ghost use Rattle.std.specs.Option.{ForSome};
+ghost use Rattle.blk_image.specs.Told.{Passes, Rises, Stays};
+ghost use Rattle.blk_io.specs.Faults.{IfDamaged, IfDevice};
+ghost use Rattle.blk_io.specs.Streams.{Appends};
+ghost use Rattle.blk_model.specs.Room.{without};
+ghost use Rattle.blk_script.specs.Reply.{evicted_text};
+ghost use Rattle.blk_format.specs.Address.{blocks_256, kind_of};
+ghost use Rattle.blk_format.specs.Names.{IsName};
+ghost use Rattle.blk_ranges.specs.ChildNames.{name_within};
+ghost use Rattle.blk_disk.specs.Open.{IsOpen};
+ghost use Rattle.blk_disk.specs.Tables.{is_node_among, is_record_among, stands_among};
+ghost use Rattle.blk_object.specs.Removing.{LiesBehind};
+ghost use Rattle.blk_object.specs.RemovingObjects.{FindsEither};
+ghost use Rattle.blk_cache.specs.EvictingGroups.{ForEachGoing, ForEachListed, ForEachOfKind, IsGroupOut, alone_kind};
+ghost use Rattle.blk_cache.specs.NameRoom.{name_room};
+ghost use Rattle.blk_cache.specs.RoomPrinting.{FailsWhereItRose, Prints};
+
+use crate::item_names::{EntryKind, read_name};
+use crate::room_printing::{say_evicted, say_evicted_part};
+use crate::room_search::Unpinned;
+use blk_addr::Addr;
+use blk_chain::{Found, find};
+use blk_disk::BlockFiles;
+use blk_entry::record_damage;
+use blk_io::{Fault, Folder, Sink};
+use blk_object::remove_item;
+use blk_ranges::{ChildName, read_child_name};
+use blk_record::EntryView;
+
+// The flags of the record of a part.
+const CHILD: u32 = 2;
+
+// Where the parent's key begins in the name of a part.
+const KEY_OF_NAME: usize = 6;
+
+/// How many items went, and what they were charged.
+#[derive(Clone, Copy, Debug, PartialEq, Eq)]
+pub(crate) struct Gone {
+    pub(crate) items: u64,
+    pub(crate) bytes: u64,
+}
+
+/// Evicts the group of an item that isn't pinned, and prints its items: a main item with its parts, or a part alone. How
+/// many items went is given, and what they were charged.
+///
+/// Its key or name is read into `name`. A damage is one of the reading, a key that is none, or one of the removal.
+pub(crate) fn evict_group<F: Folder, K: Sink>(
+    f: &mut F,
+    files: &BlockFiles,
+    name: &mut [u8],
+    out: &mut K,
+    failed: &mut bool,
+    found: &Unpinned,
+) -> Result<Gone, Fault>
+    requires room { length name.old ≡ name_room }
+    requires node { IsTrue (is_node_among files.now found.now.node) }
+    requires record_stands { IsTrue (is_record_among files.now found.now.entry) }
+    requires is_open { ForSome (F.told f.old).files (IsOpen files.now) }
+    ensures out { IfOk result (λ gone. ForSome (F.told f.old).files (λ from. ForEachGoing found.now from (λ state layout group. ForSome (F.told f.new).files (IsGroupOut state layout group gone from)))) }
+    ensures prints { OnOk result (ForSome (F.told f.old).files (λ from. ForEachGoing found.now from (λ state layout group. Prints failed.old failed.new (K.written out.old) (K.written out.new) (evicted_text (group ∷ []))))) }
+    ensures stops { ForSome (F.told f.old).files (λ from. ForEachGoing found.now from (λ state layout group. Passes (F.told f.old) (F.told f.new) (FindsEither state (without (group ∷ []) state)))) }
+    ensures front { ForSome (F.told f.old).files (λ from. ForEachGoing found.now from (λ state layout group. Appends (K.written out.old) (K.written out.new) (evicted_text (group ∷ [])))) }
+    ensures quiet { failed.old ≡ true → (failed.new ≡ true) × (K.written out.new ≡ K.written out.old) }
+    ensures fails { FailsWhereItRose failed.old failed.new (K.faults out.old) (K.faults out.new) }
+    ensures is_open { ForSome (F.told f.new).files (IsOpen files.now) }
+    ensures untold { ForSome (F.told f.old).files (λ from. ForEachGoing found.now from (λ state layout group. IfDamaged result (λ _. (F.told f.old).files ≡ None))) }
+    ensures silent { (F.told f.old).files ≡ None → (F.told f.new).files ≡ None }
+    ensures later { F.faults f.old ≤ F.faults f.new }
+    ensures sink_later { K.faults out.old ≤ K.faults out.new }
+    ensures device { IfDevice result (Rises (F.faults f.old) (F.faults f.new)) }
+{
+    let named = read_name(f, files, found.entry, name)?;
+    match named.kind {
+        EntryKind::Plain => evict_plain(f, files, &name[..named.len], out, failed, found),
+        EntryKind::Part => evict_part(f, files, &name[..named.len], out, failed, found),
+        EntryKind::Parent => {
+            let (key, room) = name.split_at_mut(named.len);
+            evict_parent(f, files, key, room, out, failed, found)
+        }
+    }
+}
+
+// Evicts an object without an index, which has no parts.
+fn evict_plain<F: Folder, K: Sink>(
+    f: &mut F,
+    files: &BlockFiles,
+    key: &[u8],
+    out: &mut K,
+    failed: &mut bool,
+    found: &Unpinned,
+) -> Result<Gone, Fault>
+    requires node { IsTrue (is_node_among files.now found.now.node) }
+    requires record_stands { IsTrue (is_record_among files.now found.now.entry) }
+    requires is_open { ForSome (F.told f.old).files (IsOpen files.now) }
+    ensures out { IfOk result (λ gone. ForSome (F.told f.old).files (λ from. ForEachOfKind found.now EntryKind.Plain key.now from (λ state layout group. ForSome (F.told f.new).files (IsGroupOut state layout group gone from)))) }
+    ensures prints { OnOk result (ForSome (F.told f.old).files (λ from. ForEachOfKind found.now EntryKind.Plain key.now from (λ state layout group. Prints failed.old failed.new (K.written out.old) (K.written out.new) (evicted_text (group ∷ []))))) }
+    ensures stops { ForSome (F.told f.old).files (λ from. ForEachOfKind found.now EntryKind.Plain key.now from (λ state layout group. Passes (F.told f.old) (F.told f.new) (FindsEither state (without (group ∷ []) state)))) }
+    ensures front { ForSome (F.told f.old).files (λ from. ForEachOfKind found.now EntryKind.Plain key.now from (λ state layout group. Appends (K.written out.old) (K.written out.new) (evicted_text (group ∷ [])))) }
+    ensures quiet { failed.old ≡ true → (failed.new ≡ true) × (K.written out.new ≡ K.written out.old) }
+    ensures fails { FailsWhereItRose failed.old failed.new (K.faults out.old) (K.faults out.new) }
+    ensures is_open { ForSome (F.told f.new).files (IsOpen files.now) }
+    ensures untold { ForSome (F.told f.old).files (λ from. ForEachOfKind found.now EntryKind.Plain key.now from (λ state layout group. IfDamaged result (λ _. (F.told f.old).files ≡ None))) }
+    ensures silent { (F.told f.old).files ≡ None → (F.told f.new).files ≡ None }
+    ensures later { F.faults f.old ≤ F.faults f.new }
+    ensures sink_later { K.faults out.old ≤ K.faults out.new }
+    ensures device { IfDevice result (Rises (F.faults f.old) (F.faults f.new)) }
+{
+    say_evicted(out, failed, key);
+    remove_alone(f, files, key, false, found)
+}
+
+// Evicts a part, without its main item.
+fn evict_part<F: Folder, K: Sink>(
+    f: &mut F,
+    files: &BlockFiles,
+    name: &[u8],
+    out: &mut K,
+    failed: &mut bool,
+    found: &Unpinned,
+) -> Result<Gone, Fault>
+    requires node { IsTrue (is_node_among files.now found.now.node) }
+    requires record_stands { IsTrue (is_record_among files.now found.now.entry) }
+    requires is_open { ForSome (F.told f.old).files (IsOpen files.now) }
+    ensures out { IfOk result (λ gone. ForSome (F.told f.old).files (λ from. ForEachOfKind found.now EntryKind.Part name.now from (λ state layout group. ForSome (F.told f.new).files (IsGroupOut state layout group gone from)))) }
+    ensures prints { OnOk result (ForSome (F.told f.old).files (λ from. ForEachOfKind found.now EntryKind.Part name.now from (λ state layout group. Prints failed.old failed.new (K.written out.old) (K.written out.new) (evicted_text (group ∷ []))))) }
+    ensures stops { ForSome (F.told f.old).files (λ from. ForEachOfKind found.now EntryKind.Part name.now from (λ state layout group. Passes (F.told f.old) (F.told f.new) (FindsEither state (without (group ∷ []) state)))) }
+    ensures front { ForSome (F.told f.old).files (λ from. ForEachOfKind found.now EntryKind.Part name.now from (λ state layout group. Appends (K.written out.old) (K.written out.new) (evicted_text (group ∷ [])))) }
+    ensures quiet { failed.old ≡ true → (failed.new ≡ true) × (K.written out.new ≡ K.written out.old) }
+    ensures fails { FailsWhereItRose failed.old failed.new (K.faults out.old) (K.faults out.new) }
+    ensures is_open { ForSome (F.told f.new).files (IsOpen files.now) }
+    ensures untold { ForSome (F.told f.old).files (λ from. ForEachOfKind found.now EntryKind.Part name.now from (λ state layout group. IfDamaged result (λ _. (F.told f.old).files ≡ None))) }
+    ensures silent { (F.told f.old).files ≡ None → (F.told f.new).files ≡ None }
+    ensures later { F.faults f.old ≤ F.faults f.new }
+    ensures sink_later { K.faults out.old ≤ K.faults out.new }
+    ensures device { IfDevice result (Rises (F.faults f.old) (F.faults f.new)) }
+{
+    let Some(child) = read_child_name(name) else {
+        return Err(record_damage(found.entry, EntryView::FLAGS, CHILD));
+    };
+    say_evicted_part(out, failed, parent_key(name, &child), u64::from(child.part));
+    remove_alone(f, files, name, true, found)
+}
+
+// Evicts an object with an index, and then its parts, whose names are made in `room`.
+fn evict_parent<F: Folder, K: Sink>(
+    f: &mut F,
+    files: &BlockFiles,
+    key: &[u8],
+    room: &mut [u8],
+    out: &mut K,
+    failed: &mut bool,
+    found: &Unpinned,
+) -> Result<Gone, Fault>
+    requires room { name_room ≤ length key.now + length room.old }
+    requires node { IsTrue (is_node_among files.now found.now.node) }
+    requires record_stands { IsTrue (is_record_among files.now found.now.entry) }
+    requires is_open { ForSome (F.told f.old).files (IsOpen files.now) }
+    ensures out { IfOk result (λ gone. ForSome (F.told f.old).files (λ from. ForEachOfKind found.now EntryKind.Parent key.now from (λ state layout group. ForSome (F.told f.new).files (IsGroupOut state layout group gone from)))) }
+    ensures prints { OnOk result (ForSome (F.told f.old).files (λ from. ForEachOfKind found.now EntryKind.Parent key.now from (λ state layout group. Prints failed.old failed.new (K.written out.old) (K.written out.new) (evicted_text (group ∷ []))))) }
+    ensures stops { ForSome (F.told f.old).files (λ from. ForEachOfKind found.now EntryKind.Parent key.now from (λ state layout group. Passes (F.told f.old) (F.told f.new) (FindsEither state (without (group ∷ []) state)))) }
+    ensures front { ForSome (F.told f.old).files (λ from. ForEachOfKind found.now EntryKind.Parent key.now from (λ state layout group. Appends (K.written out.old) (K.written out.new) (evicted_text (group ∷ [])))) }
+    ensures quiet { failed.old ≡ true → (failed.new ≡ true) × (K.written out.new ≡ K.written out.old) }
+    ensures fails { FailsWhereItRose failed.old failed.new (K.faults out.old) (K.faults out.new) }
+    ensures is_open { ForSome (F.told f.new).files (IsOpen files.now) }
+    ensures untold { ForSome (F.told f.old).files (λ from. ForEachOfKind found.now EntryKind.Parent key.now from (λ state layout group. IfDamaged result (λ _. (F.told f.old).files ≡ None))) }
+    ensures silent { (F.told f.old).files ≡ None → (F.told f.new).files ≡ None }
+    ensures later { F.faults f.old ≤ F.faults f.new }
+    ensures sink_later { K.faults out.old ≤ K.faults out.new }
+    ensures device { IfDevice result (Rises (F.faults f.old) (F.faults f.new)) }
+{
+    let _f = f;
+    let _files = files;
+    let _room = room;
+    let _out = out;
+    let _failed = failed;
+    Err(record_damage(found.entry, EntryView::KEY_LEN, key.len() as u32))
+}
+
+// The key of the parent in the name of a part.
+fn parent_key<'a>(name: &'a [u8], child: &ChildName) -> &'a [u8]
+    requires named { IsName name.now (name_within name.now child.now) }
+    ensures { result.now ≡ (name_within name.now child.now).key }
+{
+    let behind = &name[KEY_OF_NAME..];
+    &behind[..child.key_len]
+}
+
+// Removes an item that goes alone, as an object without an index or a part, by its key or name.
+fn remove_alone<F: Folder>(
+    f: &mut F,
+    files: &BlockFiles,
+    name: &[u8],
+    is_child: bool,
+    found: &Unpinned,
+) -> Result<Gone, Fault>
+    requires node { IsTrue (is_node_among files.now found.now.node) }
+    requires record_stands { IsTrue (is_record_among files.now found.now.entry) }
+    requires is_open { ForSome (F.told f.old).files (IsOpen files.now) }
+    ensures out { IfOk result (λ gone. ForSome (F.told f.old).files (λ from. ForEachOfKind found.now (alone_kind is_child) name.now from (λ state layout group. ForSome (F.told f.new).files (IsGroupOut state layout group gone from)))) }
+    ensures stops { ForSome (F.told f.old).files (λ from. ForEachOfKind found.now (alone_kind is_child) name.now from (λ state layout group. Passes (F.told f.old) (F.told f.new) (FindsEither state (without (group ∷ []) state)))) }
+    ensures is_open { ForSome (F.told f.new).files (IsOpen files.now) }
+    ensures untold { ForSome (F.told f.old).files (λ from. ForEachOfKind found.now (alone_kind is_child) name.now from (λ state layout group. IfDamaged result (λ _. (F.told f.old).files ≡ None))) }
+    ensures silent { (F.told f.old).files ≡ None → (F.told f.new).files ≡ None }
+    ensures later { F.faults f.old ≤ F.faults f.new }
+    ensures device { IfDevice result (Rises (F.faults f.old) (F.faults f.new)) }
+{
+    let at = find_listed(f, files, name, is_child, found.entry)?;
+    let bytes = remove_item(f, files, &at, found.node)?;
+    Ok(Gone { items: 1, bytes })
+}
+
+// Finds the record of a listed item by its key or its name, and the one before it in its chain. Where it isn't found that
+// is a damage, of the hash of its record.
+fn find_listed<F: Folder>(
+    f: &mut F,
+    files: &BlockFiles,
+    name: &[u8],
+    is_child: bool,
+    entry: Addr,
+) -> Result<Found, Fault>
+    requires record_stands { IsTrue (is_record_among files.now entry) }
+    ensures lies { IfOk result (λ at. ForSome (F.told f.old).files (λ image. ForEachListed name.now is_child image (λ state layout item was. was.contents ≡ at.entry))) }
+    ensures behind { IfOk result (λ at. ForSome (F.told f.old).files (λ image. ForEachListed name.now is_child image (λ state layout item was. LiesBehind state layout item was at.before))) }
+    ensures kind { IfOk result (λ at. kind_of at.entry ≡ blocks_256) }
+    ensures stands { IfOk result (λ at. IsTrue (stands_among files.now at.entry)) }
+    ensures kind_before { IfOk result (λ at. IfSome at.before (λ before. kind_of before ≡ blocks_256)) }
+    ensures stands_before { IfOk result (λ at. IfSome at.before (λ before. IsTrue (stands_among files.now before))) }
+    ensures stays { Stays (F.told f.old) (F.told f.new) }
+    ensures untold { ForSome (F.told f.old).files (IsOpen files.now) → ForSome (F.told f.old).files (λ image. ForEachListed name.now is_child image (λ state layout item was. IfDamaged result (λ _. (F.told f.old).files ≡ None))) }
+    ensures later { F.faults f.old ≤ F.faults f.new }
+    ensures device { IfDevice result (Rises (F.faults f.old) (F.faults f.new)) }
+{
+    match find(f, files, name, is_child)? {
+        Some(at) => Ok(at),
+        None => Err(record_damage(entry, EntryView::HASH, 0)),
+    }
+}
