@@ -101,7 +101,7 @@ impl Cache {
         ensures does { IfOk result (λ answer. ForSome (F.told f.old).files (λ from. (state : State) → IsReadyToCreate self.old state moment handle key.now from → IsDone (KeepsState self.new) (F.told f.new) moment (to_create handle key.now) answer state)) }
         ensures stops { ForSome (F.told f.old).files (λ from. (state : State) → IsReadyToCreate self.old state moment handle key.now from → Passes (F.told f.old) (F.told f.new) (MayStop state moment (to_create handle key.now))) }
 
-        ensures done { IfOk result (λ answer. answer ≡ answer.Done) }
+        ensures done { IfOk result (λ given. given ≡ answer.Done) }
         ensures has_line { IfOk result HasLine }
         ensures notes { self.new.notes ≡ self.old.notes }
         ensures is_open { OnOk result (ForSome (F.told f.new).files (IsOpen self.new.files)) }
