@@ -1,5 +1,5 @@
 -- Groups that are evicted one after another: what has gone as the loop goes.
-use Rattle.std.proofs.Common.{◌≡◌, ◌⊎◌, ℕ, ◌+◌, ◌≤◌, Bool, true, false, not, cond, List, [], ◌∷◌, ◌++◌, length, map, Option, Some, None, Result, Ok, Err, refl, sym, ap, subst, ◌∙◌, arith, inl, inr, append_assoc, append-nil, ⊎_elim}
+use Rattle.std.proofs.Common.{◌≡◌, ◌⊎◌, ℕ, ◌+◌, ◌≤◌, Bool, true, false, not, ◌||◌, cond, List, [], ◌∷◌, ◌++◌, length, map, Option, Some, None, Result, Ok, Err, refl, sym, ap, subst, ◌∙◌, arith, inl, inr, append_assoc, append-nil, ⊎_elim}
 use Rattle.std.specs.Option.{ForSome, option_map}
 use Rattle.std.specs.List.{AllByRecursion, filter, flat_map, sum_by}
 use Rattle.std.specs.Str.{bytes_eq}
@@ -35,7 +35,7 @@ use Rattle.blk_cache.specs.declared.room_search.Unpinned.{Unpinned}
 use Rattle.blk_cache.specs.CacheKeeping.{KeepsState}
 use Rattle.blk_cache.specs.Evicting.{IsEvicting, KeepsInPlaces, KeepsLastAt, count_of_groups}
 use Rattle.blk_cache.specs.RoomLaws.{AreAllPinned, IsLastUnpinned, group_for}
-use Rattle.blk_cache.specs.RoomPrinting.{Prints}
+use Rattle.blk_cache.specs.RoomPrinting.{FailsWhereItRose, Prints}
 use Rattle.blk_cache.specs.RoomSearch.{IsLastAt, IsPinnedFrom, KeepsPinnedFrom}
 use Rattle.blk_cache.proofs.RoomCounts.{counted-less}
 use Rattle.blk_cache.proofs.RoomGroups.{last-next, nothing-more, others-next, pinned-before, without-none}
@@ -121,6 +121,14 @@ text-both first others = ap (flat_map evicted_line) (flat_map-append items_of_gr
 -- a front of a text is one of a longer text
 pub appends-longer : (w0 w1 : Option (List ℕ)) (a b : List ℕ) → Appends w0 w1 a → Appends w0 w1 (a ++ b)
 appends-longer w0 w1 a b one = record { front = one.front; rest = one.rest ++ b; split = ap (λ (l : List ℕ). l ++ b) one.split ∙ append_assoc one.front one.rest b; written = one.written }
+
+both-written : (a b : List ℕ) (w : Option (List ℕ)) → option_map (λ (v : List ℕ). v ++ b) (option_map (λ (v : List ℕ). v ++ a) w) ≡ option_map (λ (v : List ℕ). v ++ (a ++ b)) w
+both-written a b None = refl
+both-written a b (Some v) = ap Some (append_assoc v a b)
+
+-- a sink that is found to fail no more than before
+pub same-fails : (failed : Bool) (before now : ℕ) → FailsWhereItRose failed failed before now
+same-fails failed before now was is = absurd (clash (sym is ∙ was))
 
 -- ---- the loop
 
@@ -247,10 +255,6 @@ module _ (enough : State → Bool) (state : State) (valid : IsValidState state) 
           split = ap (λ (l : List ℕ). evicted_text h.first ++ l) more.split ∙ sym (append_assoc (evicted_text h.first) more.front more.rest);
           written = more.written ∙ ap (option_map (λ (w : List ℕ). w ++ more.front)) (h.prints.whole e) ∙ both-written (evicted_text h.first) more.front w0;
         }
-
-        both-written : (a b : List ℕ) (w : Option (List ℕ)) → option_map (λ (v : List ℕ). v ++ b) (option_map (λ (v : List ℕ). v ++ a) w) ≡ option_map (λ (v : List ℕ). v ++ (a ++ b)) w
-        both-written a b None = refl
-        both-written a b (Some v) = ap Some (append_assoc v a b)
 
         go : (c : Bool) → failed ≡ c → Appends w0 w2 (evicted_text h.first ++ evicted_text (group ∷ []))
         go true e = subst (λ (w : Option (List ℕ)). Appends w0 w (evicted_text h.first ++ evicted_text (group ∷ []))) (sym (quiet e)) (appends-longer w0 w1 (evicted_text h.first) (evicted_text (group ∷ [])) h.prints.front)

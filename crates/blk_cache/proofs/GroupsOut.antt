@@ -56,8 +56,9 @@ use Rattle.blk_object.proofs.PlainObjects.{no-listed, plain-alone}
 use Rattle.blk_cache.specs.declared.evicting_groups.Gone.{Gone}
 use Rattle.blk_cache.specs.declared.item_names.EntryKind.{EntryKind}
 use Rattle.blk_cache.specs.declared.item_names.EntryKind.TheVariants as kinds
+use Rattle.blk_cache.specs.declared.item_names.Named.{Named}
 use Rattle.blk_cache.specs.declared.room_search.Unpinned.{Unpinned}
-use Rattle.blk_cache.specs.EvictingGroups.{GoesAs, IsGroupOut, alone_kind, kind_of_role, kind_said}
+use Rattle.blk_cache.specs.EvictingGroups.{GoesAs, IsGroupOut, IsNamedAs, alone_kind, kind_of_role, kind_said}
 use Rattle.blk_cache.specs.RoomKept.{NamedObjectsStay}
 use Rattle.blk_cache.specs.RoomLaws.{IsLastUnpinned, group_for, item_charge}
 use Rattle.blk_cache.specs.RoomSearch.{IsLastAt}
@@ -389,3 +390,11 @@ pub key-read : (image : Image) (entry : ℕ) (loaded : Loaded) (old new : List �
 key-read image entry loaded old new len with_record room piece =
     let short = key-short image entry loaded with_record in
     all-piece loaded.key old new len (omega (arith, short, room)) (piece loaded.key (key-there image entry loaded with_record))
+
+-- the last item that isn't pinned, as its record says
+abbrev pub goes-as : (state : State) (layout : Layout) (image : Image) (found : Unpinned) → Keeps state layout [] image → (last : IsLastAt state layout found) (named : Named) (bytes : List ℕ) → IsNamedAs last.loaded named bytes → (kind : EntryKind) → named.kind ≡ kind → GoesAs state layout found kind (take named.len bytes) image
+goes-as state layout image found k last named bytes is kind kind_is = record { kept = k; last = last; kind_is = sym is.kind ∙ kind_is; key_is = sym is.key }
+
+pub loads-last : (state : State) (layout : Layout) (image : Image) (found : Unpinned) → Keeps state layout [] image → (last : IsLastAt state layout found) → LoadsWith found.entry last.loaded image
+loads-last state layout image found k last =
+    loads-there state layout [] image k.entries last.item last.loaded (last-listed state layout image k.entries last.front last.rest last.loaded last.item last.last) last.here found.entry (sym last.entry)

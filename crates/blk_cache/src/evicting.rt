@@ -87,8 +87,9 @@ impl Cache {
         ensures sink_later { K.faults out.old ≤ K.faults out.new }
         ensures device { IfDevice result (Rises (F.faults f.old) (F.faults f.new)) }
     {
+        let most = self.items;
         let mut behind = None;
-        for _ in 0..self.items {
+        for _ in 0..most {
             if self.is_met(goal) {
                 return Ok(());
             }

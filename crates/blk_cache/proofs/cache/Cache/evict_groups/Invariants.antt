@@ -1,4 +1,4 @@
-use Rattle.std.proofs.Common.{◌≡◌, ◌≤◌, None, true}
+use Rattle.std.proofs.Common.{◌≡◌, ◌≤◌, ℕ, None, true}
 use Rattle.std.specs.Prelude.{IfSome, IsTrue}
 use Rattle.std.specs.Option.{ForSome}
 use Rattle.blk_model.specs.State.{State}
@@ -12,6 +12,7 @@ use Rattle.blk_cache.proofs.cache.Cache.evict_groups.Given as goal
 
 abbrev pub invariant-loop : goal.invariant-loop
 invariant-loop g l = record {
+  most : ◌≡◌ {A = ℕ} l.most l.fn.self.items;
   stands : IfSome l.behind (λ node. IsTrue (is_node_among l.self.files node));
   is_open : ForSome (g.F.Folder.told l.f).files (IsOpen l.self.files);
   others : OnlyItemsChange l.fn.self l.self;
