@@ -34,3 +34,4 @@ pub mod Evictions
 pub mod RoomMade
 pub mod GroupsOut
 pub mod EvictedGroups
+pub mod PartsPrinted

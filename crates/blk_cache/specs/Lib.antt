@@ -15,3 +15,4 @@ pub mod RoomKept
 pub mod Evicting
 pub mod MakingRoom
 pub mod EvictingGroups
+pub mod SparseStub
