@@ -36,3 +36,4 @@ pub mod RoomMade
 pub mod CreateWhole
 pub mod GroupsOut
 pub mod EvictedGroups
+pub mod PartsPrinted

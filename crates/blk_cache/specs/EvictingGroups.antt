@@ -1,9 +1,11 @@
 -- A group goes out of a folder: what its item is, by its record, and what is left once it is out.
-use Rattle.std.specs.Prelude.{◌≡◌, ◌==◌, ℕ, Bool, List, [], ◌∷◌, if◌then◌else◌, length, sum_by, take, true}
+use Rattle.std.specs.Prelude.{◌≡◌, ◌==◌, ℕ, Bool, List, [], ◌∷◌, if◌then◌else◌, length, map, sum_by, take, true}
+use Rattle.std.specs.List.{flat_map}
+use Rattle.blk_script.specs.Reply.{evicted_line}
 use Rattle.std.specs.declared.option.Option.{Option}
 use Rattle.std.specs.declared.option.Option.TheVariants.{Some}
 use Rattle.blk_image.specs.Image.{Image}
-use Rattle.blk_model.specs.Items.{Item}
+use Rattle.blk_model.specs.Items.{Item, part}
 use Rattle.blk_model.specs.Room.{Group, items_of_group, without}
 use Rattle.blk_model.specs.State.{State}
 use Rattle.blk_format.specs.Records.{child, parent}
@@ -13,7 +15,7 @@ use Rattle.blk_volume.specs.Loads.{Loaded}
 use Rattle.blk_kept.specs.Changes.{SameSession}
 use Rattle.blk_kept.specs.Keeping.{Keeps, KeepsUncounted}
 use Rattle.blk_object.specs.FindingOut.{is_child_item}
-use Rattle.blk_cache.specs.declared.evicting_groups.Gone.{Gone}
+use Rattle.blk_cache.specs.declared.sparse_stub.Gone.{Gone}
 use Rattle.blk_cache.specs.declared.item_names.EntryKind.{EntryKind}
 use Rattle.blk_cache.specs.declared.item_names.EntryKind.TheVariants.{Parent, Part, Plain}
 use Rattle.blk_cache.specs.declared.item_names.Named.{Named}
@@ -65,6 +67,10 @@ ForEachGoing found image P = (state : State) (layout : Layout) → Keeps state l
 -- what kind of entry goes alone: one without an index, or a part
 abbrev pub alone_kind : Bool → EntryKind
 alone_kind is_child = if is_child then Part else Plain
+
+-- the text of parts of a key that are evicted
+abbrev pub text_of_parts : List ℕ → List ℕ → List ℕ
+text_of_parts key numbers = flat_map evicted_line (map (part key) numbers)
 
 -- what went is as many items as those of a group, and what they were charged
 pub record AreOfGroup (state : State) (group : Group) (gone : Gone) : Type 0 where

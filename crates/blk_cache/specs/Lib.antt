@@ -17,3 +17,4 @@ pub mod MakingRoom
 pub mod Stepping
 pub mod Listing
 pub mod EvictingGroups
+pub mod SparseStub

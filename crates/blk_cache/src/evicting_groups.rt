@@ -4,29 +4,34 @@ ghost use Rattle.std.specs.Option.{ForSome};
 ghost use Rattle.blk_image.specs.Told.{Passes, Rises, Stays};
 ghost use Rattle.blk_io.specs.Faults.{IfDamaged, IfDevice};
 ghost use Rattle.blk_io.specs.Streams.{Appends};
-ghost use Rattle.blk_model.specs.Room.{without};
+ghost use Rattle.blk_model.specs.Effects.{doomed};
+ghost use Rattle.blk_model.specs.Room.{parts_among, without};
+ghost use Rattle.blk_model.specs.Sizes.{longest_key};
 ghost use Rattle.blk_script.specs.Reply.{evicted_text};
 ghost use Rattle.blk_format.specs.Address.{blocks_256, kind_of};
-ghost use Rattle.blk_format.specs.Names.{IsName};
+ghost use Rattle.blk_format.specs.Names.{IsName, longest_name};
 ghost use Rattle.blk_ranges.specs.ChildNames.{name_within};
 ghost use Rattle.blk_disk.specs.Open.{IsOpen};
 ghost use Rattle.blk_disk.specs.Tables.{is_node_among, is_record_among, stands_among};
+ghost use Rattle.blk_kept.specs.Changes.{SameSession};
 ghost use Rattle.blk_object.specs.Removing.{LiesBehind};
 ghost use Rattle.blk_object.specs.RemovingObjects.{FindsEither};
-ghost use Rattle.blk_cache.specs.EvictingGroups.{ForEachGoing, ForEachListed, ForEachOfKind, IsGroupOut, alone_kind};
+ghost use Rattle.blk_cache.specs.EvictingGroups.{ForEachGoing, ForEachListed, ForEachOfKind, IsGroupOut, alone_kind, text_of_parts};
 ghost use Rattle.blk_cache.specs.NameRoom.{name_room};
 ghost use Rattle.blk_cache.specs.RoomPrinting.{FailsWhereItRose, Prints};
+ghost use Rattle.blk_cache.specs.SparseStub.{ForEachParent, IsGoneWhole, IsGroupTold};
 
 use crate::item_names::{EntryKind, read_name};
 use crate::room_printing::{say_evicted, say_evicted_part};
 use crate::room_search::Unpinned;
+use crate::sparse_stub::{Gone, remove_parent_with};
 use blk_addr::Addr;
 use blk_chain::{Found, find};
 use blk_disk::BlockFiles;
 use blk_entry::record_damage;
 use blk_io::{Fault, Folder, Sink};
 use blk_object::remove_item;
-use blk_ranges::{ChildName, read_child_name};
+use blk_ranges::{ChildName, LONGEST_KEY, read_child_name};
 use blk_record::EntryView;
 
 // The flags of the record of a part.
@@ -34,13 +39,6 @@ const CHILD: u32 = 2;
 
 // Where the parent's key begins in the name of a part.
 const KEY_OF_NAME: usize = 6;
-
-/// How many items went, and what they were charged.
-#[derive(Clone, Copy, Debug, PartialEq, Eq)]
-pub(crate) struct Gone {
-    pub(crate) items: u64,
-    pub(crate) bytes: u64,
-}
 
 /// Evicts the group of an item that isn't pinned, and prints its items: a main item with its parts, or a part alone. How
 /// many items went is given, and what they were charged.
@@ -154,6 +152,7 @@ fn evict_parent<F: Folder, K: Sink>(
     found: &Unpinned,
 ) -> Result<Gone, Fault>
     requires room { name_room ≤ length key.now + length room.old }
+    requires few { length key.now ≤ name_room }
     requires node { IsTrue (is_node_among files.now found.now.node) }
     requires record_stands { IsTrue (is_record_among files.now found.now.entry) }
     requires is_open { ForSome (F.told f.old).files (IsOpen files.now) }
@@ -170,12 +169,52 @@ fn evict_parent<F: Folder, K: Sink>(
     ensures sink_later { K.faults out.old ≤ K.faults out.new }
     ensures device { IfDevice result (Rises (F.faults f.old) (F.faults f.new)) }
 {
-    let _f = f;
-    let _files = files;
-    let _room = room;
-    let _out = out;
-    let _failed = failed;
-    Err(record_damage(found.entry, EntryView::KEY_LEN, key.len() as u32))
+    if key.is_empty() || key.len() > LONGEST_KEY as usize {
+        let len = key.len() as u32;
+        return Err(record_damage(found.entry, EntryView::KEY_LEN, len));
+    }
+    say_evicted(out, failed, key);
+    let at = find_listed(f, files, key, false, found.entry)?;
+    remove_parent(f, files, &at, found.node, key, room, out, failed)
+}
+
+// Removes an object with an index, and then its parts, and prints each of these.
+fn remove_parent<F: Folder, K: Sink>(
+    f: &mut F,
+    files: &BlockFiles,
+    at: &Found,
+    node: Addr,
+    key: &[u8],
+    room: &mut [u8],
+    out: &mut K,
+    failed: &mut bool,
+) -> Result<Gone, Fault>
+    requires node { IsTrue (is_node_among files.now node) }
+    requires kind { kind_of at.now.entry ≡ blocks_256 }
+    requires stands { IsTrue (stands_among files.now at.now.entry) }
+    requires kind_before { IfSome at.now.before (λ before. kind_of before ≡ blocks_256) }
+    requires stands_before { IfSome at.now.before (λ before. IsTrue (stands_among files.now before)) }
+    requires some { 1 ≤ length key.now }
+    requires short { length key.now ≤ longest_key }
+    requires room { longest_name ≤ length room.old }
+    requires is_open { ForSome (F.told f.old).files (IsOpen files.now) }
+    ensures removed { OnOk result (ForSome (F.told f.old).files (λ from. ForEachParent key.now node at.now.entry at.now.before from (λ state layout unlinked number object. ForSome (F.told f.new).files (IsGoneWhole state layout unlinked number object)))) }
+    ensures gone { IfOk result (λ gone. ForSome (F.told f.old).files (λ from. ForEachParent key.now node at.now.entry at.now.before from (λ state layout unlinked number object. IsGroupTold state layout key.now gone))) }
+    ensures session { OnOk result (ForSome (F.told f.old).files (λ from. ForEachParent key.now node at.now.entry at.now.before from (λ state layout unlinked number object. ForSome (F.told f.new).files (SameSession from)))) }
+    ensures prints { OnOk result (ForSome (F.told f.old).files (λ from. ForEachParent key.now node at.now.entry at.now.before from (λ state layout unlinked number object. Prints failed.old failed.new (K.written out.old) (K.written out.new) (text_of_parts key.now (parts_among key.now state.uses))))) }
+    ensures front { ForSome (F.told f.old).files (λ from. ForEachParent key.now node at.now.entry at.now.before from (λ state layout unlinked number object. Appends (K.written out.old) (K.written out.new) (text_of_parts key.now (parts_among key.now state.uses)))) }
+    ensures quiet { failed.old ≡ true → (failed.new ≡ true) × (K.written out.new ≡ K.written out.old) }
+    ensures fails { FailsWhereItRose failed.old failed.new (K.faults out.old) (K.faults out.new) }
+    ensures stops { ForSome (F.told f.old).files (λ from. ForEachParent key.now node at.now.entry at.now.before from (λ state layout unlinked number object. Passes (F.told f.old) (F.told f.new) (FindsEither state (doomed number state (Some object))))) }
+    ensures is_open { ForSome (F.told f.new).files (IsOpen files.now) }
+    ensures untold { ForSome (F.told f.old).files (λ from. ForEachParent key.now node at.now.entry at.now.before from (λ state layout unlinked number object. IfDamaged result (λ _. (F.told f.old).files ≡ None))) }
+    ensures silent { (F.told f.old).files ≡ None → (F.told f.new).files ≡ None }
+    ensures later { F.faults f.old ≤ F.faults f.new }
+    ensures sink_later { K.faults out.old ≤ K.faults out.new }
+    ensures device { IfDevice result (Rises (F.faults f.old) (F.faults f.new)) }
+{
+    let mut say = |number: u32| say_evicted_part(out, failed, key, u64::from(number));
+    remove_parent_with(f, files, at, node, key, room, &mut say)
 }
 
 // The key of the parent in the name of a part.
