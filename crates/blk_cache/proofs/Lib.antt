@@ -30,3 +30,5 @@ pub mod RoomLast
 pub mod RoomCounts
 pub mod RoomKept
 pub mod RoomApart
+pub mod BoundRecords
+pub mod CloseGone

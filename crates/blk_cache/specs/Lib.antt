@@ -12,3 +12,4 @@ pub mod RoomLaws
 pub mod RoomPrinting
 pub mod RoomSearch
 pub mod RoomKept
+pub mod Closing
