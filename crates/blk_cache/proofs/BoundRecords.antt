@@ -17,11 +17,11 @@ use Rattle.blk_model.specs.State.{Object, State, object_at}
 use Rattle.blk_format.specs.Names.{Name, read_name}
 use Rattle.blk_format.specs.Sealed.{RecordChecks}
 use Rattle.blk_format.specs.SparseIndex.{ParentIndex, PartIndex, read_parent_index, read_part_index}
-use Rattle.blk_volume.specs.Entries.{IsParent, IsPart, IsPlain, Role, is_covered, parent_role, part_role, role_of, stream}
+use Rattle.blk_volume.specs.Entries.{IsParent, IsPart, IsPlain, Role, is_covered, parent_role, part_role, role_of, stored_streams, stream}
 use Rattle.blk_volume.specs.Found.{charge_of, row_of_loaded, row_with}
 use Rattle.blk_volume.specs.Layout.{IsDoomedAt, IsPlacedAt, Layout, rule_of}
 use Rattle.blk_volume.specs.Loads.{Loaded}
-use Rattle.blk_volume.specs.View.{RecordFields, entry_at, store_of}
+use Rattle.blk_volume.specs.View.{RecordFields, entry_at, fields_at, store_of}
 use Rattle.blk_laws.proofs.chains.ChainWords.{record_checks, shown-fields, shown-kind}
 use Rattle.blk_laws.proofs.states.Settling.{main-listed, main-owned}
 use Rattle.blk_laws.proofs.walks.Loads.{load-then}
@@ -29,6 +29,7 @@ use Rattle.blk_handles.specs.Bindings.{Binding}
 use Rattle.blk_verdict.proofs.RoleFacts.{index_length}
 use Rattle.blk_verdict.proofs.StreamFacts.{AreStored, are_stored, stored_length}
 use Rattle.blk_kept.specs.Keeping.{KeepsUncounted}
+use Rattle.blk_stream.specs.Streams.{streams_at}
 use Rattle.blk_cache.specs.CacheKeeping.{IsBoundTo, node_of_object}
 use Rattle.blk_cache.specs.Looking.{charge_at}
 use Rattle.blk_cache.proofs.Looks.{said-charge}
@@ -114,20 +115,20 @@ pub record SaysObject (image : Image) (entry : ℕ) (object : Object) : Type 0 w
   pub charge : charge_at image entry ≡ own_charge object
 
 -- of what was loaded, and is the row of the object
-record SaysRow (e : RecordFields) (l : Loaded) (object : Object) : Type 0 where
-  sparse : (e.flags == 1) ≡ is_sparse object.shape
-  sizes : (i : ℕ) → i < 3 → (is_sparse object.shape && nat_lt 0 i) ≡ false → length (stream i l.streams) ≡ length (stream_in object.streams i)
-  charge : charge_of l ≡ own_charge object
+pub record SaysRow (e : RecordFields) (l : Loaded) (object : Object) : Type 0 where
+  pub sparse : (e.flags == 1) ≡ is_sparse object.shape
+  pub bytes : (i : ℕ) → i < 3 → (is_sparse object.shape && nat_lt 0 i) ≡ false → stream i l.streams ≡ stream_in object.streams i
+  pub charge : charge_of l ≡ own_charge object
 
-plain-sizes : (ss : List (List ℕ)) (i : ℕ) → i < 3 → length (stream i ss) ≡ length (stream_in (stream 0 ss, stream 1 ss, stream 2 ss) i)
-plain-sizes ss zero below = refl
-plain-sizes ss (suc zero) below = refl
-plain-sizes ss (suc (suc zero)) below = refl
-plain-sizes ss (suc (suc (suc n))) below = absurd (omega (arith, below))
+plain-bytes : (ss : List (List ℕ)) (i : ℕ) → i < 3 → stream i ss ≡ stream_in (stream 0 ss, stream 1 ss, stream 2 ss) i
+plain-bytes ss zero below = refl
+plain-bytes ss (suc zero) below = refl
+plain-bytes ss (suc (suc zero)) below = refl
+plain-bytes ss (suc (suc (suc n))) below = absurd (omega (arith, below))
 
-sparse-sizes : (ss : List (List ℕ)) (i : ℕ) → nat_lt 0 i ≡ false → length (stream i ss) ≡ length (stream_in (stream 0 ss, [], []) i)
-sparse-sizes ss zero none = refl
-sparse-sizes ss (suc n) none = absurd (let some : nat_lt 0 (suc n) ≡ true = grind (arith, nat_tests) in let c : true ≡ false = sym some ∙ none in cc)
+sparse-bytes : (ss : List (List ℕ)) (i : ℕ) → nat_lt 0 i ≡ false → stream i ss ≡ stream_in (stream 0 ss, [], []) i
+sparse-bytes ss zero none = refl
+sparse-bytes ss (suc n) none = absurd (let some : nat_lt 0 (suc n) ≡ true = grind (arith, nat_tests) in let c : true ≡ false = sym some ∙ none in cc)
 
 stored-size : (image : Image) (e : RecordFields) (ss : List (List ℕ)) → AreStored image e ss → (i : ℕ) → i < 3 → slice_index e.data_size i ≡ length (stream i ss)
 stored-size image e ss stored zero below = sym (stored_length image _ _ (stream 0 ss) stored.first)
@@ -149,7 +150,7 @@ module _ (e : RecordFields) (l : Loaded) (object : Object) (row : row_of_loaded 
         let streams : (stream 0 l.streams, stream 1 l.streams, stream 2 l.streams) ≡ object.streams = ap row-streams (row-is IsPlain is) in
         record {
           sparse = plain-flags e l.key l.streams (said ∙ ap (λ (x : Role). Some x) is) ∙ ap is_sparse shape;
-          sizes = λ i below free. plain-sizes l.streams i below ∙ ap (λ (st : Streams). length (stream_in st i)) streams;
+          bytes = λ i below free. plain-bytes l.streams i below ∙ ap (λ (st : Streams). stream_in st i) streams;
           charge = (let sum : charge_of l ≡ main_charge l.key plain (stream 0 l.streams, stream 1 l.streams, stream 2 l.streams) = omega (arith, three) in sum)
               ∙ ap (λ (k : List ℕ). main_charge k plain (stream 0 l.streams, stream 1 l.streams, stream 2 l.streams)) key
               ∙ ap (λ (sh : Shape). main_charge object.key sh (stream 0 l.streams, stream 1 l.streams, stream 2 l.streams)) shape
@@ -162,7 +163,7 @@ module _ (e : RecordFields) (l : Loaded) (object : Object) (row : row_of_loaded 
         let flags = parent-flags e l.key l.streams index (said ∙ ap (λ (x : Role). Some x) is) in
         record {
           sparse = flags.0 ∙ ap is_sparse shape;
-          sizes = λ i below free. sparse-sizes l.streams i (ap (λ (sh : Shape). is_sparse sh && nat_lt 0 i) shape ∙ free) ∙ ap (λ (st : Streams). length (stream_in st i)) streams;
+          bytes = λ i below free. sparse-bytes l.streams i (ap (λ (sh : Shape). is_sparse sh && nat_lt 0 i) shape ∙ free) ∙ ap (λ (st : Streams). stream_in st i) streams;
           charge = parent-charge flags.1 index ∙ ap (λ (k : List ℕ). main_charge k (row-shape (row_with l.key (IsParent index) l.streams)) (stream 0 l.streams, [], [])) key
               ∙ ap (λ (sh : Shape). main_charge object.key sh (stream 0 l.streams, [], [])) shape
               ∙ ap (main_charge object.key object.shape) streams;
@@ -221,6 +222,22 @@ module _ (state : State) (layout : Layout) (unlinked : List ℕ) (image : Image)
       let row = row-says e is.loaded is.object bound-row facts.facts.role stored.three in
       subst (λ (w : ℕ). SaysObject image w is.object) at (record {
         sparse = ap (λ (z : RecordFields). z.flags == 1) fields ∙ row.sparse;
-        sizes = λ i below free. ap (λ (z : RecordFields). slice_index z.data_size i) fields ∙ stored-size image e is.loaded.streams stored i below ∙ row.sizes i below free;
+        sizes = λ i below free. ap (λ (z : RecordFields). slice_index z.data_size i) fields ∙ stored-size image e is.loaded.streams stored i below ∙ ap length (row.bytes i below free);
         charge = ap (charge_at image) (at ∙ is.entry) ∙ said-charge image state layout k.represents b.node is.loaded bound-node ∙ row.charge;
       }))
+
+  -- its streams are those of the object
+  pub bound-stream : (i : ℕ) → i < 3 → (is_sparse is.object.shape && nat_lt 0 i) ≡ false → stream i is.loaded.streams ≡ stream_in is.object.streams i
+  bound-stream i below free =
+      load-then {P = stream i is.loaded.streams ≡ stream_in is.object.streams i} (store_of image) (rule_of layout b.node) b.node is.loaded (k.represents.holds.shows.each b.node is.loaded bound-node)
+      (λ n e facts. (row-says e is.loaded is.object bound-row facts.facts.role (are_stored image e is.loaded.streams facts.facts.streams).three).bytes i below free)
+
+  -- and they are what its record names
+  pub bound-streams : streams_at image b.entry ≡ Some is.loaded.streams
+  unfolding streams_at store_of
+  bound-streams =
+      load-then {P = streams_at image b.entry ≡ Some is.loaded.streams} (store_of image) (rule_of layout b.node) b.node is.loaded (k.represents.holds.shows.each b.node is.loaded bound-node)
+      (λ n e facts.
+      let at : n.contents ≡ b.entry = sym facts.facts.contents_is ∙ sym is.entry in
+      let there : fields_at image b.entry ≡ Some e = ap (fields_at image) (sym at) ∙ facts.entry in
+      ap (option_and_then (stored_streams (store_of image))) there ∙ facts.facts.streams)

@@ -32,3 +32,6 @@ pub mod RoomKept
 pub mod RoomApart
 pub mod BoundRecords
 pub mod CloseGone
+pub mod Asks
+pub mod Sizes
+pub mod ReadSteps

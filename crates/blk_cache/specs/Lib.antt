@@ -13,3 +13,5 @@ pub mod RoomPrinting
 pub mod RoomSearch
 pub mod RoomKept
 pub mod Closing
+pub mod Asking
+pub mod Reading

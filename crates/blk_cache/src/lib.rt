@@ -1,6 +1,7 @@
 //! A cache over a folder: its opening, its totals, and its end.
 #![tactic(auto)]
 
+mod asking;
 mod cache;
 mod close;
 mod create;
@@ -12,10 +13,12 @@ mod looking;
 mod names;
 mod open;
 mod opening;
+mod read;
 mod room;
 mod room_laws;
 mod room_printing;
 mod room_search;
+mod size;
 mod starting;
 mod stepping;
 mod total;
