@@ -35,3 +35,4 @@ pub mod CloseGone
 pub mod Asks
 pub mod Sizes
 pub mod ReadSteps
+pub mod PrintedReads

@@ -1,5 +1,5 @@
 -- The stream of an open object that a request names by a handle, or why there is none.
-use Rattle.std.specs.Prelude.{◌≡◌, ◌&&◌, ◌==◌, ℕ, Bool, List, [], ◌∷◌, is_none, length, nat_lt, not, true}
+use Rattle.std.specs.Prelude.{◌≡◌, ◌<◌, ◌&&◌, ◌==◌, ℕ, Bool, List, [], ◌∷◌, is_none, length, nat_lt, not, true}
 use Rattle.std.specs.declared.option.Option.{Option}
 use Rattle.std.specs.declared.option.Option.TheVariants.{None, Some}
 use Rattle.blk_image.specs.Image.{Image}
@@ -7,6 +7,7 @@ use Rattle.blk_image.specs.Told.{Told}
 use Rattle.blk_io.specs.declared.fault.Damage.{Damage}
 use Rattle.blk_model.specs.Effects.{stream_of}
 use Rattle.blk_model.specs.Refusals.{first_refusal, is_kept_from_streams, names_none, no_stream}
+use Rattle.blk_model.specs.Sizes.{stream_count}
 use Rattle.blk_model.specs.State.{Object, State}
 use Rattle.blk_model.specs.declared.Refusal.{Refusal}
 use Rattle.blk_model.specs.declared.Refusal.TheVariants as refusal
@@ -56,10 +57,10 @@ abbrev pub IsAsked : State → Layout → (handle stream : ℕ) → Asked → Ty
 IsAsked state layout handle stream (asked.Refused why) = stream_refusal state handle stream ≡ Some why
 IsAsked state layout handle stream (asked.Stream found) = IsNamedStream state layout handle stream found
 
--- a stream that is found is of a node and a record among the block files
-abbrev pub StandsAmong : BlockFiles → Asked → Type 0
-StandsAmong files (asked.Refused why) = Unit {0}
-StandsAmong files (asked.Stream found) = (is_node_among files found.node ≡ true) × (is_record_among files found.entry ≡ true)
+-- a stream that is found is of a node and a record among the block files, and its number is one of three
+abbrev pub StandsAmong : BlockFiles → (stream : ℕ) → Asked → Type 0
+StandsAmong files stream (asked.Refused why) = Unit {0}
+StandsAmong files stream (asked.Stream found) = (is_node_among files found.node ≡ true) × ((is_record_among files found.entry ≡ true) × (stream < stream_count))
 
 -- Damages.
 

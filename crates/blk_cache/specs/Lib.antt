@@ -15,3 +15,4 @@ pub mod RoomKept
 pub mod Closing
 pub mod Asking
 pub mod Reading
+pub mod ReadPrinting

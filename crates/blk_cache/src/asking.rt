@@ -52,7 +52,7 @@ impl Cache {
     ) -> Result<Asked, Fault>
         ensures asked { IfOk result (λ answer. ForSome (F.told f.old).files (λ image. (state : State) → (k : KeepsState self.now state image) → IsAsked state k.layout handle stream answer)) }
         ensures early { IfSome (early_stream_refusal self.now.handles handle stream) (λ why. result ≡ Ok (asked.Refused why)) }
-        ensures stands { IfOk result (StandsAmong self.now.files) }
+        ensures stands { IfOk result (StandsAmong self.now.files stream) }
         ensures stays { Stays (F.told f.old) (F.told f.new) }
         ensures damaged { IfDamaged result (IsAskDamage self.now.handles (F.told f.old) handle) }
         ensures untold { ForSome (F.told f.old).files (KeepsAny self.now) → IfDamaged result (λ _. (F.told f.old).files ≡ None) }

@@ -14,6 +14,7 @@ mod names;
 mod open;
 mod opening;
 mod read;
+mod read_printing;
 mod room;
 mod room_laws;
 mod room_printing;

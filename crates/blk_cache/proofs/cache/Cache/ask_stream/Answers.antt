@@ -66,4 +66,5 @@ returns-clause-early g c = none-early c.args.self.now.handles c.args.handle c.ar
 
 pub returns-clause-stands : goal.returns-clause-stands
 returns-clause-stands g c =
-    opened-stands c.args.self.now.files c.args.self.now.handles c.args.self.now.stand c.args.handle c.in-Some-object.object (opened-there c.args.self.now.handles c.args.handle c.object.result c.in-Some-object.object c.object.ensures.object c.in-Some-object.is)
+    let stand = opened-stands c.args.self.now.files c.args.self.now.handles c.args.self.now.stand c.args.handle c.in-Some-object.object (opened-there c.args.self.now.handles c.args.handle c.object.result c.in-Some-object.object c.object.ensures.object c.in-Some-object.is) in
+    (stand.0, (stand.1, stream-below c.args.self.now c.args.handle c.args.stream (sym c.refuses_stream.ensures ∙ c.in_default.is)))

@@ -44,7 +44,7 @@ returns-in-Refused-clause-is_open g c = subst (λ (t : Told). ForSome t.files (I
 -- The use.
 
 pub use_item-requires-clause-stands : goal.use_item-requires-clause-stands
-use_item-requires-clause-stands g c = (subst (StandsAmong c.args.self.now.files) c.in-Stream.is c.in_ok-asked.ensures.stands).0
+use_item-requires-clause-stands g c = (subst (StandsAmong c.args.self.now.files c.args.stream) c.in-Stream.is c.in_ok-asked.ensures.stands).0
 
 pub use_item-requires-clause-is_open : goal.use_item-requires-clause-is_open
 use_item-requires-clause-is_open g c = subst (λ (t : Told). ForSome t.files (IsOpen c.args.self.now.files)) (sym c.in_ok-asked.ensures.stays) c.requires.is_open
@@ -60,7 +60,7 @@ returns-in_err-use_item-in-Stream-clause-damaged g c =
     carried c.use_item.result c.from_residual-in_err-use_item-in-Stream.result c.in_err-use_item-in-Stream.field-0.0 (IsReadDamage c.args.self.now.handles c.args.self.now.files (g.F.Folder.told c.args.f.now) (g.F.Folder.told c.use_item.new.f) c.args.handle) c.in_err-use_item-in-Stream.was c.from_residual-in_err-use_item-in-Stream.ensures.1
     (if_damaged_weaker c.use_item.result _ _ (λ damage wrong. inr (record {
       node = c.in-Stream.named.node;
-      stands = (subst (StandsAmong c.args.self.now.files) c.in-Stream.is c.in_ok-asked.ensures.stands).0;
+      stands = (subst (StandsAmong c.args.self.now.files c.args.stream) c.in-Stream.is c.in_ok-asked.ensures.stands).0;
       wrong = subst (λ (t : Told). IsTouchDamage c.in-Stream.named.node c.args.self.now.files t (g.F.Folder.told c.use_item.new.f) damage) c.in_ok-asked.ensures.stays wrong;
     })) c.use_item.ensures.damaged)
 
