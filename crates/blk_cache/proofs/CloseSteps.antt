@@ -19,12 +19,8 @@ use Rattle.blk_model.specs.declared.Answer.TheVariants as answer
 use Rattle.blk_model.specs.declared.Refusal.TheVariants as refusal
 use Rattle.blk_format.specs.BlockFiles.{IsWellFormed}
 use Rattle.blk_format.specs.Sealed.{RecordChecks}
-use Rattle.blk_volume.specs.Layout.{rule_of}
-use Rattle.blk_volume.specs.View.{RecordFields, list_of, store_of}
+use Rattle.blk_volume.specs.View.{list_of}
 use Rattle.blk_laws.specs.CommandLaws.{marked, turned}
-use Rattle.blk_laws.proofs.chains.ChainWords.{record_checks, shown-fields, shown-kind}
-use Rattle.blk_laws.proofs.states.Settling.{main-owned}
-use Rattle.blk_laws.proofs.walks.Loads.{load-then}
 use Rattle.blk_disk.specs.declared.tables.BlockFiles.{BlockFiles}
 use Rattle.blk_disk.specs.Open.{IsOpen}
 use Rattle.blk_disk.specs.Tables.{is_node_among, is_record_among}
@@ -47,11 +43,12 @@ use Rattle.blk_kept_calls.proofs.Marks.{being-set, check-as-records, marks-set, 
 use Rattle.blk_cache.specs.declared.cache.Cache.{Cache}
 use Rattle.blk_cache.specs.BoundNames.{AreBoundAmong}
 use Rattle.blk_cache.specs.CacheKeeping.{IsBoundTo, KeepsState}
-use Rattle.blk_cache.specs.CommandClauses.{Cleans, IsLastOfDoomed, KeepsAny, OnlyNamesChange}
+use Rattle.blk_cache.specs.Closing.{Cleans}
+use Rattle.blk_cache.specs.CommandClauses.{KeepsAny, OnlyNamesChange}
 use Rattle.blk_cache.specs.Looking.{charge_at}
 use Rattle.blk_cache.proofs.BoundObjects.{free-of}
+use Rattle.blk_cache.proofs.BoundRecords.{bound-checks, bound-node, bound-says}
 use Rattle.blk_cache.proofs.Closes.{at-place, is, layout-now, less, less-keeps, less-open, named, node-place, number, settled-keeps, within-some}
-use Rattle.blk_cache.proofs.Looks.{live-charge, said-charge}
 use Rattle.blk_cache.proofs.Refusing.{says-kept}
 
 -- ---- what is freed
@@ -112,10 +109,10 @@ close-answer state moment handle goes = ap answer_of (passed state moment (to_cl
 -- ---- several names
 
 module _ (cache : Cache) (handle : ℕ) (small : handle < 2 ^ 16) (b : Binding) (bound : binding_of cache.handles handle ≡ Some b) where
-  below : (state : State) (image : Image) (k : KeepsState cache state image) → handle < 4096
+  pub below : (state : State) (image : Image) (k : KeepsState cache state image) → handle < 4096
   below state image k = let w = within-some state.names handle (number cache state image k handle b bound) (named cache state image k handle b bound) in let l = k.kept.entries.valid.names in omega (arith, w, l)
 
-  answered-as : (state : State) (image : Image) (k : KeepsState cache state image) (moment : ℕ) → answer.Done ≡ answer_of (step state moment (to_close handle)).reply
+  pub answered-as : (state : State) (image : Image) (k : KeepsState cache state image) (moment : ℕ) → answer.Done ≡ answer_of (step state moment (to_close handle)).reply
   answered-as state image k moment = sym (close-answer state moment handle (named-passes state moment handle (number cache state image k handle b bound) (below state image k) (named cache state image k handle b bound)))
 
   pub several-done : (new : Cache) (told : Told) → is_open (set cache.handles handle None) b.entry ≡ true → new.handles ≡ set cache.handles handle None → new.open_bytes ≡ cache.open_bytes → OnlyNamesChange cache new
@@ -163,7 +160,7 @@ module _ (cache : Cache) (handle : ℕ) (small : handle < 2 ^ 16) (b : Binding) 
       placed = at-place cache state image k handle b bound none live
 
       at-node : k.layout.at b.node ≡ Some it.loaded
-      at-node = ap k.layout.at node-is ∙ placed
+      at-node = bound-node state k.layout [] image k.kept.entries n b it
 
       mid-here : mid.files ≡ Some image
       mid-here = ap (λ (t : Told). t.files) stays ∙ here
@@ -171,22 +168,10 @@ module _ (cache : Cache) (handle : ℕ) (small : handle < 2 ^ 16) (b : Binding) 
       pub node-checks : AreBytes image → is_node_among cache.files b.node ≡ true → RecordChecks b.node image
       node-checks bytes stands = check-as-records image b.node bytes (node_kind cache.files b.node stands) (nodes-check state k.layout [] image b.node it.loaded k.kept.entries at-node)
 
-      pub entry-checks : AreBytes image → RecordChecks b.entry image
-      entry-checks bytes =
-          load-then {P = RecordChecks b.entry image} (store_of image) (rule_of k.layout b.node) b.node it.loaded (k.kept.entries.represents.holds.shows.each b.node it.loaded at-node)
-          (λ m e facts.
-          let at : m.contents ≡ b.entry = sym facts.facts.contents_is ∙ sym it.entry in
-          subst (λ (w : ℕ). RecordChecks w image) at (record_checks image m.contents bytes (shown-kind image m.contents e facts.entry) (ap (λ (z : RecordFields). z.checks) (shown-fields image m.contents e facts.entry) ∙ facts.checks)))
-
       pub its-charge : charge_at image b.entry ≡ own_charge it.object
-      its-charge =
-          ap (charge_at image) it.entry ∙ said-charge image state k.layout k.kept.entries.represents b.node it.loaded at-node
-          ∙ live-charge state k.layout [] image k.kept.entries it.object.key n it.object it.loaded (main-owned state k.kept.entries.valid n it.object true it.here live) it.here placed
+      its-charge = (bound-says state k.layout [] image k.kept.entries n b it).charge
 
-    -- a folder where the cache keeps a state has the record and the node check
-    pub mid-entry : TellsBytes mid → ForSome old.files (KeepsAny cache) → ForSome mid.files (RecordChecks b.entry)
-    mid-entry bytes any image there = let here : old.files ≡ Some image = ap (λ (t : Told). t.files) (sym stays) ∙ there in let one : KeepsAny cache image = any image here in entry-checks image here one.0 one.1 (bytes image there)
-
+    -- a folder where the cache keeps a state has its node check
     pub mid-node : TellsBytes mid → is_node_among cache.files b.node ≡ true → ForSome old.files (KeepsAny cache) → ForSome mid.files (RecordChecks b.node)
     mid-node bytes stands any image there = let here : old.files ≡ Some image = ap (λ (t : Told). t.files) (sym stays) ∙ there in let one : KeepsAny cache image = any image here in node-checks image here one.0 one.1 (bytes image there) stands
 
@@ -268,43 +253,32 @@ module _ (files now : BlockFiles) (bindings left : Bindings) (stand : AreBoundAm
   pub last-stands : is_node_among now object.node ≡ true
   last-stands = subst (λ (fs : BlockFiles). is_node_among fs object.node ≡ true) (sym same) (ap (λ (o : OpenObject). is_node_among files o.node) was.object_is ∙ (stand handle b bound).0)
 
--- it isn't doomed
-not-doomed : (bindings : Bindings) (handle : ℕ) (b : Binding) → binding_of bindings handle ≡ Some b → is_open (set bindings handle None) b.entry ≡ false → (IsLastOfDoomed bindings handle → ⊥) → b.doomed ≡ false
-not-doomed bindings handle b bound last never = ⊎_elim (λ (e : b.doomed ≡ true). absurd (never (record { object = b; here = bound; doomed = e; last = last }))) (λ (e : b.doomed ≡ false). e) (cases_Bool b.doomed)
-
-freed-last : (bindings now : Bindings) (handle : ℕ) (b : Binding) (object : OpenObject) → now ≡ set bindings handle None → WasLast bindings now b object → is_open (set bindings handle None) b.entry ≡ false
+pub freed-last : (bindings now : Bindings) (handle : ℕ) (b : Binding) (object : OpenObject) → now ≡ set bindings handle None → WasLast bindings now b object → is_open (set bindings handle None) b.entry ≡ false
 freed-last bindings now handle b object frees was = ap (λ (bs : Bindings). is_open bs b.entry) (sym frees) ∙ was.last
 
--- where the cache keeps a state they check
-pub last-entry : (cache : Cache) (old : Told) (handle : ℕ) (small : handle < 2 ^ 16) (b : Binding) (bound : binding_of cache.handles handle ≡ Some b) (new : Cache) → new.handles ≡ set cache.handles handle None → (object : OpenObject) → WasLast cache.handles new.handles b object
-    → (IsLastOfDoomed cache.handles handle → ⊥) → TellsBytes old → ForSome old.files (KeepsAny cache) → ForSome old.files (RecordChecks object.entry)
-last-entry cache old handle small b bound new frees object was never bytes any =
-    let last = freed-last cache.handles new.handles handle b object frees was in
-    subst (λ (o : OpenObject). ForSome old.files (RecordChecks o.entry)) (sym was.object_is) (mid-entry cache handle small b bound old old old refl last (not-doomed cache.handles handle b bound last never) bytes any)
-
-pub last-node : (cache : Cache) (old mid : Told) → mid ≡ old → (handle : ℕ) (small : handle < 2 ^ 16) (b : Binding) (bound : binding_of cache.handles handle ≡ Some b) (new : Cache) → new.handles ≡ set cache.handles handle None → (object : OpenObject) → WasLast cache.handles new.handles b object
-    → (IsLastOfDoomed cache.handles handle → ⊥) → TellsBytes mid → is_node_among cache.files object.node ≡ true → ForSome old.files (KeepsAny cache) → ForSome mid.files (RecordChecks object.node)
-last-node cache old mid stays handle small b bound new frees object was never bytes stands any =
-    let last = freed-last cache.handles new.handles handle b object frees was in
-    subst (λ (o : OpenObject). ForSome mid.files (RecordChecks o.node)) (sym was.object_is)
-    (mid-node cache handle small b bound old mid mid stays last (not-doomed cache.handles handle b bound last never) bytes (subst (λ (o : OpenObject). is_node_among cache.files o.node ≡ true) was.object_is stands) any)
+-- where the cache keeps a state its record checks
+pub last-entry : (cache : Cache) (old : Told) (handle : ℕ) (b : Binding) (bound : binding_of cache.handles handle ≡ Some b) (new : Cache) (object : OpenObject) → WasLast cache.handles new.handles b object
+    → TellsBytes old → ForSome old.files (KeepsAny cache) → ForSome old.files (RecordChecks object.entry)
+last-entry cache old handle b bound new object was bytes any image there =
+    let one : KeepsAny cache image = any image there in
+    let k : KeepsState cache one.0 image = one.1 in
+    subst (λ (o : OpenObject). RecordChecks o.entry image) (sym was.object_is)
+    (bound-checks one.0 k.layout [] image k.kept.entries (number cache one.0 image k handle b bound) b (is cache one.0 image k handle b bound) (bytes image there))
 
 module _ {A : Type 0} (cache : Cache) (old mid now : Told) (stays : mid ≡ old) (handle : ℕ) (small : handle < 2 ^ 16) (b : Binding) (bound : binding_of cache.handles handle ≡ Some b) (new : Cache) (frees : new.handles ≡ set cache.handles handle None) (others : OnlyNamesChange cache new)
-    (object : OpenObject) (was : WasLast cache.handles new.handles b object) (never : IsLastOfDoomed cache.handles handle → ⊥) (bytes : TellsBytes mid) (result : Result A Fault) (cleans : Cleans new.files mid now object result) (stands : is_node_among cache.files object.node ≡ true) where
+    (object : OpenObject) (was : WasLast cache.handles new.handles b object) (alive : b.doomed ≡ false) (bytes : TellsBytes mid) (result : Result A Fault) (cleans : Cleans new.files mid now object result) (stands : is_node_among cache.files object.node ≡ true) where
   abbrev cleaned : Cleans new.files mid now (open_object cache.handles b) result
   cleaned = subst (λ (o : OpenObject). Cleans new.files mid now o result) was.object_is cleans
 
   pub cleaned-stops : (moment : ℕ) → MayStopAtEach (KeepsState cache) old now moment (to_close handle)
   cleaned-stops =
-      let last = freed-last cache.handles new.handles handle b object frees was in
-      last-stops cache handle small b bound old mid now stays last (not-doomed cache.handles handle b bound last never) bytes (subst (λ (o : OpenObject). is_node_among cache.files o.node ≡ true) was.object_is stands) (λ dirty. (cleaned.cleans dirty).stops) cleaned.stays
+      last-stops cache handle small b bound old mid now stays (freed-last cache.handles new.handles handle b object frees was) alive bytes (subst (λ (o : OpenObject). is_node_among cache.files o.node ≡ true) was.object_is stands) (λ dirty. (cleaned.cleans dirty).stops) cleaned.stays
 
   pub cleaned-done : (ok : (P : Type 0) → OnOk result P → P) (last : Cache) → ForSome now.files (IsOpen new.files) → last.handles ≡ new.handles → OnlyNamesChange new last → new.open_bytes ≡ cache.open_bytes → (charge : ℕ) → last.open_bytes ≡ new.open_bytes - charge
       → ForSome old.files (λ image. charge ≡ charge_at image object.entry) → (moment : ℕ) → Does (KeepsState cache) (KeepsState last) old now moment (to_close handle) answer.Done
   cleaned-done ok last still same rest charged charge falls says moment =
-      let shut = freed-last cache.handles new.handles handle b object frees was in
       let sum : ForSome old.files (λ image. last.open_bytes ≡ cache.open_bytes - charge_at image b.entry) = λ image here.
       falls ∙ ap (λ (n : ℕ). n - charge) charged ∙ ap (λ (n : ℕ). cache.open_bytes - n) (says image here ∙ ap (λ (o : OpenObject). charge_at image o.entry) was.object_is) in
-      last-done cache handle small b bound old mid now stays shut (not-doomed cache.handles handle b bound shut never) last bytes (λ image here. subst (λ (fs : BlockFiles). IsOpen fs image) others.files (still image here)) (same ∙ frees) sum
+      last-done cache handle small b bound old mid now stays (freed-last cache.handles new.handles handle b object frees was) alive last bytes (λ image here. subst (λ (fs : BlockFiles). IsOpen fs image) others.files (still image here)) (same ∙ frees) sum
       (record { limits = rest.limits ∙ others.limits; items = rest.items ∙ others.items; bytes = rest.bytes ∙ others.bytes; files = rest.files ∙ others.files; mark = rest.mark ∙ others.mark; notes = rest.notes ∙ others.notes }) moment
       (λ dirty. ok (ForSome mid.files (λ from. Applies mid now (mark_steps from b.node 0))) (cleaned.cleans dirty).steps) cleaned.stays

@@ -1,12 +1,14 @@
 -- A Close of a cache that keeps a state.
 use Rattle.std.proofs.Common.{◌≡◌, ◌≢◌, ℕ, zero, suc, ◌+◌, ◌-◌, ◌<◌, Bool, true, false, List, [], ◌∷◌, length, length-set, set, get_or, get_or-set_other, Option, Some, None, refl, sym, ap, subst, ◌∙◌, arith, cond}
-use Rattle.std.specs.Prelude.{◌==◌, if◌then◌else◌, sum_by}
+use Rattle.std.specs.Prelude.{◌==◌, IfSome, if◌then◌else◌, sum_by}
 use Rattle.std.proofs.lemmas.Bool.{eqb-true}
 use Rattle.blk_image.specs.Image.{Image, Index, byte}
 use Rattle.blk_model.specs.Bounds.{bounds_of}
-use Rattle.blk_model.specs.Items.{main}
+use Rattle.blk_model.specs.Charge.{part_charge}
+use Rattle.blk_model.specs.Effects.{with_slot}
+use Rattle.blk_model.specs.Items.{PartValue, main, signature_of}
 use Rattle.blk_model.specs.Room.{charge, item_count, items, of_slot, own_charge, total}
-use Rattle.blk_model.specs.State.{Object, State, is_named, named_by}
+use Rattle.blk_model.specs.State.{IsObject, Object, State, is_named, named_by}
 use Rattle.std.proofs.lemmas.List.Sums.{sum_by-cons}
 use Rattle.blk_format.specs.Headers.{this_id_of}
 use Rattle.blk_volume.specs.Layout.{Layout}
@@ -16,6 +18,7 @@ use Rattle.blk_handles.specs.Bindings.{Binding, Bindings, binding_of, is_open, o
 use Rattle.blk_disk.specs.declared.tables.BlockFiles.{BlockFiles}
 use Rattle.blk_disk.specs.Tables.{Agrees}
 use Rattle.blk_kept.specs.CommandStates.{with_names}
+use Rattle.blk_kept.specs.GoneLaws.{layout_without}
 use Rattle.blk_kept.specs.Keeping.{Keeps, KeepsUncounted}
 use Rattle.blk_cache.specs.declared.cache.Cache.{Cache}
 use Rattle.blk_cache.specs.CacheKeeping.{IsBoundAs, IsBoundTo, KeepsState, named_objects, node_of_object}
@@ -36,6 +39,36 @@ sum-set f (y ∷ xs) zero o p here same =
     sum_by-cons (of_slot f) (Some p) xs ∙ ap (λ (n : ℕ). n + sum_by (of_slot f) xs) (same ∙ sym (ap (of_slot f) here)) ∙ sym (sum_by-cons (of_slot f) y xs)
 sum-set f (y ∷ xs) (suc i) o p here same =
     sum_by-cons (of_slot f) y (set xs i (Some p)) ∙ ap (λ (n : ℕ). of_slot f y + n) (sum-set f xs i o p here same) ∙ sym (sum_by-cons (of_slot f) y xs)
+
+-- what is counted of slots is that of one and of the others
+sum-out : (f : Object → ℕ) (xs : List (Option Object)) (i : ℕ) (o : Object) → get_or xs i None ≡ Some o → sum_by (of_slot f) xs ≡ f o + sum_by (of_slot f) (set xs i None)
+sum-out f [] i o here = absurd (let c : ◌≡◌ {A = Option Object} None (Some o) = here in cc)
+sum-out f (y ∷ xs) zero o here =
+    let first = sum_by-cons (of_slot f) y xs in
+    let now = sum_by-cons (of_slot f) None xs in
+    let own : of_slot f y ≡ f o = ap (of_slot f) here in
+    omega (arith, first, now, own)
+sum-out f (y ∷ xs) (suc i) o here =
+    let more = sum-out f xs i o here in
+    let first = sum_by-cons (of_slot f) y xs in
+    let now = sum_by-cons (of_slot f) y (set xs i None) in
+    omega (arith, more, first, now)
+
+-- an object without parts is charged as a main item
+bare-charge : (o : Object) → o.parts ≡ [] → charge o ≡ own_charge o
+unfolding charge
+bare-charge o none =
+    let e : sum_by (λ p. part_charge o.key (signature_of o.shape) p.0 p.1) o.parts ≡ 0 = ap (λ ps. sum_by (λ (p : ℕ × PartValue). part_charge o.key (signature_of o.shape) p.0 p.1) ps) none in
+    omega (arith, e)
+
+-- an object is counted as open no longer, nor as an item, with this charge
+pub record CountsGone (old new : Cache) (charged : ℕ) : Type 0 where
+  pub open_bytes : new.open_bytes ≡ old.open_bytes - charged
+  pub items : new.items ≡ old.items - 1
+  pub bytes : new.bytes ≡ old.bytes - charged
+  pub limits : new.limits ≡ old.limits
+  pub files : new.files ≡ old.files
+  pub mark : new.mark ≡ old.mark
 
 settled-charge : (o : Object) → charge (record o { settled = true }) ≡ charge o
 unfolding charge
@@ -99,23 +132,45 @@ module _ (cache : Cache) (state : State) (from : Image) (k : KeepsState cache st
         let now : charged ≡ cache.open_bytes - own_charge is.object = says ∙ ap (λ (t : Bool). if t then cache.open_bytes else cache.open_bytes - own_charge is.object) e in
         record { objects = omega (arith, count, all, one); bytes = omega (arith, now, bytes, two) }
 
-  closes-keep : (new : Cache) (image : Image) (layout : Layout) (next : State) → next.limits ≡ state.limits → items next ≡ items state → total next ≡ total state → named_objects next ≡ named_objects less
-      → ((name : ℕ) → IsBoundAs next layout (named_by next name) (binding_of bindings name)) → Keeps next layout [] image → Agrees cache.files image → this_id_of (byte image Index) ≡ this_id_of (byte from Index) → OnlyNamesChange cache new
-      → new.handles ≡ bindings → new.open_bytes ≡ (if is_named less number then cache.open_bytes else cache.open_bytes - own_charge is.object) → KeepsState new next image
-  closes-keep new image layout next limits same-items same-total same-named names keeps files id others frees charges =
-      let left : AreLeft (open_count bindings) new.open_bytes = are-left new.open_bytes charges in
+  -- what is kept of a state whose names are these, once the name is free
+  record IsKeptAs (new : Cache) (next : State) : Type 0 where
+    limits : new.limits ≡ cache.limits
+    items_are : new.items ≡ items next
+    bytes_are : new.bytes ≡ total next
+    files : new.files ≡ cache.files
+    mark : new.mark ≡ cache.mark
+    handles : new.handles ≡ bindings
+    open_bytes : new.open_bytes ≡ (if is_named less number then cache.open_bytes else cache.open_bytes - own_charge is.object)
+
+  closes-keep : (new : Cache) (image : Image) (layout : Layout) (next : State) → next.limits ≡ state.limits → named_objects next ≡ named_objects less
+      → ((name : ℕ) → IsBoundAs next layout (named_by next name) (binding_of bindings name)) → Keeps next layout [] image → Agrees cache.files image → this_id_of (byte image Index) ≡ this_id_of (byte from Index) → IsKeptAs new next → KeepsState new next image
+  closes-keep new image layout next limits same-named names keeps files id so =
+      let left : AreLeft (open_count bindings) new.open_bytes = are-left new.open_bytes so.open_bytes in
       record {
         layout = layout;
         kept = keeps;
-        limits = limits ∙ k.limits ∙ ap bounds_of (sym others.limits);
-        items_are = others.items ∙ k.items_are ∙ sym same-items;
-        bytes_are = others.bytes ∙ k.bytes_are ∙ sym same-total;
-        open_objects = ap open_count frees ∙ left.objects ∙ ap length (sym same-named);
+        limits = limits ∙ k.limits ∙ ap bounds_of (sym so.limits);
+        items_are = so.items_are;
+        bytes_are = so.bytes_are;
+        open_objects = ap open_count so.handles ∙ left.objects ∙ ap length (sym same-named);
         open_bytes = left.bytes ∙ ap (λ (l : List Object). sum_by own_charge l) (sym same-named);
-        names = λ name. subst (λ (bs : Bindings). IsBoundAs next layout (named_by next name) (binding_of bs name)) (sym frees) (names name);
-        files = subst (λ (fs : BlockFiles). Agrees fs image) (sym others.files) files;
-        mark = others.mark ∙ k.mark ∙ sym id;
+        names = λ name. subst (λ (bs : Bindings). IsBoundAs next layout (named_by next name) (binding_of bs name)) (sym so.handles) (names name);
+        files = subst (λ (fs : BlockFiles). Agrees fs image) (sym so.files) files;
+        mark = so.mark ∙ k.mark ∙ sym id;
       }
+
+  -- where but for the names all is as before
+  kept-as : (new : Cache) (next : State) → items next ≡ items state → total next ≡ total state → OnlyNamesChange cache new → new.handles ≡ bindings
+      → new.open_bytes ≡ (if is_named less number then cache.open_bytes else cache.open_bytes - own_charge is.object) → IsKeptAs new next
+  kept-as new next same-items same-total others frees charges = record {
+    limits = others.limits;
+    items_are = others.items ∙ k.items_are ∙ sym same-items;
+    bytes_are = others.bytes ∙ k.bytes_are ∙ sym same-total;
+    files = others.files;
+    mark = others.mark;
+    handles = frees;
+    open_bytes = charges;
+  }
 
   less-names : (o : Option ℕ) (d : Option Binding) → IsBoundAs state k.layout o d → IsBoundAs less k.layout o d
   less-names None None n = n
@@ -127,7 +182,7 @@ module _ (cache : Cache) (state : State) (from : Image) (k : KeepsState cache st
   pub less-keeps : (new : Cache) (image : Image) → Keeps less k.layout [] image → Agrees cache.files image → this_id_of (byte image Index) ≡ this_id_of (byte from Index) → OnlyNamesChange cache new
       → new.handles ≡ bindings → new.open_bytes ≡ (if is_named less number then cache.open_bytes else cache.open_bytes - own_charge is.object) → KeepsState new less image
   less-keeps new image keeps files id others frees charges =
-      closes-keep new image k.layout less refl refl refl refl (λ name. less-names (named_by less name) (binding_of bindings name) (bound-less state k.layout [] from kept state.names cache.handles k.names handle name)) keeps files id others frees charges
+      closes-keep new image k.layout less refl refl (λ name. less-names (named_by less name) (binding_of bindings name) (bound-less state k.layout [] from kept state.names cache.handles k.names handle name)) keeps files id (kept-as new less refl refl others frees charges)
 
   -- and where the object is settled with its last name
   module _ (last : is_named less number ≡ false) (alive : is.object.live ≡ true) where
@@ -172,8 +227,82 @@ module _ (cache : Cache) (state : State) (from : Image) (k : KeepsState cache st
         → new.handles ≡ bindings → new.open_bytes ≡ (if is_named less number then cache.open_bytes else cache.open_bytes - own_charge is.object) → KeepsState new settled image
     settled-keeps new image keeps files id others frees charges =
         closes-keep new image layout-now settled refl
-        (sum-set item_count state.objects number is.object (record is.object { settled = true }) is.here refl)
-        (sum-set charge state.objects number is.object (record is.object { settled = true }) is.here (settled-charge is.object))
         (named-same less settled (λ n. refl) 0 settled.objects ∙ named-set less number last 0 number (omega arith) state.objects (Some (record is.object { settled = true })))
         (λ name. settled-names name (named_by less name) (binding_of bindings name) refl (bound-less state k.layout [] from kept state.names cache.handles k.names handle name))
-        keeps files id others frees charges
+        keeps files id
+        (kept-as new settled
+        (sum-set item_count state.objects number is.object (record is.object { settled = true }) is.here refl)
+        (sum-set charge state.objects number is.object (record is.object { settled = true }) is.here (settled-charge is.object))
+        others frees charges)
+
+  -- and where the object is doomed, and gone with its last name
+  module _ (last : is_named less number ≡ false) (dead : is.object.live ≡ false) where
+    pub node-doomed : node_of_object k.layout number is.object ≡ k.layout.place_of_doomed number
+    node-doomed = ap (λ (t : Bool). if t then k.layout.place (main is.object.key) else k.layout.place_of_doomed number) dead
+
+    pub at-doomed : k.layout.at (k.layout.place_of_doomed number) ≡ Some is.loaded
+    at-doomed = ap k.layout.at (sym node-doomed) ∙ is.at
+
+    abbrev pub gone : State
+    gone = with_names (set state.names handle None) (with_slot number None state)
+
+    abbrev pub layout-gone : Layout
+    layout-gone = layout_without k.layout (k.layout.place_of_doomed number)
+
+    -- another object lies where it lay
+    gone-bound : (m : ℕ) (d : Binding) → m ≢ number → IsBoundTo state k.layout m d → IsBoundTo gone layout-gone m d
+    gone-bound m d other n = record {
+      object = n.object;
+      here = get_or-set_other state.objects number m None None other ∙ n.here;
+      loaded = n.loaded;
+      at = at-elsewhere k.layout.at (k.layout.place_of_doomed number) None (node_of_object k.layout m n.object) (elsewhere (k.layout.place_of_doomed number == node_of_object k.layout m n.object) refl) ∙ n.at;
+      node = n.node;
+      entry = n.entry;
+      doomed = n.doomed;
+      dirty = n.dirty;
+    } where
+      elsewhere : (t : Bool) → (k.layout.place_of_doomed number == node_of_object k.layout m n.object) ≡ t → (k.layout.place_of_doomed number == node_of_object k.layout m n.object) ≡ false
+      elsewhere false e = e
+      elsewhere true e = absurd (other (one-object state k.layout [] from kept m number n.object is.object n.here is.here (sym (eqb-true (k.layout.place_of_doomed number) (node_of_object k.layout m n.object) e) ∙ sym node-doomed)))
+
+    gone-names : (name : ℕ) (o : Option ℕ) (d : Option Binding) → named_by less name ≡ o → IsBoundAs state k.layout o d → IsBoundAs gone layout-gone o d
+    gone-names name None None e n = n
+    gone-names name (Some m) (Some d) e n = gone-bound m d (λ (same : m ≡ number). not-last (sym last ∙ ap (is_named less) (sym same) ∙ named-at (set state.names handle None) name m e)) n
+      where
+        not-last : false ≡ true → ⊥
+        not-last h = cc
+    gone-names name None (Some d) e n = absurd n
+    gone-names name (Some m) None e n = absurd n
+
+    -- it has no parts, so it is one item, charged as a main item
+    no-parts : is.object.parts ≡ []
+    no-parts = let object : IsObject is.object = subst (λ (o : Option Object). IfSome o IsObject) is.here (kept.valid.objects number) in object.doomed_has_no_parts dead
+
+    one-item : items state ≡ 1 + items gone
+    one-item = let sum = sum-out item_count state.objects number is.object is.here in let one : length is.object.parts ≡ 0 = ap length no-parts in omega (arith, sum, one)
+
+    its-bytes : total state ≡ own_charge is.object + total gone
+    its-bytes = sum-out charge state.objects number is.object is.here ∙ ap (λ (n : ℕ). n + total gone) (bare-charge is.object no-parts)
+
+    pub gone-keeps : (new : Cache) (image : Image) → Keeps gone layout-gone [] image → Agrees cache.files image → this_id_of (byte image Index) ≡ this_id_of (byte from Index) → CountsGone cache new (own_charge is.object)
+        → new.handles ≡ bindings → KeepsState new gone image
+    gone-keeps new image keeps files id counts frees =
+        let one = one-item in
+        let bytes = its-bytes in
+        let items-was = k.items_are in
+        let bytes-was = k.bytes_are in
+        let items-now = counts.items in
+        let bytes-now = counts.bytes in
+        closes-keep new image layout-gone gone refl
+        (named-same less gone (λ n. refl) 0 gone.objects ∙ named-set less number last 0 number (omega arith) state.objects None)
+        (λ name. gone-names name (named_by less name) (binding_of bindings name) refl (bound-less state k.layout [] from kept state.names cache.handles k.names handle name))
+        keeps files id
+        (record {
+          limits = counts.limits;
+          items_are = omega (arith, one, items-was, items-now);
+          bytes_are = omega (arith, bytes, bytes-was, bytes-now);
+          files = counts.files;
+          mark = counts.mark;
+          handles = frees;
+          open_bytes = counts.open_bytes ∙ sym (ap (λ (t : Bool). if t then cache.open_bytes else cache.open_bytes - own_charge is.object) last);
+        })

@@ -37,3 +37,9 @@ pub mod CreateWhole
 pub mod GroupsOut
 pub mod EvictedGroups
 pub mod PartsPrinted
+pub mod BoundRecords
+pub mod CloseGone
+pub mod Asks
+pub mod Sizes
+pub mod ReadSteps
+pub mod PrintedReads

@@ -54,7 +54,7 @@ unfolding reply
 open-answer moment handle key s goes = ap answer_of (passed s moment (to_open handle key) goes).1
 
 -- the node of a listed item is in the walked list
-listed-node : (state : State) (layout : Layout) (image : Image) → KeepsUncounted state layout [] image → (key : List ℕ) → is_listed state (main key) ≡ true → IsListed (layout.place (main key)) image
+pub listed-node : (state : State) (layout : Layout) (image : Image) → KeepsUncounted state layout [] image → (key : List ℕ) → is_listed state (main key) ≡ true → IsListed (layout.place (main key)) image
 listed-node state layout image k key there =
     let w : walked image ≡ order state layout = walk-order (view_of image) state layout k.represents in
     record {

@@ -1,13 +1,10 @@
 -- What a command of the cache owes beside the map's answer and the next state.
-use Rattle.std.specs.Prelude.{◌≡◌, ◌⊎◌, ℕ, ◌+◌, ◌-◌, ◌^◌, Bool, List, [], ◌∷◌, if◌then◌else◌, false, is_some, min, slice_set, true, IsOk}
+use Rattle.std.specs.Prelude.{◌≡◌, ◌⊎◌, ℕ, ◌+◌, ◌-◌, ◌^◌, Bool, List, [], ◌∷◌, if◌then◌else◌, is_some, min, true}
 use Rattle.std.specs.declared.option.Option.{Option}
 use Rattle.std.specs.declared.option.Option.TheVariants.{None, Some}
-use Rattle.std.specs.declared.result.Result.{Result}
 use Rattle.blk_image.specs.Image.{Image}
 use Rattle.blk_image.specs.Told.{Stays, Told}
-use Rattle.blk_format.specs.Sealed.{record_size}
 use Rattle.blk_io.specs.declared.fault.Damage.{Damage}
-use Rattle.blk_io.specs.declared.fault.Fault.{Fault}
 use Rattle.blk_model.specs.State.{State}
 use Rattle.blk_model.specs.declared.Answer.{Answer}
 use Rattle.blk_model.specs.declared.Answer.TheVariants as answer
@@ -15,13 +12,9 @@ use Rattle.blk_model.specs.declared.Refusal.{Refusal}
 use Rattle.blk_model.specs.declared.Refusal.TheVariants as refusal
 use Rattle.blk_model.specs.Refusals.{first_refusal, no_key, no_name}
 use Rattle.blk_disk.specs.declared.tables.BlockFiles.{BlockFiles}
-use Rattle.blk_disk.specs.Damages.{IsFailedRecord}
-use Rattle.blk_disk.specs.Tables.{is_node_among, is_record_among}
+use Rattle.blk_disk.specs.Tables.{is_node_among}
 use Rattle.blk_lru.specs.Damages.{IsTouchDamage}
-use Rattle.blk_handles.specs.declared.open_object.OpenObject.{OpenObject}
-use Rattle.blk_handles.specs.Bindings.{Binding, Bindings, binding_of, is_open}
-use Rattle.blk_entry.specs.Keys.{IsHeadDamage}
-use Rattle.blk_entry.specs.Marks.{SetsDirty}
+use Rattle.blk_handles.specs.Bindings.{Bindings, binding_of}
 use Rattle.blk_cache.specs.declared.cache.Cache.{Cache}
 use Rattle.blk_cache.specs.CacheKeeping.{KeepsState}
 use Rattle.blk_cache.specs.Looking.{IsLookDamage}
@@ -73,26 +66,3 @@ pub record IsUseDamage (files : BlockFiles) (old new : Told) (damage : Damage) :
 -- the damages of an Open: of the search for the key, or of the use of what was found
 abbrev pub IsOpenDamage : BlockFiles → (old new : Told) → List ℕ → Damage → Type 0
 IsOpenDamage files old new key damage = IsLookDamage files old key damage ⊎ IsUseDamage files old new damage
-
--- Close.
-
--- a handle is the last name of a doomed object
-pub record IsLastOfDoomed (bindings : Bindings) (handle : ℕ) : Type 0 where
-  pub object : Binding
-  pub here : binding_of bindings handle ≡ Some object
-  pub doomed : object.doomed ≡ true
-  pub last : is_open (slice_set bindings handle None) object.entry ≡ false
-
--- the dirty word of an object becomes 0, unless it is so
-pub record Cleans {A : Type 0} (files : BlockFiles) (old new : Told) (object : OpenObject) (result : Result A Fault) : Type 0 where
-  pub cleans : object.dirty ≡ true → SetsDirty files old new object.node 0 result
-  pub stays : object.dirty ≡ false → Stays old new
-  pub done : object.dirty ≡ false → IsOk result
-
--- the damages of a Close: of the record of the object, or of its node, whose dirty word was to become 0
-pub record IsCloseDamage (files : BlockFiles) (told : Told) (damage : Damage) : Type 0 where
-  pub entry : ℕ
-  pub names : is_record_among files entry ≡ true
-  pub node : ℕ
-  pub stands : is_node_among files node ≡ true
-  pub wrong : IsHeadDamage told entry damage ⊎ IsFailedRecord told node (record_size node) damage

@@ -18,3 +18,7 @@ pub mod Stepping
 pub mod Listing
 pub mod EvictingGroups
 pub mod SparseStub
+pub mod Closing
+pub mod Asking
+pub mod Reading
+pub mod ReadPrinting

@@ -1,11 +1,11 @@
 // The command Close.
-ghost use Rattle.std.specs.Prelude.{◌≡◌, ◌≤◌, IfOk, IfSome, IsSome, IsTrue, None, Ok, if◌then◌else◌, slice_set, ℕ};
+ghost use Rattle.std.specs.Prelude.{◌≡◌, ◌≤◌, IfOk, IfSome, IsSome, IsTrue, None, Ok, false, if◌then◌else◌, slice_set, true, ℕ};
 ghost use Rattle.std.specs.Option.{ForSome};
 ghost use Rattle.blk_image.specs.Told.{Rises, Stays};
 ghost use Rattle.blk_io.specs.Faults.{IfDamaged, IfDevice};
 ghost use Rattle.blk_model.specs.Request.{to_close};
 ghost use Rattle.blk_disk.specs.Open.{IsOpen};
-ghost use Rattle.blk_disk.specs.Tables.{is_node_among};
+ghost use Rattle.blk_disk.specs.Tables.{is_node_among, is_record_among};
 ghost use Rattle.blk_disk.specs.Damages.{IsFailedRecord};
 ghost use Rattle.blk_format.specs.Sealed.{RecordChecks, record_size};
 ghost use Rattle.blk_model.specs.declared.Answer.TheVariants as answer;
@@ -13,26 +13,29 @@ ghost use Rattle.blk_model.specs.declared.Refusal.TheVariants as refusal;
 ghost use Rattle.blk_handles.specs.Bindings.{AreShared, binding_of, is_open, open_object};
 ghost use Rattle.blk_kept.specs.Commands.{Does, MayStopAtEach};
 ghost use Rattle.blk_cache.specs.CacheKeeping.{KeepsState};
-ghost use Rattle.blk_cache.specs.CommandClauses.{Cleans, IsCloseDamage, IsLastOfDoomed, IsRefused, KeepsAny, OnlyNamesChange};
+ghost use Rattle.blk_cache.specs.Closing.{Cleans, CountsClosed, FreesAll, HasFreeable, IsCloseDamage, IsEndDamage, MayEnd};
+ghost use Rattle.blk_cache.specs.CommandClauses.{IsRefused, KeepsAny, OnlyNamesChange};
 
 use crate::cache::Cache;
 use crate::looking::read_charge;
+use blk_addr::Addr;
 use blk_disk::BlockFiles;
 use blk_entry::set_clean;
 use blk_handles::{OpenObject, Released};
 use blk_io::{Fault, Folder};
 use blk_model::{Answer, Refusal};
+use blk_object::{free_owned, read_owned};
 
 impl Cache {
-    /// Frees a handle name. Where it was the last name of its object, the object is charged no longer as an open one, and
-    /// where it isn't settled its dirty word becomes 0; else nothing is written.
+    /// Frees a handle name. Where it was the last name of its object, the object is charged no longer as an open one: of
+    /// a doomed object all that it has is freed, and it is no item any more; of another that isn't settled the dirty word
+    /// becomes 0. Else nothing is written.
     ///
-    /// It is refused with `BadHandle` where the name is free, or 4096 or more. It isn't asked for the last name of a
-    /// doomed object, which would have to be freed with it. After a fault nothing is promised of the cache but that it
-    /// may be let go.
+    /// It is refused with `BadHandle` where the name is free, or 4096 or more. For a last name one folder call reads the
+    /// record; four more make the dirty word 0; for a doomed object one more reads its places, and each of at most six
+    /// places takes seven at most. After a fault nothing is promised of the cache but that it may be let go.
     pub(crate) fn close<F: Folder>(&mut self, f: &mut F, handle: u16) -> Result<Answer, Fault>
         requires is_open { ForSome (F.told f.old).files (IsOpen self.old.files) }
-        requires live { IsLastOfDoomed self.old.handles handle → ⊥ }
         ensures does { (moment : ℕ) → IfOk result (λ answer. Does (KeepsState self.old) (KeepsState self.new) (F.told f.old) (F.told f.new) moment (to_close handle) answer) }
         ensures stops { (moment : ℕ) → MayStopAtEach (KeepsState self.old) (F.told f.old) (F.told f.new) moment (to_close handle) }
 
@@ -45,7 +48,7 @@ impl Cache {
         ensures notes { self.new.notes ≡ self.old.notes }
 
         // A folder that tells its files gives no damage where the cache keeps a state.
-        ensures damaged { IfDamaged result (IsCloseDamage self.old.files (F.told f.old)) }
+        ensures damaged { IfDamaged result (IsCloseDamage self.old.handles (F.told f.old) handle) }
         ensures untold { ForSome (F.told f.old).files (KeepsAny self.old) → IfDamaged result (λ _. (F.told f.old).files ≡ None) }
         ensures silent { (F.told f.old).files ≡ None → (F.told f.new).files ≡ None }
         ensures later { F.faults f.old ≤ F.faults f.new }
@@ -58,8 +61,8 @@ impl Cache {
             Released::More => Ok(Answer::Done),
             Released::Last(object) => {
                 let charge = read_charge(f, &self.files, object.entry)?;
-                clean(f, &self.files, &object)?;
-                self.open_bytes = self.open_bytes.saturating_sub(charge);
+                end_object(f, &self.files, &object)?;
+                self.count_closed(object.doomed, charge);
                 Ok(Answer::Done)
             }
         }
@@ -76,6 +79,53 @@ impl Cache {
     {
         self.handles.release(handle)
     }
+
+    // Counts a closed object with its charge as open no longer, and a doomed one as no item.
+    fn count_closed(&mut self, doomed: bool, charge: u64)
+        ensures counts { CountsClosed self.old self.new doomed charge }
+    {
+        self.open_bytes = self.open_bytes.saturating_sub(charge);
+        if doomed {
+            self.items = self.items.saturating_sub(1);
+            self.bytes = self.bytes.saturating_sub(charge);
+        }
+    }
+}
+
+// Ends an object that is closed: all that a doomed one has is freed, and of another the dirty word becomes 0.
+fn end_object<F: Folder>(f: &mut F, files: &BlockFiles, object: &OpenObject) -> Result<(), Fault>
+    requires names { IsTrue (is_record_among files.now object.now.entry) }
+    requires stands { IsTrue (is_node_among files.now object.now.node) }
+    requires is_open { ForSome (F.told f.old).files (IsOpen files.now) }
+    ensures cleans { object.now.doomed ≡ false → Cleans files.now (F.told f.old) (F.told f.new) object.now result }
+    ensures frees { object.now.doomed ≡ true → FreesAll (F.told f.old) (F.told f.new) object.now.entry result }
+    ensures is_open { ForSome (F.told f.new).files (IsOpen files.now) }
+    ensures damaged { IfDamaged result (IsEndDamage object.now.doomed object.now.entry object.now.node (F.told f.old)) }
+    ensures untold { ForSome (F.told f.old).files (MayEnd object.now.doomed object.now.entry object.now.node) → IfDamaged result (λ _. (F.told f.old).files ≡ None) }
+    ensures silent { (F.told f.old).files ≡ None → (F.told f.new).files ≡ None }
+    ensures later { F.faults f.old ≤ F.faults f.new }
+    ensures device { IfDevice result (Rises (F.faults f.old) (F.faults f.new)) }
+{
+    if object.doomed {
+        free_entry(f, files, object.entry)
+    } else {
+        clean(f, files, object)
+    }
+}
+
+// Frees all places of what lies there with a record.
+fn free_entry<F: Folder>(f: &mut F, files: &BlockFiles, entry: Addr) -> Result<(), Fault>
+    requires names { IsTrue (is_record_among files.now entry) }
+    requires is_open { ForSome (F.told f.old).files (IsOpen files.now) }
+    ensures frees { FreesAll (F.told f.old) (F.told f.new) entry result }
+    ensures is_open { ForSome (F.told f.new).files (IsOpen files.now) }
+    ensures untold { ForSome (F.told f.old).files (HasFreeable entry) → IfDamaged result (λ _. (F.told f.old).files ≡ None) }
+    ensures silent { (F.told f.old).files ≡ None → (F.told f.new).files ≡ None }
+    ensures later { F.faults f.old ≤ F.faults f.new }
+    ensures device { IfDevice result (Rises (F.faults f.old) (F.faults f.new)) }
+{
+    let owned = read_owned(f, files, entry)?;
+    free_owned(f, files, &owned)
 }
 
 // Makes the dirty word of an object 0 where it isn't so.

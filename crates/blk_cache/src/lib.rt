@@ -1,6 +1,7 @@
 //! A cache over a folder: its opening, its totals, and its end.
 #![tactic(auto)]
 
+mod asking;
 mod cache;
 mod close;
 mod create;
@@ -18,11 +19,14 @@ mod making_room;
 mod names;
 mod open;
 mod opening;
+mod read;
+mod read_printing;
 mod room;
 mod room_laws;
 mod room_printing;
 mod room_search;
 mod sparse_stub;
+mod size;
 mod starting;
 mod stepping;
 mod total;

@@ -9,11 +9,12 @@ use Rattle.blk_disk.specs.Open.{IsOpen}
 use Rattle.blk_kept.proofs.Stopping.{nothing-stops, refusals-done}
 use Rattle.blk_handles.specs.Bindings.{Bindings, is_open}
 use Rattle.blk_cache.specs.CacheKeeping.{KeepsState}
-use Rattle.blk_disk.specs.Damages.{IsFailedRecord}
+use Rattle.blk_entry.specs.Keys.{IsHeadDamage}
+use Rattle.blk_handles.specs.declared.open_object.OpenObject.{OpenObject}
 use Rattle.blk_disk.specs.Tables.{Agrees}
-use Rattle.blk_format.specs.Sealed.{record_size}
-use Rattle.blk_cache.specs.CommandClauses.{IsCloseDamage}
-use Rattle.blk_cache.proofs.CloseSteps.{bound-there, cleaned-done, cleaned-stops, free-refused, free-there, last-entry, last-named, last-node, last-stands, several-done, was-last, was-more}
+use Rattle.blk_cache.specs.Closing.{IsCloseDamage, IsEndDamage}
+use Rattle.blk_cache.proofs.CloseSteps.{bound-there, free-refused, free-there, last-entry, last-named, last-stands, several-done, was-last, was-more}
+use Rattle.blk_cache.proofs.CloseGone.{closed-done, closed-may, closed-stops}
 use Rattle.blk_cache.proofs.Refusing.{says-kept}
 use Rattle.blk_cache.proofs.cache.Cache.close.Goals as goal
 
@@ -67,13 +68,11 @@ pub returns-in_err-charge-in-Last-clause-damaged : goal.returns-in_err-charge-in
 returns-in_err-charge-in-Last-clause-damaged g c =
     let b = bound-there c.args.self.now.handles c.args.handle c.object.result c.object.ensures.object (c.is_none.ensures ∙ ap not c.if-is_none.false) in
     let w = was-last c.args.self.now.handles c.release.new.self.handles c.args.handle b.0 b.1 c.release.result c.in-Last.object c.in-Last.is c.release.ensures.answer in
-    carried c.read_charge.result c.from_residual.result c.in_err-charge-in-Last.field-0.0 (IsCloseDamage c.args.self.now.files (g.F.Folder.told c.args.f.now)) c.in_err-charge-in-Last.was c.from_residual.ensures.1
+    carried c.read_charge.result c.from_residual.result c.in_err-charge-in-Last.field-0.0 (IsCloseDamage c.args.self.now.handles (g.F.Folder.told c.args.f.now) c.args.handle) c.in_err-charge-in-Last.was c.from_residual.ensures.1
     (if_damaged_weaker c.read_charge.result _ _ (λ damage wrong. record {
-      entry = c.in-Last.object.entry;
-      names = last-named c.args.self.now.files c.args.self.now.files c.args.self.now.handles c.release.new.self.handles c.args.self.now.stand refl c.args.handle b.0 b.1 c.in-Last.object w;
-      node = c.in-Last.object.node;
-      stands = last-stands c.args.self.now.files c.args.self.now.files c.args.self.now.handles c.release.new.self.handles c.args.self.now.stand refl c.args.handle b.0 b.1 c.in-Last.object w;
-      wrong = inl wrong;
+      object = b.0;
+      here = b.1;
+      wrong = inl (subst (λ (o : OpenObject). IsHeadDamage (g.F.Folder.told c.args.f.now) o.entry damage) w.object_is wrong);
     }) c.read_charge.ensures.damaged)
 
 pub returns-in_err-charge-in-Last-clause-untold : goal.returns-in_err-charge-in-Last-clause-untold
@@ -83,65 +82,79 @@ returns-in_err-charge-in-Last-clause-untold g c any =
     let w = was-last c.args.self.now.handles c.release.new.self.handles c.args.handle b.0 b.1 c.release.result c.in-Last.object c.in-Last.is c.release.ensures.answer in
     carried c.read_charge.result c.from_residual.result c.in_err-charge-in-Last.field-0.0 (λ _. old.files ≡ None) c.in_err-charge-in-Last.was c.from_residual.ensures.1
     (c.read_charge.ensures.untold (λ image there. subst (λ (files : BlockFiles). Agrees files image) (sym c.release.ensures.others.files) (c.requires.is_open image there).agrees)
-    (last-entry c.args.self.now old c.args.handle (omega (arith, c.ranges.handle.fits)) b.0 b.1 c.release.new.self c.release.ensures.frees c.in-Last.object w c.requires.live (g.met.F.Folder.are_bytes c.args.f.now) any))
+    (last-entry c.args.self.now old c.args.handle b.0 b.1 c.release.new.self c.in-Last.object w (g.met.F.Folder.are_bytes c.args.f.now) any))
 
-pub clean-requires-clause-is_open : goal.clean-requires-clause-is_open
-clean-requires-clause-is_open g c image now =
+-- Its end.
+
+pub end_object-requires-clause-is_open : goal.end_object-requires-clause-is_open
+end_object-requires-clause-is_open g c image now =
     subst (λ (files : BlockFiles). IsOpen files image) (sym c.release.ensures.others.files) (c.requires.is_open image (ap (λ (t : Told). t.files) (sym c.in_ok-charge-in-Last.ensures.stays) ∙ now))
 
-pub clean-requires-clause-stands : goal.clean-requires-clause-stands
-clean-requires-clause-stands g c =
+pub end_object-requires-clause-names : goal.end_object-requires-clause-names
+end_object-requires-clause-names g c =
+    let b = bound-there c.args.self.now.handles c.args.handle c.object.result c.object.ensures.object (c.is_none.ensures ∙ ap not c.if-is_none.false) in
+    let w = was-last c.args.self.now.handles c.release.new.self.handles c.args.handle b.0 b.1 c.release.result c.in-Last.object c.in-Last.is c.release.ensures.answer in
+    last-named c.args.self.now.files c.release.new.self.files c.args.self.now.handles c.release.new.self.handles c.args.self.now.stand c.release.ensures.others.files c.args.handle b.0 b.1 c.in-Last.object w
+
+pub end_object-requires-clause-stands : goal.end_object-requires-clause-stands
+end_object-requires-clause-stands g c =
     let b = bound-there c.args.self.now.handles c.args.handle c.object.result c.object.ensures.object (c.is_none.ensures ∙ ap not c.if-is_none.false) in
     let w = was-last c.args.self.now.handles c.release.new.self.handles c.args.handle b.0 b.1 c.release.result c.in-Last.object c.in-Last.is c.release.ensures.answer in
     last-stands c.args.self.now.files c.release.new.self.files c.args.self.now.handles c.release.new.self.handles c.args.self.now.stand c.release.ensures.others.files c.args.handle b.0 b.1 c.in-Last.object w
 
-pub returns-in_err-clean-in-Last-clause-stops : goal.returns-in_err-clean-in-Last-clause-stops
-returns-in_err-clean-in-Last-clause-stops g c =
+pub returns-in_err-end_object-in-Last-clause-stops : goal.returns-in_err-end_object-in-Last-clause-stops
+returns-in_err-end_object-in-Last-clause-stops g c moment =
     let b = bound-there c.args.self.now.handles c.args.handle c.object.result c.object.ensures.object (c.is_none.ensures ∙ ap not c.if-is_none.false) in
     let w = was-last c.args.self.now.handles c.release.new.self.handles c.args.handle b.0 b.1 c.release.result c.in-Last.object c.in-Last.is c.release.ensures.answer in
-    cleaned-stops c.args.self.now (g.F.Folder.told c.args.f.now) (g.F.Folder.told c.read_charge.new.f) (g.F.Folder.told c.clean.new.f) c.in_ok-charge-in-Last.ensures.stays c.args.handle (omega (arith, c.ranges.handle.fits)) b.0 b.1 c.release.new.self c.release.ensures.frees c.release.ensures.others c.in-Last.object w c.requires.live
-    (g.met.F.Folder.are_bytes c.read_charge.new.f) c.clean.result c.clean.ensures.cleans
+    closed-stops c.args.self.now (g.F.Folder.told c.args.f.now) (g.F.Folder.told c.read_charge.new.f) (g.F.Folder.told c.end_object.new.f) c.in_ok-charge-in-Last.ensures.stays c.args.handle (omega (arith, c.ranges.handle.fits)) b.0 b.1 c.release.new.self c.release.ensures.frees c.release.ensures.others c.in-Last.object w
+    (g.met.F.Folder.are_bytes c.read_charge.new.f)
     (last-stands c.args.self.now.files c.args.self.now.files c.args.self.now.handles c.release.new.self.handles c.args.self.now.stand refl c.args.handle b.0 b.1 c.in-Last.object w)
+    c.end_object.result c.end_object.ensures.cleans c.end_object.ensures.frees moment
 
-pub returns-in_ok-clean-in-Last-clause-stops : goal.returns-in_ok-clean-in-Last-clause-stops
-returns-in_ok-clean-in-Last-clause-stops g c =
+pub returns-in_ok-end_object-in-Last-clause-stops : goal.returns-in_ok-end_object-in-Last-clause-stops
+returns-in_ok-end_object-in-Last-clause-stops g c moment =
     let b = bound-there c.args.self.now.handles c.args.handle c.object.result c.object.ensures.object (c.is_none.ensures ∙ ap not c.if-is_none.false) in
     let w = was-last c.args.self.now.handles c.release.new.self.handles c.args.handle b.0 b.1 c.release.result c.in-Last.object c.in-Last.is c.release.ensures.answer in
-    cleaned-stops c.args.self.now (g.F.Folder.told c.args.f.now) (g.F.Folder.told c.read_charge.new.f) (g.F.Folder.told c.clean.new.f) c.in_ok-charge-in-Last.ensures.stays c.args.handle (omega (arith, c.ranges.handle.fits)) b.0 b.1 c.release.new.self c.release.ensures.frees c.release.ensures.others c.in-Last.object w c.requires.live
-    (g.met.F.Folder.are_bytes c.read_charge.new.f) c.clean.result c.clean.ensures.cleans
+    closed-stops c.args.self.now (g.F.Folder.told c.args.f.now) (g.F.Folder.told c.read_charge.new.f) (g.F.Folder.told c.end_object.new.f) c.in_ok-charge-in-Last.ensures.stays c.args.handle (omega (arith, c.ranges.handle.fits)) b.0 b.1 c.release.new.self c.release.ensures.frees c.release.ensures.others c.in-Last.object w
+    (g.met.F.Folder.are_bytes c.read_charge.new.f)
     (last-stands c.args.self.now.files c.args.self.now.files c.args.self.now.handles c.release.new.self.handles c.args.self.now.stand refl c.args.handle b.0 b.1 c.in-Last.object w)
+    c.end_object.result c.end_object.ensures.cleans c.end_object.ensures.frees moment
 
-pub returns-in_err-clean-in-Last-clause-damaged : goal.returns-in_err-clean-in-Last-clause-damaged
-returns-in_err-clean-in-Last-clause-damaged g c =
+pub returns-in_err-end_object-in-Last-clause-damaged : goal.returns-in_err-end_object-in-Last-clause-damaged
+returns-in_err-end_object-in-Last-clause-damaged g c =
+    let old : Told = g.F.Folder.told c.args.f.now in
     let b = bound-there c.args.self.now.handles c.args.handle c.object.result c.object.ensures.object (c.is_none.ensures ∙ ap not c.if-is_none.false) in
     let w = was-last c.args.self.now.handles c.release.new.self.handles c.args.handle b.0 b.1 c.release.result c.in-Last.object c.in-Last.is c.release.ensures.answer in
-    carried c.clean.result c.from_residual-in_err-clean-in-Last.result c.in_err-clean-in-Last.field-0.0 (IsCloseDamage c.args.self.now.files (g.F.Folder.told c.args.f.now)) c.in_err-clean-in-Last.was c.from_residual-in_err-clean-in-Last.ensures.1
-    (if_damaged_weaker c.clean.result _ _ (λ damage wrong. record {
-      entry = c.in-Last.object.entry;
-      names = last-named c.args.self.now.files c.args.self.now.files c.args.self.now.handles c.release.new.self.handles c.args.self.now.stand refl c.args.handle b.0 b.1 c.in-Last.object w;
-      node = c.in-Last.object.node;
-      stands = last-stands c.args.self.now.files c.args.self.now.files c.args.self.now.handles c.release.new.self.handles c.args.self.now.stand refl c.args.handle b.0 b.1 c.in-Last.object w;
-      wrong = inr (subst (λ (t : Told). IsFailedRecord t c.in-Last.object.node (record_size c.in-Last.object.node) damage) c.in_ok-charge-in-Last.ensures.stays wrong);
-    }) c.clean.ensures.damaged)
+    carried c.end_object.result c.from_residual-in_err-end_object-in-Last.result c.in_err-end_object-in-Last.field-0.0 (IsCloseDamage c.args.self.now.handles old c.args.handle) c.in_err-end_object-in-Last.was c.from_residual-in_err-end_object-in-Last.ensures.1
+    (if_damaged_weaker c.end_object.result _ _ (λ damage wrong. record {
+      object = b.0;
+      here = b.1;
+      wrong = inr (subst (λ (o : OpenObject). IsEndDamage o.doomed o.entry o.node old damage) w.object_is
+          (subst (λ (t : Told). IsEndDamage c.in-Last.object.doomed c.in-Last.object.entry c.in-Last.object.node t damage) c.in_ok-charge-in-Last.ensures.stays wrong));
+    }) c.end_object.ensures.damaged)
 
-pub returns-in_err-clean-in-Last-clause-untold : goal.returns-in_err-clean-in-Last-clause-untold
-returns-in_err-clean-in-Last-clause-untold g c any =
+pub returns-in_err-end_object-in-Last-clause-untold : goal.returns-in_err-end_object-in-Last-clause-untold
+returns-in_err-end_object-in-Last-clause-untold g c any =
     let old : Told = g.F.Folder.told c.args.f.now in
     let mid : Told = g.F.Folder.told c.read_charge.new.f in
     let b = bound-there c.args.self.now.handles c.args.handle c.object.result c.object.ensures.object (c.is_none.ensures ∙ ap not c.if-is_none.false) in
     let w = was-last c.args.self.now.handles c.release.new.self.handles c.args.handle b.0 b.1 c.release.result c.in-Last.object c.in-Last.is c.release.ensures.answer in
     let same : mid.files ≡ old.files = ap (λ (t : Told). t.files) c.in_ok-charge-in-Last.ensures.stays in
-    carried c.clean.result c.from_residual-in_err-clean-in-Last.result c.in_err-clean-in-Last.field-0.0 (λ _. old.files ≡ None) c.in_err-clean-in-Last.was c.from_residual-in_err-clean-in-Last.ensures.1
-    (if_damaged_weaker c.clean.result (λ _. mid.files ≡ None) (λ _. old.files ≡ None) (λ damage none. sym same ∙ none)
-    (c.clean.ensures.untold
-    (last-node c.args.self.now old mid c.in_ok-charge-in-Last.ensures.stays c.args.handle (omega (arith, c.ranges.handle.fits)) b.0 b.1 c.release.new.self c.release.ensures.frees c.in-Last.object w c.requires.live (g.met.F.Folder.are_bytes c.read_charge.new.f)
+    carried c.end_object.result c.from_residual-in_err-end_object-in-Last.result c.in_err-end_object-in-Last.field-0.0 (λ _. old.files ≡ None) c.in_err-end_object-in-Last.was c.from_residual-in_err-end_object-in-Last.ensures.1
+    (if_damaged_weaker c.end_object.result (λ _. mid.files ≡ None) (λ _. old.files ≡ None) (λ damage none. sym same ∙ none)
+    (c.end_object.ensures.untold
+    (closed-may c.args.self.now old mid mid c.in_ok-charge-in-Last.ensures.stays c.args.handle (omega (arith, c.ranges.handle.fits)) b.0 b.1 c.release.new.self c.release.ensures.frees c.release.ensures.others c.in-Last.object w (g.met.F.Folder.are_bytes c.read_charge.new.f)
     (last-stands c.args.self.now.files c.args.self.now.files c.args.self.now.handles c.release.new.self.handles c.args.self.now.stand refl c.args.handle b.0 b.1 c.in-Last.object w) any)))
 
-pub returns-in_ok-clean-in-Last-clause-does : goal.returns-in_ok-clean-in-Last-clause-does
-returns-in_ok-clean-in-Last-clause-does g c =
+pub returns-in_ok-end_object-in-Last-clause-does : goal.returns-in_ok-end_object-in-Last-clause-does
+returns-in_ok-end_object-in-Last-clause-does g c moment =
     let b = bound-there c.args.self.now.handles c.args.handle c.object.result c.object.ensures.object (c.is_none.ensures ∙ ap not c.if-is_none.false) in
     let w = was-last c.args.self.now.handles c.release.new.self.handles c.args.handle b.0 b.1 c.release.result c.in-Last.object c.in-Last.is c.release.ensures.answer in
-    cleaned-done c.args.self.now (g.F.Folder.told c.args.f.now) (g.F.Folder.told c.read_charge.new.f) (g.F.Folder.told c.clean.new.f) c.in_ok-charge-in-Last.ensures.stays c.args.handle (omega (arith, c.ranges.handle.fits)) b.0 b.1 c.release.new.self c.release.ensures.frees c.release.ensures.others c.in-Last.object w c.requires.live
-    (g.met.F.Folder.are_bytes c.read_charge.new.f) (Ok c.in_ok-clean-in-Last.field-0) c.in_ok-clean-in-Last.ensures.cleans
+    closed-done c.args.self.now (g.F.Folder.told c.args.f.now) (g.F.Folder.told c.read_charge.new.f) (g.F.Folder.told c.end_object.new.f) c.in_ok-charge-in-Last.ensures.stays c.args.handle (omega (arith, c.ranges.handle.fits)) b.0 b.1 c.release.new.self c.release.ensures.frees c.release.ensures.others c.in-Last.object w
+    (g.met.F.Folder.are_bytes c.read_charge.new.f)
     (last-stands c.args.self.now.files c.args.self.now.files c.args.self.now.handles c.release.new.self.handles c.args.self.now.stand refl c.args.handle b.0 b.1 c.in-Last.object w)
-    (λ P p. p) _ c.in_ok-clean-in-Last.ensures.is_open refl (record { limits = refl; items = refl; bytes = refl; files = refl; mark = refl; notes = refl }) c.release.ensures.charged c.in_ok-charge-in-Last.charge c.saturating_sub-self.ensures c.in_ok-charge-in-Last.ensures.charge
+    (Ok c.in_ok-end_object-in-Last.field-0) c.in_ok-end_object-in-Last.ensures.cleans c.in_ok-end_object-in-Last.ensures.frees moment
+    (λ P p. p) c.count_closed.new.self c.in_ok-end_object-in-Last.ensures.is_open c.in_ok-charge-in-Last.charge c.count_closed.ensures.counts c.release.ensures.charged c.in_ok-charge-in-Last.ensures.charge
+
+pub returns-in_ok-end_object-in-Last-clause-is_open : goal.returns-in_ok-end_object-in-Last-clause-is_open
+returns-in_ok-end_object-in-Last-clause-is_open g c image now = subst (λ (files : BlockFiles). IsOpen files image) (sym c.count_closed.ensures.counts.files) (c.in_ok-end_object-in-Last.ensures.is_open image now)

@@ -1,0 +1,99 @@
+// The stream of an open object that a request names by a handle.
+ghost use Rattle.std.specs.Prelude.{◌≡◌, ◌≤◌, IfOk, IfSome, None, Ok};
+ghost use Rattle.std.specs.Option.{ForSome};
+ghost use Rattle.blk_image.specs.Told.{Rises, Stays};
+ghost use Rattle.blk_io.specs.Faults.{IfDamaged, IfDevice};
+ghost use Rattle.blk_model.specs.State.{State};
+ghost use Rattle.blk_disk.specs.Tables.{Agrees};
+ghost use Rattle.blk_cache.specs.Asking.{IsAskDamage, IsAsked, StandsAmong, early_stream_refusal, keeps_stream};
+ghost use Rattle.blk_cache.specs.declared.asking.Asked.TheVariants as asked;
+ghost use Rattle.blk_cache.specs.CacheKeeping.{KeepsState};
+ghost use Rattle.blk_cache.specs.CommandClauses.{KeepsAny};
+
+use crate::cache::Cache;
+use blk_addr::Addr;
+use blk_entry::read_head;
+use blk_io::{Fault, Folder};
+use blk_model::Refusal;
+
+/// How many streams an object has.
+pub(crate) const STREAMS: u8 = 3;
+
+// The flags of the record of a sparse object.
+const SPARSE: u32 = 1;
+
+/// A stream of an open object: the object's record and node, whether it is doomed, and the bytes of the stream.
+#[derive(Clone, Copy, Debug)]
+pub(crate) struct NamedStream {
+    pub(crate) entry: Addr,
+    pub(crate) node: Addr,
+    pub(crate) doomed: bool,
+    pub(crate) size: u32,
+}
+
+/// The stream that a request names, or why there is none.
+#[derive(Clone, Copy, Debug)]
+pub(crate) enum Asked {
+    Refused(Refusal),
+    Stream(NamedStream),
+}
+
+impl Cache {
+    /// The stream with a number of the object that a handle names, by one folder call. Nothing is written.
+    ///
+    /// It is refused with `BadHandle` where the name is free, or 4096 or more, `BadStream` where the number is 3 or more,
+    /// and `SparseStream` where the object is sparse and the number isn't 0, the first of these; the first two are
+    /// decided before any folder call. A damage is one of the object's record.
+    pub(crate) fn ask_stream<F: Folder>(
+        &self,
+        f: &mut F,
+        handle: u16,
+        stream: u8,
+    ) -> Result<Asked, Fault>
+        ensures asked { IfOk result (λ answer. ForSome (F.told f.old).files (λ image. (state : State) → (k : KeepsState self.now state image) → IsAsked state k.layout handle stream answer)) }
+        ensures early { IfSome (early_stream_refusal self.now.handles handle stream) (λ why. result ≡ Ok (asked.Refused why)) }
+        ensures stands { IfOk result (StandsAmong self.now.files stream) }
+        ensures stays { Stays (F.told f.old) (F.told f.new) }
+        ensures damaged { IfDamaged result (IsAskDamage self.now.handles (F.told f.old) handle) }
+        ensures untold { ForSome (F.told f.old).files (KeepsAny self.now) → IfDamaged result (λ _. (F.told f.old).files ≡ None) }
+        ensures later { F.faults f.old ≤ F.faults f.new }
+        ensures device { IfDevice result (Rises (F.faults f.old) (F.faults f.new)) }
+    {
+        if let Some(why) = self.refuses_stream(handle, stream) {
+            return Ok(Asked::Refused(why));
+        }
+        let Some(object) = self.handles.object(handle) else {
+            unreachable!();
+        };
+        let head = read_head(f, &self.files, object.entry)?;
+        if keeps_stream(head.flags, stream) {
+            return Ok(Asked::Refused(Refusal::SparseStream));
+        }
+        Ok(Asked::Stream(NamedStream {
+            entry: object.entry,
+            node: object.node,
+            doomed: object.doomed,
+            size: head.sizes[usize::from(stream)],
+        }))
+    }
+
+    /// Why there is no stream, by what the names and its number tell.
+    pub(crate) fn refuses_stream(&self, handle: u16, stream: u8) -> Option<Refusal>
+        ensures { result ≡ early_stream_refusal self.now.handles handle stream }
+    {
+        if self.handles.object(handle).is_none() {
+            Some(Refusal::BadHandle)
+        } else if stream >= STREAMS {
+            Some(Refusal::BadStream)
+        } else {
+            None
+        }
+    }
+}
+
+// Whether a record with these flags keeps a stream to itself: a sparse one all but the first.
+fn keeps_stream(flags: u32, stream: u8) -> bool
+    ensures { result ≡ keeps_stream flags stream }
+{
+    flags == SPARSE && stream > 0
+}

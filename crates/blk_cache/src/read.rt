@@ -1,0 +1,98 @@
+// The command Read.
+ghost use Rattle.std.specs.Prelude.{◌≡◌, ◌≤◌, IfOk, IfSome, IsTrue, None, Ok, false};
+ghost use Rattle.std.specs.Option.{ForSome};
+ghost use Rattle.blk_image.specs.Told.{Rises, Stays};
+ghost use Rattle.blk_io.specs.Faults.{IfDamaged, IfDevice};
+ghost use Rattle.blk_model.specs.Request.{to_read};
+ghost use Rattle.blk_model.specs.declared.Answer.TheVariants as answer;
+ghost use Rattle.blk_disk.specs.Open.{IsOpen};
+ghost use Rattle.blk_disk.specs.Tables.{is_node_among};
+ghost use Rattle.blk_kept.specs.Commands.{Does, MayStopAtEach};
+ghost use Rattle.blk_lru.specs.Damages.{IsTouchDamage};
+ghost use Rattle.blk_lru.specs.Lists.{IsListed};
+ghost use Rattle.blk_cache.specs.Asking.{early_stream_refusal};
+ghost use Rattle.blk_cache.specs.CacheKeeping.{KeepsState};
+ghost use Rattle.blk_cache.specs.CommandClauses.{IsRefused, KeepsAny};
+ghost use Rattle.blk_cache.specs.Reading.{IsReadDamage, UsesItem, bytes_there};
+
+use crate::asking::{Asked, NamedStream};
+use crate::cache::Cache;
+use blk_disk::BlockFiles;
+use blk_io::{Fault, Folder};
+use blk_lru::touch;
+use blk_model::Answer;
+
+impl Cache {
+    /// Does all of a Read that writes: the item of its object, where that isn't doomed, is put in front of the use list.
+    /// The answer is the number of bytes to be printed: those from `offset` on, at most `count`.
+    ///
+    /// It is refused with `BadHandle` where the name is free, or 4096 or more, `BadStream` where the number of the stream
+    /// is 3 or more, and `SparseStream` where the object is sparse and the number isn't 0, the first of these. One folder
+    /// call reads the record, and at most 39 use the item.
+    pub(crate) fn use_read<F: Folder>(
+        &self,
+        f: &mut F,
+        handle: u16,
+        stream: u8,
+        offset: u64,
+        count: u64,
+        moment: u64,
+    ) -> Result<Answer, Fault>
+        requires is_open { ForSome (F.told f.old).files (IsOpen self.now.files) }
+        ensures does { IfOk result (λ answer. Does (KeepsState self.now) (KeepsState self.now) (F.told f.old) (F.told f.new) moment (to_read handle stream offset count) answer) }
+        ensures stops { MayStopAtEach (KeepsState self.now) (F.told f.old) (F.told f.new) moment (to_read handle stream offset count) }
+
+        // What the names and the stream tell is refused on every folder, and a refusal does nothing.
+        ensures refuses { IfSome (early_stream_refusal self.now.handles handle stream) (λ why. result ≡ Ok (answer.Refused why)) }
+        ensures quiet { IfOk result (λ answer. IsRefused answer → Stays (F.told f.old) (F.told f.new)) }
+
+        ensures is_open { ForSome (F.told f.new).files (IsOpen self.now.files) }
+
+        // A folder that tells its files gives no damage where the cache keeps a state.
+        ensures damaged { IfDamaged result (IsReadDamage self.now.handles self.now.files (F.told f.old) (F.told f.new) handle) }
+        ensures untold { ForSome (F.told f.old).files (KeepsAny self.now) → IfDamaged result (λ _. (F.told f.old).files ≡ None) }
+        ensures silent { (F.told f.old).files ≡ None → (F.told f.new).files ≡ None }
+        ensures later { F.faults f.old ≤ F.faults f.new }
+        ensures device { IfDevice result (Rises (F.faults f.old) (F.faults f.new)) }
+    {
+        let asked = self.ask_stream(f, handle, stream)?;
+        match asked {
+            Asked::Refused(why) => Ok(Answer::Refused(why)),
+            Asked::Stream(named) => {
+                use_item(f, &self.files, &named, moment)?;
+                Ok(Answer::Bytes(bytes_there(named.size, offset, count)))
+            }
+        }
+    }
+}
+
+// Puts the item of a live object in front of the use list; a doomed one has none.
+fn use_item<F: Folder>(
+    f: &mut F,
+    files: &BlockFiles,
+    object: &NamedStream,
+    moment: u64,
+) -> Result<(), Fault>
+    requires stands { IsTrue (is_node_among files.now object.now.node) }
+    requires is_open { ForSome (F.told f.old).files (IsOpen files.now) }
+    ensures uses { UsesItem files.now (F.told f.old) (F.told f.new) object.now moment result }
+    ensures is_open { ForSome (F.told f.new).files (IsOpen files.now) }
+    ensures damaged { IfDamaged result (IsTouchDamage object.now.node files.now (F.told f.old) (F.told f.new)) }
+    ensures untold { ForSome (F.told f.old).files (λ image. object.now.doomed ≡ false → IsListed object.now.node image) → IfDamaged result (λ _. (F.told f.old).files ≡ None) }
+    ensures silent { (F.told f.old).files ≡ None → (F.told f.new).files ≡ None }
+    ensures later { F.faults f.old ≤ F.faults f.new }
+    ensures device { IfDevice result (Rises (F.faults f.old) (F.faults f.new)) }
+{
+    if object.doomed {
+        Ok(())
+    } else {
+        touch(f, files, object.node, moment)
+    }
+}
+
+// How many bytes of a stream of so many there are from an offset on, at most `count`.
+pub(crate) fn bytes_there(size: u32, offset: u64, count: u64) -> u64
+    ensures { result ≡ bytes_there size offset count }
+{
+    u64::from(size).saturating_sub(offset).min(count)
+}

@@ -1,0 +1,47 @@
+// The command Size.
+ghost use Rattle.std.specs.Prelude.{◌≡◌, ◌≤◌, ℕ, IfOk, IfSome, None, Ok};
+ghost use Rattle.std.specs.Option.{ForSome};
+ghost use Rattle.blk_image.specs.Told.{Rises, Stays};
+ghost use Rattle.blk_io.specs.Faults.{IfDamaged, IfDevice};
+ghost use Rattle.blk_model.specs.Request.{to_size};
+ghost use Rattle.blk_model.specs.declared.Answer.TheVariants as answer;
+ghost use Rattle.blk_kept.specs.Commands.{Does};
+ghost use Rattle.blk_cache.specs.Asking.{IsAskDamage, early_stream_refusal};
+ghost use Rattle.blk_cache.specs.CacheKeeping.{KeepsState};
+ghost use Rattle.blk_cache.specs.CommandClauses.{KeepsAny};
+
+use crate::asking::Asked;
+use crate::cache::Cache;
+use blk_io::{Fault, Folder};
+use blk_model::Answer;
+
+impl Cache {
+    /// The length in bytes of a stream of the object that a handle names, by one folder call. Nothing is written.
+    ///
+    /// It is refused with `BadHandle` where the name is free, or 4096 or more, `BadStream` where the number of the stream
+    /// is 3 or more, and `SparseStream` where the object is sparse and the number isn't 0, the first of these.
+    pub(crate) fn size<F: Folder>(
+        &self,
+        f: &mut F,
+        handle: u16,
+        stream: u8,
+    ) -> Result<Answer, Fault>
+        ensures does { (moment : ℕ) → IfOk result (λ answer. Does (KeepsState self.now) (KeepsState self.now) (F.told f.old) (F.told f.new) moment (to_size handle stream) answer) }
+        ensures stays { Stays (F.told f.old) (F.told f.new) }
+
+        // What the names and the stream tell is refused on every folder.
+        ensures refuses { IfSome (early_stream_refusal self.now.handles handle stream) (λ why. result ≡ Ok (answer.Refused why)) }
+
+        // A folder that tells its files gives no damage where the cache keeps a state.
+        ensures damaged { IfDamaged result (IsAskDamage self.now.handles (F.told f.old) handle) }
+        ensures untold { ForSome (F.told f.old).files (KeepsAny self.now) → IfDamaged result (λ _. (F.told f.old).files ≡ None) }
+        ensures later { F.faults f.old ≤ F.faults f.new }
+        ensures device { IfDevice result (Rises (F.faults f.old) (F.faults f.new)) }
+    {
+        let asked = self.ask_stream(f, handle, stream)?;
+        match asked {
+            Asked::Refused(why) => Ok(Answer::Refused(why)),
+            Asked::Stream(named) => Ok(Answer::Size(u64::from(named.size))),
+        }
+    }
+}
