@@ -1,0 +1,61 @@
+// A stub until the removals in full are merged.
+ghost use Rattle.std.specs.Prelude.{◌≡◌, ◌≤◌, ◌<◌, ◌^◌, IfOk, IfSome, IsTrue, None, OnOk, Some};
+ghost use Rattle.std.specs.Option.{ForSome};
+ghost use Rattle.blk_image.specs.Told.{Passes, Rises};
+ghost use Rattle.blk_model.specs.Effects.{doomed};
+ghost use Rattle.blk_model.specs.Holding.{rest};
+ghost use Rattle.blk_format.specs.Address.{blocks_256, kind_of};
+ghost use Rattle.blk_volume.specs.Found.{charge_of};
+ghost use Rattle.blk_volume.specs.Loads.{Loaded};
+ghost use Rattle.blk_io.specs.Faults.{IfDamaged, IfDevice};
+ghost use Rattle.blk_disk.specs.Open.{IsOpen};
+ghost use Rattle.blk_disk.specs.Tables.{is_node_among, stands_among};
+ghost use Rattle.blk_kept.specs.Changes.{Finds, SameSession};
+ghost use Rattle.blk_object.specs.NextItems.{ForEachNext, ForEachPart, IsOutAndCounted};
+ghost use Rattle.blk_object.specs.RemovingNext.{CountsLeft};
+ghost use Rattle.blk_object.specs.Owning.{LoadsWith};
+
+use blk_addr::Addr;
+use blk_chain::Found;
+use blk_disk::BlockFiles;
+use blk_io::{Fault, Folder};
+use blk_object::remove_next;
+
+pub fn remove_part<F: Folder>(
+    f: &mut F,
+    files: &BlockFiles,
+    found: &Found,
+    node: Addr,
+) -> Result<u64, Fault>
+    requires node { IsTrue (is_node_among files.now node) }
+    requires kind { kind_of found.now.entry ≡ blocks_256 }
+    requires stands { IsTrue (stands_among files.now found.now.entry) }
+    requires kind_before { IfSome found.now.before (λ before. kind_of before ≡ blocks_256) }
+    requires stands_before { IfSome found.now.before (λ before. IsTrue (stands_among files.now before)) }
+    requires is_open { ForSome (F.told f.old).files (IsOpen files.now) }
+
+    // The charge is that of what lay there with this record.
+    ensures charge { IfOk result (λ charge. ForSome (F.told f.old).files (λ from. (was : Loaded) → LoadsWith found.now.entry was from → charge ≡ charge_of was)) }
+    ensures small { IfOk result (λ charge. charge < 2 ^ 34) }
+
+    // Where some items are out, or none, and the others are counted, one more is out in the end, and those that are left are counted.
+    ensures removed { OnOk result (ForSome (F.told f.old).files (λ from. ForEachNext node found.now.entry found.now.before from (λ state layout keep chains unlinked item. CountsLeft state layout keep from → ForSome (F.told f.new).files (IsOutAndCounted state layout keep chains unlinked item found.now.entry)))) }
+
+    // The session is the same then.
+    ensures session { OnOk result (ForSome (F.told f.old).files (λ from. ForEachNext node found.now.entry found.now.before from (λ state layout keep chains unlinked item. ForSome (F.told f.new).files (SameSession from)))) }
+
+    // While a part goes after its main item, what is at rest with its object doomed is found.
+    ensures part { ForSome (F.told f.old).files (λ from. ForEachPart node found.now.entry found.now.before from (λ state number object. Passes (F.told f.old) (F.told f.new) (Finds (rest (doomed number state (Some object)))))) }
+
+    ensures is_open { ForSome (F.told f.new).files (IsOpen files.now) }
+
+    // A folder that tells its files, with such an item, gives no damage.
+    ensures untold { ForSome (F.told f.old).files (λ from. ForEachNext node found.now.entry found.now.before from (λ state layout keep chains unlinked item. IfDamaged result (λ _. (F.told f.old).files ≡ None))) }
+
+    ensures silent { (F.told f.old).files ≡ None → (F.told f.new).files ≡ None }
+    ensures later { F.faults f.old ≤ F.faults f.new }
+    ensures device { IfDevice result (Rises (F.faults f.old) (F.faults f.new)) }
+{
+    remove_next(f, files, found, node)?;
+    Ok(0)
+}
