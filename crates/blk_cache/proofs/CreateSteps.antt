@@ -1,15 +1,14 @@
 -- A new object of a cache, from the moments in which it is made.
-use Rattle.std.proofs.Common.{◌≡◌, ◌≢◌, ℕ, true, List, sym, ◌∙◌}
+use Rattle.std.proofs.Common.{◌≡◌, ℕ, true, List, sym}
 use Rattle.std.specs.Prelude.{◌&&◌, ◌==◌}
 use Rattle.std.specs.Option.{ForSome}
 use Rattle.std.proofs.lemmas.Bool.{and_from, and_parts}
-use Rattle.blk_image.specs.Image.{Image, Index, byte}
+use Rattle.blk_image.specs.Image.{Image}
 use Rattle.blk_image.specs.Told.{Passes, Told}
 use Rattle.blk_image.proofs.Runs.{passes_weaker}
 use Rattle.blk_model.specs.Holding.{rest}
 use Rattle.blk_model.specs.State.{State}
 use Rattle.blk_format.specs.Address.{blocks_256, is_address, kind_of, rankings}
-use Rattle.blk_format.specs.Headers.{this_id_of}
 use Rattle.blk_disk.specs.declared.tables.BlockFiles.{BlockFiles}
 use Rattle.blk_disk.specs.Tables.{names_among, stands_among}
 use Rattle.blk_alloc.specs.Extending.{KeepsStanding}
@@ -35,18 +34,14 @@ bound-stays old new bindings keeps stand name binding is =
     let here = stand name binding is in
     (still-among old new keeps rankings binding.node here.0, still-among old new keeps blocks_256 binding.entry here.1)
 
-module _ (cache : Cache) (old now : Told) (handle mark : ℕ) (key : List ℕ) (marked : cache.mark ≢ 0 → mark ≡ cache.mark) where
-  -- in a session the mark is its number
-  pub mark-is : (state : State) (from : Image) → KeepsState cache state from → this_id_of (byte from Index) ≡ mark
-  mark-is state from k = sym k.mark ∙ sym (marked (λ zero. k.kept.entries.session.id (sym k.mark ∙ zero)))
+module _ (cache : Cache) (old now : Told) (handle : ℕ) (key : List ℕ) where
+  has-room : (state : State) (from : Image) → KeepsState cache state from → CanHaveNew state handle key → HasRoomForNew key cache.mark from
+  has-room state from k can = record { state = state; layout = k.layout; handle = handle; kept = k.kept; session = sym k.mark; can = can }
 
-  has-room : (state : State) (from : Image) → KeepsState cache state from → CanHaveNew state handle key → HasRoomForNew key mark from
-  has-room state from k can = record { state = state; layout = k.layout; handle = handle; kept = k.kept; session = mark-is state from k; can = can }
-
-  pub new-room : ForSome old.files (KeepsWithRoom cache handle key) → ForSome old.files (HasRoomForNew key mark)
+  pub new-room : ForSome old.files (KeepsWithRoom cache handle key) → ForSome old.files (HasRoomForNew key cache.mark)
   new-room any from there = let one = any from there in has-room one.state from one.kept one.can
 
-  pub new-stops : ForSome old.files (λ from. HasRoomForNew key mark from → Passes old now (FindsWhileMade key from))
+  pub new-stops : ForSome old.files (λ from. HasRoomForNew key cache.mark from → Passes old now (FindsWhileMade key from))
       → ForSome old.files (λ from. (state : State) → KeepsState cache state from → CanHaveNew state handle key → Passes old now (Finds (rest state)))
   new-stops stops from there state k can =
       let finds : (i : Image) → FindsWhileMade key from i → Finds (rest state) i = λ i while. while state k.layout handle k.kept can in

@@ -89,9 +89,7 @@ impl Cache {
         ensures later { F.faults f.old ≤ F.faults f.new }
         ensures device { IfDevice result (Rises (F.faults f.old) (F.faults f.new)) }
     {
-        // No session has the number 0.
-        let mark = self.mark.max(1);
-        let made = make_entry(f, &mut self.files, key, mark, moment)?;
+        let made = make_entry(f, &mut self.files, key, self.mark, moment)?;
         let new = Live {
             entry: made.entry,
             node: made.node,

@@ -84,7 +84,7 @@ pub all-out : FreedWordsAreGonePartlyOut
 all-out state layout keep chains [] unlinked from image is k = subst (KeepsPartlyOut state layout keep chains unlinked) (sym is) k
 all-out state layout keep chains (w ∷ words) unlinked from image r k = all-out state layout keep chains words unlinked r.0 image r.1.1 (place-out state layout keep chains w (words ++ unlinked) from r.0 r.1.0 k)
 
-same-index : (words : List ℕ) (from image : Image) → Removes words from image → (i : ℕ) → byte image Index i ≡ byte from Index i
+pub same-index : (words : List ℕ) (from image : Image) → Removes words from image → (i : ℕ) → byte image Index i ≡ byte from Index i
 same-index [] from image is i = ap (λ (x : Image). byte x Index i) is
 same-index (w ∷ words) from image r i = same-index words r.0 image r.1.1 i ∙ r.1.0.index i
 

@@ -1,5 +1,5 @@
 -- The next item of an object goes: what each call adds.
-use Rattle.std.proofs.Common.{◌≡◌, inl, inr, ℕ, ◌%◌, List, [], ◌++◌, refl, ap, sym, ◌∙◌, subst, Bool, true, Option, Some}
+use Rattle.std.proofs.Common.{◌≡◌, inl, inr, ℕ, ◌%◌, List, [], ◌++◌, refl, ap, sym, ◌∙◌, subst, Bool, true, Option, None, Some}
 use Rattle.std.specs.Prelude.{◌^◌}
 use Rattle.std.specs.Option.{ForSome}
 use Rattle.blk_image.specs.Image.{Image}
@@ -11,27 +11,33 @@ use Rattle.blk_model.specs.Items.{Item, main, part}
 use Rattle.blk_model.specs.State.{Object, State, object_at}
 use Rattle.blk_volume.specs.Found.{charge_of}
 use Rattle.blk_volume.specs.Layout.{Layout}
+use Rattle.blk_volume.specs.Loads.{Loaded}
 use Rattle.blk_volume.specs.Sound.{words_of}
-use Rattle.blk_kept.specs.Changes.{Finds, SameCounters}
-use Rattle.blk_kept.specs.Keeping.{KeepsUncounted}
+use Rattle.blk_kept.specs.Changes.{Finds, SameCounters, SameSession}
+use Rattle.blk_kept.specs.Keeping.{CountsItems, KeepsUncounted}
 use Rattle.blk_kept.specs.PartlyOut.{KeepsPartlyOut, chains_but, keeps_but}
 use Rattle.blk_kept.specs.PartlyOutStops.{LeavesOtherKeys}
 use Rattle.blk_kept.proofs.Free.{then-found}
+use Rattle.blk_kept.proofs.PartlyOut.{kept-begin}
 use Rattle.blk_kept.proofs.PartlyOutStops.{own-items-leave, partly-out-finds}
 use Rattle.blk_stream.proofs.Joined.{IsTold, told_then}
 use Rattle.blk_object.specs.Freeing.{AreFreeable, AreGoing, Removes}
-use Rattle.blk_object.specs.NextItems.{IsBeingFreed, IsGoingNext, IsOutAndCounted, IsOutUncounted, LiesNext}
+use Rattle.blk_object.specs.NextItems.{IsBeingFreed, IsGoingNext, IsMainOut, IsOutAndCounted, IsOutUncounted, LiesNext}
 use Rattle.blk_object.specs.Owning.{LoadsWith}
-use Rattle.blk_object.specs.Removing.{IsGoingOut, IsTakenOut, MayGoOut}
+use Rattle.blk_object.specs.Removing.{IsGoingOut, IsTakenOut, LiesBehind, MayGoOut}
 use Rattle.blk_object.specs.Counters.{AreCountedLess}
 use Rattle.blk_object.specs.RemovingFound.{LiesAsFound}
 use Rattle.blk_object.specs.RemovingNext.{CountsLeft, KeepsOut}
 use Rattle.blk_object.specs.RemovingObjects.{FindsEither}
-use Rattle.blk_object.proofs.CountsOut.{next-counted, still-counted, still-out}
+use Rattle.blk_object.proofs.CountsOut.{all-counted, next-counted, still-counted, still-out}
 use Rattle.blk_object.proofs.FreedPlaces as freed
+use Rattle.blk_object.proofs.Sessions.{counted-session, counted-then, freed-session, taken-session, then-session}
 use Rattle.blk_object.proofs.OwnedPlaces.{left-load}
 use Rattle.blk_object.proofs.TakenItems.{counters-left}
 use Rattle.blk_object.proofs.TakenParts.{going-mains, going-parts, left-may, left-out}
+
+some-none : {A : Type 0} {x : A} → ◌≡◌ {A = Option A} (Some x) None → ⊥
+some-none e = cc
 
 then-counters : (from mid image : Image) → SameCounters from mid → SameCounters mid image → SameCounters from image
 then-counters from mid image a b = record { sizes = b.sizes ∙ a.sizes; num_entries = b.num_entries ∙ a.num_entries; num_bytes = b.num_bytes ∙ a.num_bytes }
@@ -49,9 +55,11 @@ module _ (state : State) (layout : Layout) (keep : Item → Bool) (chains : ℕ 
 
   -- once it is taken out
   module _ (mid : Image) (t : IsTakenOut node entry before from mid) where
+    pub out-there : KeepsPartlyOut state layout (keeps_but keep item) (chains_but chains p.was.contents) (words_of p.was ++ unlinked) mid
+    out-there = left-out state layout keep chains unlinked item p.was before from mid k p.lies (subst (λ (n : ℕ). IsTakenOut n p.was.contents before from mid) (sym p.node_is) (subst (λ (e : ℕ). IsTakenOut node e before from mid) (sym p.entry_is) t))
+
     out-mid : KeepsPartlyOut state layout (keeps_but keep item) (chains_but chains entry) (words_of p.was ++ unlinked) mid
-    out-mid = subst (λ (e : ℕ). KeepsPartlyOut state layout (keeps_but keep item) (chains_but chains e) (words_of p.was ++ unlinked) mid) p.entry_is
-        (left-out state layout keep chains unlinked item p.was before from mid k p.lies (subst (λ (n : ℕ). IsTakenOut n p.was.contents before from mid) (sym p.node_is) (subst (λ (e : ℕ). IsTakenOut node e before from mid) (sym p.entry_is) t)))
+    out-mid = subst (λ (e : ℕ). KeepsPartlyOut state layout (keeps_but keep item) (chains_but chains e) (words_of p.was ++ unlinked) mid) p.entry_is out-there
 
     -- its words may be freed
     module _ (words : List ℕ) (are : words ≡ words_of p.was) where
@@ -66,20 +74,21 @@ module _ (state : State) (layout : Layout) (keep : Item → Bool) (chains : ℕ 
       being-freed image going = inr (inr (record { words = words; mid = mid; out = kept-mid; going = going }))
 
       -- once they are
-      pub out-uncounted : (charge : ℕ) → charge ≡ charge_of p.was % 2 ^ 32 → (image : Image) → Removes words mid image → IsOutUncounted state layout keep chains unlinked item entry charge from image
+      pub out-uncounted : (charge : ℕ) → charge ≡ charge_of p.was → (image : Image) → Removes words mid image → IsOutUncounted state layout keep chains unlinked item entry charge from image
       out-uncounted charge is image r = record {
         out = freed.all-out state layout (keeps_but keep item) (chains_but chains entry) words unlinked mid image r kept-mid;
         counters = then-counters from mid image (counters-left node entry before from mid t) (freed.all-counted words mid image r);
+        session = then-session from mid image (taken-session node entry before from mid t) (freed-session words mid image r);
         was = p.was;
         here = p.lies.lies.here;
         charge_is = is;
       }
 
   -- once it is counted no longer
-  pub out-and-counted : (charge : ℕ) (mid image : Image) → CountsLeft state layout keep from → IsOutUncounted state layout keep chains unlinked item entry charge from mid → AreCountedLess charge mid image → IsOutAndCounted state layout keep chains unlinked item entry image
+  pub out-and-counted : (charge : ℕ) (mid image : Image) → CountsLeft state layout keep from → IsOutUncounted state layout keep chains unlinked item entry charge from mid → AreCountedLess (charge % 2 ^ 32) mid image → IsOutAndCounted state layout keep chains unlinked item entry image
   out-and-counted charge mid image c u less = record {
-    out = still-out charge mid image less state layout (keeps_but keep item) (chains_but chains entry) unlinked u.out;
-    counted = next-counted state layout keep item u.was mid image k.valid p.lies.lies.listed p.lies.stays u.here (still-counted state layout keep from mid u.counters c) (subst (λ (w : ℕ). AreCountedLess w mid image) u.charge_is less);
+    out = still-out (charge % 2 ^ 32) mid image less state layout (keeps_but keep item) (chains_but chains entry) unlinked u.out;
+    counted = next-counted state layout keep item u.was mid image k.valid p.lies.lies.listed p.lies.stays u.here (still-counted state layout keep from mid u.counters c) (subst (λ (w : ℕ). AreCountedLess (w % 2 ^ 32) mid image) u.charge_is less);
   }
 
 -- ---- what is told
@@ -111,7 +120,7 @@ module _ (a r m : Told) (stays : r ≡ a) (state : State) (layout : Layout) (kee
     next-freeing frees = passes_then next-taking (passes_weaker (frees next-on.image next-on.is next-they-may)
         (being-freed state layout keep chains unlinked item node entry before from k p next-on.image out words are) (being-freed state layout keep chains unlinked item node entry before from k p next-on.image out words are))
 
-    pub next-out : ForSome m.files (λ at. AreFreeable words at → ForSome b.files (Removes words at)) → (charge : ℕ) → charge ≡ charge_of p.was % 2 ^ 32 → ForSome b.files (IsOutUncounted state layout keep chains unlinked item entry charge from)
+    pub next-out : ForSome m.files (λ at. AreFreeable words at → ForSome b.files (Removes words at)) → (charge : ℕ) → charge ≡ charge_of p.was → ForSome b.files (IsOutUncounted state layout keep chains unlinked item entry charge from)
     next-out frees charge is image at = out-uncounted state layout keep chains unlinked item node entry before from k p next-on.image out words are charge is image (frees next-on.image next-on.is next-they-may image at)
 
 -- ---- what is found
@@ -124,14 +133,18 @@ module _ (state : State) (layout : Layout) (keep : Item → Bool) (chains : ℕ 
   pub counting-finds : (charge : ℕ) (from mid image : Image) → IsOutUncounted state layout keep chains unlinked item entry charge from mid → KeepsOut mid image → Finds (rest (doomed number state (Some object))) image
   counting-finds charge from mid image u keeps = partly-out-finds state layout number object (keeps_but keep item) (chains_but chains entry) unlinked image at others (keeps state layout (keeps_but keep item) (chains_but chains entry) unlinked u.out)
 
--- a main item that is found lies next
-pub main-next : (state : State) (layout : Layout) (key : List ℕ) (node entry : ℕ) (before : Option ℕ) → LiesAsFound state layout key node entry before → LiesNext state layout (λ item. true) layout.chains (main key) node entry before
-main-next state layout key node entry before p = record {
-  was = p.was;
-  lies = record { stays = refl; lies = record { listed = p.lies.listed; here = p.lies.here; prefix = p.lies.prefix; suffix = p.lies.suffix; stands = p.lies.stands } };
-  node_is = p.node_is;
-  entry_is = p.entry_is;
+-- an item that lies at its node is next, where none is out
+pub behind-next : (state : State) (layout : Layout) (item : Item) (was : Loaded) (node entry : ℕ) (before : Option ℕ) → LiesBehind state layout item was before → layout.place item ≡ node → was.contents ≡ entry → LiesNext state layout (λ item. true) layout.chains item node entry before
+behind-next state layout item was node entry before lies node_is entry_is = record {
+  was = was;
+  lies = record { stays = refl; lies = record { listed = lies.listed; here = lies.here; prefix = lies.prefix; suffix = lies.suffix; stands = lies.stands } };
+  node_is = node_is;
+  entry_is = entry_is;
 }
+
+-- so a main item that is found
+pub main-next : (state : State) (layout : Layout) (key : List ℕ) (node entry : ℕ) (before : Option ℕ) → LiesAsFound state layout key node entry before → LiesNext state layout (λ item. true) layout.chains (main key) node entry before
+main-next state layout key node entry before p = behind-next state layout (main key) p.was node entry before p.lies p.node_is p.entry_is
 
 pub main-leaves : (key : List ℕ) → LeavesOtherKeys key (keeps_but (λ item. true) (main key))
 main-leaves key = (own-items-leave key).0
@@ -158,3 +171,87 @@ part-going state layout keep chains unlinked number object n node entry before f
     going-parts state layout keep chains unlinked n p.was before number object from image k p.lies at others (subst (λ (m : ℕ). IsGoingOut m p.was.contents before from image) (sym p.node_is) (subst (λ (e : ℕ). IsGoingOut node e before from image) (sym p.entry_is) going))
 part-going state layout keep chains unlinked number object n node entry before from image k at others p (inr (inr f)) =
     freed-finds state layout keep chains unlinked (part object.key n) entry number object at (part-leaves object.key keep n others) image f
+
+-- ---- counted no longer
+
+-- of a folder that is told, in which an item went, and then is counted no longer
+module _ (a m b : Told) (state : State) (layout : Layout) (keep : Item → Bool) (chains : ℕ → List ℕ) (unlinked : List ℕ) (item : Item) (node entry : ℕ) (before : Option ℕ) (from : Image) (there : a.files ≡ Some from) (charge : ℕ)
+    (first : Passes a m (IsGoingNext state layout keep chains unlinked item node entry before from)) (out : ForSome m.files (IsOutUncounted state layout keep chains unlinked item entry charge from)) where
+  gone-on : IsTold m (IsGoingNext state layout keep chains unlinked item node entry before from)
+  gone-on = told_then a m from (IsGoingNext state layout keep chains unlinked item node entry before from) there first
+
+  pub next-counted-out : KeepsPartlyOut state layout keep chains unlinked from → LiesNext state layout keep chains item node entry before → CountsLeft state layout keep from → ForSome m.files (λ at. ForSome b.files (AreCountedLess (charge % 2 ^ 32) at)) → ForSome b.files (IsOutAndCounted state layout keep chains unlinked item entry)
+  next-counted-out k p counted less image is =
+      out-and-counted state layout keep chains unlinked item node entry before from k p charge gone-on.image image counted (out gone-on.image gone-on.is) (less gone-on.image gone-on.is image is)
+
+  pub next-session : ForSome m.files (λ at. ForSome b.files (AreCountedLess (charge % 2 ^ 32) at)) → ForSome b.files (SameSession from)
+  next-session less = counted-then a m b from (IsGoingNext state layout keep chains unlinked item node entry before from) (charge % 2 ^ 32) there first (λ image is. (out image is).session) less
+
+  -- so it isn't silent in between
+  pub next-told : m.files ≡ None → a.files ≡ None
+  next-told none = absurd (some-none (sym gone-on.is ∙ none))
+
+-- and a part of an object whose main item is out
+module _ (a m b : Told) (state : State) (layout : Layout) (keep : Item → Bool) (chains : ℕ → List ℕ) (unlinked : List ℕ) (number : ℕ) (object : Object) (n : ℕ) (node entry : ℕ) (before : Option ℕ) (from : Image) (there : a.files ≡ Some from) (charge : ℕ)
+    (first : Passes a m (IsGoingNext state layout keep chains unlinked (part object.key n) node entry before from)) (out : ForSome m.files (IsOutUncounted state layout keep chains unlinked (part object.key n) entry charge from))
+    (k : KeepsPartlyOut state layout keep chains unlinked from) (at : object_at state number ≡ Some object) (others : LeavesOtherKeys object.key keep) (p : LiesNext state layout keep chains (part object.key n) node entry before) where
+  part-on : IsTold m (IsGoingNext state layout keep chains unlinked (part object.key n) node entry before from)
+  part-on = told_then a m from (IsGoingNext state layout keep chains unlinked (part object.key n) node entry before from) there first
+
+  pub part-stops : ForSome m.files (λ i. Passes m b (KeepsOut i)) → Passes a b (Finds (rest (doomed number state (Some object))))
+  part-stops keeps = passes_then
+      (passes_weaker first (λ image going. part-going state layout keep chains unlinked number object n node entry before from image k at others p going) (λ image going. part-going state layout keep chains unlinked number object n node entry before from image k at others p going))
+      (passes_weaker (keeps part-on.image part-on.is)
+      (λ image still. counting-finds state layout keep chains unlinked (part object.key n) entry number object at (part-leaves object.key keep n others) charge from part-on.image image (out part-on.image part-on.is) still)
+      (λ image still. counting-finds state layout keep chains unlinked (part object.key n) entry number object at (part-leaves object.key keep n others) charge from part-on.image image (out part-on.image part-on.is) still))
+
+-- ---- a main item that goes before its parts
+
+-- of a folder that is told, in which it goes out, and then is counted no longer
+module _ (a m b : Told) (state : State) (layout : Layout) (unlinked : List ℕ) (number : ℕ) (object : Object) (node entry : ℕ) (before : Option ℕ) (from : Image) (there : a.files ≡ Some from) (k : KeepsUncounted state layout unlinked from) (at : object_at state number ≡ Some object) (live : object.live ≡ true)
+    (p : LiesAsFound state layout object.key node entry before) (stops : ForSome a.files (λ i. MayGoOut node entry before i → Passes a m (IsGoingOut node entry before i))) where
+  begins : KeepsPartlyOut state layout (λ item. true) layout.chains unlinked from
+  begins = kept-begin state layout unlinked from k
+
+  next : LiesNext state layout (λ item. true) layout.chains (main object.key) node entry before
+  next = main-next state layout object.key node entry before p
+
+  pub main-may-go : MayGoOut node entry before from
+  main-may-go = next-may-go state layout (λ item. true) layout.chains unlinked (main object.key) node entry before from begins next
+
+  pub main-taking : Passes a m (FindsEither state (doomed number state (Some object)))
+  main-taking = passes_weaker (next-taking a a m refl state layout (λ item. true) layout.chains unlinked (main object.key) node entry before from there begins next stops)
+      (λ image going. main-going state layout unlinked number object node entry before from image k at live p going) (λ image going. main-going state layout unlinked number object node entry before from image k at live p going)
+
+  main-on : IsTold m (IsGoingOut node entry before from)
+  main-on = next-on a a m refl state layout (λ item. true) layout.chains unlinked (main object.key) node entry before from there begins next stops
+
+  -- so it isn't silent in between
+  pub main-told : m.files ≡ None → a.files ≡ None
+  main-told none = absurd (some-none (sym main-on.is ∙ none))
+
+  module _ (taken : ForSome a.files (λ i. MayGoOut node entry before i → ForSome m.files (IsTakenOut node entry before i))) where
+    main-taken : IsTakenOut node entry before from main-on.image
+    main-taken = taken from there main-may-go main-on.image main-on.is
+
+    main-out : KeepsPartlyOut state layout (keeps_but (λ item. true) (main object.key)) (chains_but layout.chains p.was.contents) (words_of p.was ++ unlinked) main-on.image
+    unfolding next main-next behind-next
+    main-out = out-there state layout (λ item. true) layout.chains unlinked (main object.key) node entry before from begins next main-on.image main-taken
+
+    pub main-stops : ForSome m.files (λ i. Passes m b (KeepsOut i)) → Passes a b (FindsEither state (doomed number state (Some object)))
+    main-stops keeps = passes_then main-taking (passes_weaker (keeps main-on.image main-on.is) finds finds) where
+      finds : (image : Image) → KeepsOut main-on.image image → FindsEither state (doomed number state (Some object)) image
+      finds image still = inr (partly-out-finds state layout number object (keeps_but (λ item. true) (main object.key)) (chains_but layout.chains p.was.contents) (words_of p.was ++ unlinked) image at (main-leaves object.key)
+          (still state layout (keeps_but (λ item. true) (main object.key)) (chains_but layout.chains p.was.contents) (words_of p.was ++ unlinked) main-out))
+
+    module _ (charge : ℕ) (less : ForSome m.files (λ i. ForSome b.files (AreCountedLess (charge % 2 ^ 32) i))) where
+      pub main-counted : CountsItems from state layout → charge ≡ charge_of p.was → ForSome b.files (IsMainOut state layout unlinked object.key p.was)
+      main-counted counts is image told = record {
+        out = still-out (charge % 2 ^ 32) main-on.image image (less main-on.image main-on.is image told) state layout (keeps_but (λ item. true) (main object.key)) (chains_but layout.chains p.was.contents) (words_of p.was ++ unlinked) main-out;
+        counted = next-counted state layout (λ item. true) (main object.key) p.was main-on.image image k.valid p.lies.listed refl p.lies.here
+            (still-counted state layout (λ item. true) from main-on.image (counters-left node entry before from main-on.image main-taken) (all-counted state layout unlinked from (record { entries = k; counters = counts })))
+            (subst (λ (w : ℕ). AreCountedLess (w % 2 ^ 32) main-on.image image) is (less main-on.image main-on.is image told));
+      }
+
+      pub main-session : ForSome b.files (SameSession from)
+      main-session image told = then-session from main-on.image image (taken-session node entry before from main-on.image main-taken) (counted-session (charge % 2 ^ 32) main-on.image image (less main-on.image main-on.is image told))

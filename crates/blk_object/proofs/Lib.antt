@@ -12,6 +12,7 @@ pub mod ChainsOut
 pub mod TakenItems
 pub mod FreedPlaces
 pub mod FreeingRuns
+pub mod Sessions
 pub mod OwnedPlaces
 pub mod OwnedCharges
 pub mod PlainObjects

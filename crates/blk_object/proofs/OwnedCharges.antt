@@ -1,6 +1,6 @@
 -- What an entry is charged, by the words of its record.
-use Rattle.std.proofs.Common.{◌≡◌, ℕ, ◌+◌, ◌%◌, List, [], ◌∷◌, length, length-take, take, refl, ap, sym, ◌∙◌, arith, Bool, true, false, Option, None, Some}
-use Rattle.std.specs.Prelude.{◌==◌, ◌&&◌, ◌^◌, nat_le, not, slice_index, if◌then◌else◌}
+use Rattle.std.proofs.Common.{◌≡◌, ℕ, ◌+◌, List, [], ◌∷◌, length, length-take, take, refl, ap, sym, ◌∙◌, arith, Bool, true, false, Option, None, Some}
+use Rattle.std.specs.Prelude.{◌==◌, ◌&&◌, nat_le, not, slice_index, if◌then◌else◌}
 use Rattle.std.specs.List.{sum_by}
 use Rattle.std.specs.Option.{option_and_then, option_map}
 use Rattle.std.proofs.lemmas.Bool.{eqb-true}
@@ -80,16 +80,13 @@ streams-length image e streams is = go ((data_size_of e 3 == 0) && (address_of e
       let third = stream-length image e 2 c e2 in
       sym (ap (sum_by length) same) ∙ (let sum : sum_by length (a ∷ b ∷ c ∷ []) ≡ data_size_of e 0 + data_size_of e 1 + data_size_of e 2 = omega (arith, first, second, third) in sum)
 
-wraps : (k a b c n : ℕ) → n ≡ k + (a + b + c) → (((k + a) % 2 ^ 32 + b) % 2 ^ 32 + c) % 2 ^ 32 ≡ n % 2 ^ 32
-wraps k a b c n is = omega (arith, is)
-
--- the sum of the lengths that the record says, as a word
+-- the sum of the lengths that the record says
 pub owned-charge : (image : Image) (entry : ℕ) (head : Head) (loaded : Loaded) → IsRecordHead image entry head → LoadsWith entry loaded image
-    → (((head.key_len + slice_index head.sizes 0) % 2 ^ 32 + slice_index head.sizes 1) % 2 ^ 32 + slice_index head.sizes 2) % 2 ^ 32 ≡ charge_of loaded % 2 ^ 32
+    → head.key_len + slice_index head.sizes 0 + slice_index head.sizes 1 + slice_index head.sizes 2 ≡ charge_of loaded
 owned-charge image entry head loaded is with_record = load-then (store_of image) with_record.rule with_record.node loaded with_record.loads (λ n e f.
     let here : (store_of image).entry entry ≡ Some e = ap (store_of image).entry (sym with_record.contents ∙ f.facts.contents_is) ∙ f.entry in
     let shown : fields_of (entry_at image entry) ≡ e = shown-fields image entry e here in
     let key : length loaded.key ≡ head.key_len = key-length image n.contents e loaded.key f.facts.keyed.key ∙ sym (ap (λ (x : RecordFields). x.key_len) shown) ∙ sym is.key_len in
     let sizes : e.data_size ≡ head.sizes = sym (ap (λ (x : RecordFields). x.data_size) shown) ∙ sym is.sizes in
     let streams : sum_by length loaded.streams ≡ slice_index head.sizes 0 + slice_index head.sizes 1 + slice_index head.sizes 2 = streams-length image e loaded.streams f.facts.streams ∙ ap (λ (ws : List ℕ). slice_index ws 0 + slice_index ws 1 + slice_index ws 2) sizes in
-    wraps head.key_len (slice_index head.sizes 0) (slice_index head.sizes 1) (slice_index head.sizes 2) (charge_of loaded) (omega (arith, key, streams)))
+    omega (arith, key, streams))

@@ -1,5 +1,5 @@
 -- An item that goes alone is removed: what each call adds.
-use Rattle.std.proofs.Common.{◌≡◌, inl, inr, ℕ, ◌%◌, List, [], ◌++◌, ap, sym, ◌∙◌, subst, Option, Some}
+use Rattle.std.proofs.Common.{◌≡◌, inl, inr, ℕ, ◌%◌, List, [], ◌++◌, ap, sym, ◌∙◌, subst, Option, None, Some}
 use Rattle.std.specs.Prelude.{◌^◌}
 use Rattle.std.specs.Option.{ForSome}
 use Rattle.blk_image.specs.Image.{Image}
@@ -32,6 +32,9 @@ use Rattle.blk_object.proofs.FreedPlaces as freed
 use Rattle.blk_object.proofs.OwnedPlaces.{kept-load}
 use Rattle.blk_object.proofs.CounterWords.{less-counted}
 use Rattle.blk_object.proofs.TakenItems as taken
+
+some-none : {A : Type 0} {x : A} → ◌≡◌ {A = Option A} (Some x) None → ⊥
+some-none e = cc
 
 -- where the counters stay, they count what they did
 still-counts : (from image : Image) (state : State) (layout : Layout) → SameCounters from image → CountsItems from state layout → CountsItems image state layout
@@ -98,13 +101,11 @@ module _ (state : State) (layout : Layout) (unlinked : List ℕ) (objects : List
           let there : IsOneItemLess state after layout (layout_removed layout its p.was.contents) (charge_of p.was) = record { items = l.items; bytes = l.bytes } in
           subst (λ (n : ℕ). IsOneItemLess state after layout (layout_removed layout n entry) (charge_of p.was)) p.node_is (subst (λ (e : ℕ). IsOneItemLess state after layout (layout_removed layout its e) (charge_of p.was)) p.entry_is there)
 
-      pub gone-uncounted : (charge : ℕ) → charge ≡ charge_of p.was % 2 ^ 32 → (image : Image) → Removes words mid image → IsGoneUncounted state after layout unlinked node entry charge image
+      pub gone-uncounted : (charge : ℕ) → charge ≡ charge_of p.was → (image : Image) → Removes words mid image → IsGoneUncounted state after layout unlinked node entry charge image
       gone-uncounted charge is image r = record {
         kept = freed.all-gone words mid image r after (layout_removed layout node entry) unlinked kept-mid;
         counters = still-counts mid image state layout (freed.all-counted words mid image r) (still-counts from mid state layout (taken.counters-left node entry before from mid t) k.counters);
-        full = charge_of p.was;
-        charge_is = is;
-        less = one-less;
+        less = subst (IsOneItemLess state after layout (layout_removed layout node entry)) (sym is) one-less;
       }
 
 -- while it is counted
@@ -112,9 +113,9 @@ pub counting-either : (state after : State) (layout : Layout) (unlinked : List �
 counting-either state after layout unlinked node entry charge mid image g keeps = inr (then-found [] [] mid image keeps after (layout_removed layout node entry) unlinked g.kept)
 
 -- once it is
-pub removed-whole : (state after : State) (layout : Layout) (unlinked : List ℕ) (node entry charge : ℕ) (mid image : Image) → IsGoneUncounted state after layout unlinked node entry charge mid → AreCountedLess charge mid image → IsRemovedWhole after layout unlinked node entry image
+pub removed-whole : (state after : State) (layout : Layout) (unlinked : List ℕ) (node entry charge : ℕ) (mid image : Image) → IsGoneUncounted state after layout unlinked node entry charge mid → AreCountedLess (charge % 2 ^ 32) mid image → IsRemovedWhole after layout unlinked node entry image
 removed-whole state after layout unlinked node entry charge mid image g counted =
-    less-counted state after layout (layout_removed layout node entry) unlinked g.full mid image g.counters g.less g.kept (subst (λ (c : ℕ). AreCountedLess c mid image) g.charge_is counted)
+    less-counted state after layout (layout_removed layout node entry) unlinked charge mid image g.counters g.less g.kept counted
 
 -- ---- what is told
 
@@ -144,5 +145,22 @@ module _ (a r m : Told) (stays : r ≡ a) (state : State) (layout : Layout) (unl
     pub freeing-stops : ForSome m.files (λ at. AreFreeable words at → Passes m b (AreGoing words at)) → Passes a b (FindsEither state (without_items state objects keep))
     freeing-stops frees = passes_then taking-stops (passes_weaker (frees on.image on.is they-may) (freeing-either state layout unlinked objects keep item node entry before from k p on.image out words are) (freeing-either state layout unlinked objects keep item node entry before from k p on.image out words are))
 
-    pub freed-gone : ForSome m.files (λ at. AreFreeable words at → ForSome b.files (Removes words at)) → (charge : ℕ) → charge ≡ charge_of p.was % 2 ^ 32 → ForSome b.files (IsGoneUncounted state (without_items state objects keep) layout unlinked node entry charge)
+    pub freed-gone : ForSome m.files (λ at. AreFreeable words at → ForSome b.files (Removes words at)) → (charge : ℕ) → charge ≡ charge_of p.was → ForSome b.files (IsGoneUncounted state (without_items state objects keep) layout unlinked node entry charge)
     freed-gone frees charge is image at = gone-uncounted state layout unlinked objects keep item node entry before from k p on.image out words are charge is image (frees on.image on.is they-may image at)
+
+-- then it is counted no longer
+module _ (a m b : Told) (state after : State) (layout : Layout) (unlinked : List ℕ) (node entry charge : ℕ) (from : Image) (there : a.files ≡ Some from) (first : Passes a m (FindsEither state after)) (gone : ForSome m.files (IsGoneUncounted state after layout unlinked node entry charge)) where
+  gone-on : IsTold m (FindsEither state after)
+  gone-on = told_then a m from (FindsEither state after) there first
+
+  pub counting-stops : ForSome m.files (λ at. Passes m b (KeepsWith [] [] at)) → Passes a b (FindsEither state after)
+  counting-stops keeps = passes_then first (passes_weaker (keeps gone-on.image gone-on.is)
+      (λ image k. counting-either state after layout unlinked node entry charge gone-on.image image (gone gone-on.image gone-on.is) k)
+      (λ image k. counting-either state after layout unlinked node entry charge gone-on.image image (gone gone-on.image gone-on.is) k))
+
+  pub counting-removed : ForSome m.files (λ at. ForSome b.files (AreCountedLess (charge % 2 ^ 32) at)) → ForSome b.files (IsRemovedWhole after layout unlinked node entry)
+  counting-removed counted image is = removed-whole state after layout unlinked node entry charge gone-on.image image (gone gone-on.image gone-on.is) (counted gone-on.image gone-on.is image is)
+
+  -- so it isn't silent in between
+  pub counting-told : m.files ≡ None → a.files ≡ None
+  counting-told none = absurd (some-none (sym gone-on.is ∙ none))

@@ -12,7 +12,7 @@ use Rattle.blk_format.specs.Growth.{StaysWhole}
 use Rattle.blk_volume.specs.Layout.{Layout}
 use Rattle.blk_disk.specs.declared.tables.BlockFiles.{BlockFiles}
 use Rattle.blk_disk.specs.Tables.{stands_among}
-use Rattle.blk_kept.specs.Changes.{Finds, KeepsWith, RemovesAllocation, RemovesExternal, SameCounters, StillFinds}
+use Rattle.blk_kept.specs.Changes.{Finds, KeepsWith, RemovesAllocation, RemovesExternal, SameCounters, SameSession, StillFinds}
 use Rattle.blk_kept.specs.Keeping.{KeepsUncounted}
 use Rattle.blk_kept.specs.PartlyOut.{KeepsPartlyOut}
 use Rattle.blk_kept.specs.PartlyOutStops.{LeavesOtherKeys}
@@ -86,6 +86,10 @@ FreedWordsAreGonePartlyOut = (state : State) (layout : Layout) (keep : Item → 
 -- and the counters of the index are as they were
 abbrev pub FreedWordsLeaveCounters : Type 0
 FreedWordsLeaveCounters = (words : List ℕ) (from image : Image) → Removes words from image → SameCounters from image
+
+-- and the session is the same
+abbrev pub FreedWordsLeaveSession : Type 0
+FreedWordsLeaveSession = (words : List ℕ) (from image : Image) → Removes words from image → SameSession from image
 
 -- at each word what was at rest is found
 abbrev pub GoingWordsFindTheSame : Type 0

@@ -1,12 +1,13 @@
 -- The next item of an object goes, while others are out: it is taken out, what it has is freed, and it is counted no longer.
-use Rattle.std.specs.Prelude.{◌≡◌, ◌⊎◌, ℕ, ◌%◌, ◌^◌, List, ◌++◌, Bool, Option, Some, true}
+use Rattle.std.specs.Prelude.{◌≡◌, ◌⊎◌, ℕ, List, ◌++◌, Bool, Option, Some, true}
 use Rattle.blk_image.specs.Image.{Image}
-use Rattle.blk_model.specs.Items.{Item, part}
+use Rattle.blk_model.specs.Items.{Item, main, part}
 use Rattle.blk_model.specs.State.{Object, State, object_at}
 use Rattle.blk_volume.specs.Found.{charge_of}
 use Rattle.blk_volume.specs.Layout.{Layout}
 use Rattle.blk_volume.specs.Loads.{Loaded}
-use Rattle.blk_kept.specs.Changes.{SameCounters}
+use Rattle.blk_volume.specs.Sound.{words_of}
+use Rattle.blk_kept.specs.Changes.{SameCounters, SameSession}
 use Rattle.blk_kept.specs.Keeping.{KeepsUncounted}
 use Rattle.blk_kept.specs.PartlyOut.{KeepsPartlyOut, chains_but, keeps_but}
 use Rattle.blk_kept.specs.PartlyOutStops.{LeavesOtherKeys}
@@ -30,12 +31,12 @@ ForEachNext node entry before from P =
     → KeepsPartlyOut state layout keep chains unlinked from → LiesNext state layout keep chains item node entry before
     → P state layout keep chains unlinked item
 
--- what holds wherever a state is kept, of each live object whose main item lies there
-abbrev pub ForEachMain : (node entry : ℕ) (before : Option ℕ) → Image → (State → ℕ → Object → Type 0) → Type 0
+-- what holds wherever a state is kept, of each live object whose main item lies there, with what lies there
+abbrev pub ForEachMain : (node entry : ℕ) (before : Option ℕ) → Image → (State → Layout → List ℕ → ℕ → Object → Loaded → Type 0) → Type 0
 ForEachMain node entry before from P =
     (state : State) (layout : Layout) (unlinked : List ℕ) (number : ℕ) (object : Object)
-    → KeepsUncounted state layout unlinked from → object_at state number ≡ Some object → object.live ≡ true → LiesAsFound state layout object.key node entry before
-    → P state number object
+    → KeepsUncounted state layout unlinked from → object_at state number ≡ Some object → object.live ≡ true → (lies : LiesAsFound state layout object.key node entry before)
+    → P state layout unlinked number object lies.was
 
 -- what holds wherever the main item of an object is out, and perhaps parts of it, of each other part of it that lies there
 abbrev pub ForEachPart : (node entry : ℕ) (before : Option ℕ) → Image → (State → ℕ → Object → Type 0) → Type 0
@@ -44,18 +45,24 @@ ForEachPart node entry before from P =
     → KeepsPartlyOut state layout keep chains unlinked from → object_at state number ≡ Some object → LeavesOtherKeys object.key keep → LiesNext state layout keep chains (part object.key n) node entry before
     → P state number object
 
--- the item is out, what it had is freed, and the counters of the index are as they were; its charge as a word is this
+-- the item is out, what it had is freed, and the counters of the index and the session are as they were; its charge is this
 pub record IsOutUncounted (state : State) (layout : Layout) (keep : Item → Bool) (chains : ℕ → List ℕ) (unlinked : List ℕ) (item : Item) (entry charge : ℕ) (from image : Image) : Type 0 where
   pub out : KeepsPartlyOut state layout (keeps_but keep item) (chains_but chains entry) unlinked image
   pub counters : SameCounters from image
+  pub session : SameSession from image
   pub was : Loaded
   pub here : layout.at (layout.place item) ≡ Some was
-  pub charge_is : charge ≡ charge_of was % 2 ^ 32
+  pub charge_is : charge ≡ charge_of was
 
 -- the item is out, what it had is freed, and the items that are left are counted
 pub record IsOutAndCounted (state : State) (layout : Layout) (keep : Item → Bool) (chains : ℕ → List ℕ) (unlinked : List ℕ) (item : Item) (entry : ℕ) (image : Image) : Type 0 where
   pub out : KeepsPartlyOut state layout (keeps_but keep item) (chains_but chains entry) unlinked image
   pub counted : CountsLeft state layout (keeps_but keep item) image
+
+-- the main item of a key is out, its words are unlinked, and the items that are left are counted
+pub record IsMainOut (state : State) (layout : Layout) (unlinked : List ℕ) (key : List ℕ) (was : Loaded) (image : Image) : Type 0 where
+  pub out : KeepsPartlyOut state layout (keeps_but (λ item. true) (main key)) (chains_but layout.chains was.contents) (words_of was ++ unlinked) image
+  pub counted : CountsLeft state layout (keeps_but (λ item. true) (main key)) image
 
 -- the item is out, and its words, which are unlinked, are being freed
 pub record IsBeingFreed (state : State) (layout : Layout) (keep : Item → Bool) (chains : ℕ → List ℕ) (unlinked : List ℕ) (item : Item) (entry : ℕ) (image : Image) : Type 0 where

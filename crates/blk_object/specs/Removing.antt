@@ -11,7 +11,7 @@ use Rattle.blk_volume.specs.Loads.{Loaded}
 use Rattle.blk_volume.specs.Searches.{bucket_of_key}
 use Rattle.blk_volume.specs.View.{list_of}
 use Rattle.blk_chain.specs.Unlinking.{BeforeChecks, CanBeUnlinked, IsSealedAgain, IsStillLinked, IsUnlinked, StandsBehind}
-use Rattle.blk_kept.specs.Changes.{SameCounters}
+use Rattle.blk_kept.specs.Changes.{SameCounters, SameSession}
 use Rattle.blk_kept.specs.Keeping.{KeepsUncounted}
 use Rattle.blk_kept.specs.PlainRemovals.{IsRemoved, IsRemoving}
 use Rattle.blk_kept.specs.RemovalLaws.{IsRemovalDone, chains_without}
@@ -71,6 +71,10 @@ TakenOutItemsAreRemoved = (state : State) (layout : Layout) (unlinked : List ℕ
 -- and the counters of the index are as they were
 abbrev pub TakenOutItemsLeaveCounters : Type 0
 TakenOutItemsLeaveCounters = (node entry : ℕ) (before : Option ℕ) (from image : Image) → IsTakenOut node entry before from image → SameCounters from image
+
+-- and the session is the same
+abbrev pub TakenOutItemsLeaveSession : Type 0
+TakenOutItemsLeaveSession = (node entry : ℕ) (before : Option ℕ) (from image : Image) → IsTakenOut node entry before from image → SameSession from image
 
 -- an image is at a word of the removal of an item, with its record in its chain yet, or out of it
 abbrev pub IsMidRemoving : Layout → Item → Loaded → Image → Image → Type 0

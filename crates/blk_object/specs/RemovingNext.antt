@@ -12,6 +12,7 @@ use Rattle.blk_volume.specs.Found.{charge_of}
 use Rattle.blk_volume.specs.Layout.{Layout, is_listed, nodes_of}
 use Rattle.blk_volume.specs.Loads.{Loaded}
 use Rattle.blk_volume.specs.Removal.{is_of_another, without_items}
+use Rattle.blk_kept.specs.Changes.{SameSession}
 use Rattle.blk_kept.specs.CommandStates.{IsDoomOf}
 use Rattle.blk_kept.specs.CountsOfParts.{charges_at}
 use Rattle.blk_kept.specs.GroupLaws.{IsLess, gone_nodes, layout_less}
@@ -41,6 +42,10 @@ NextItemsAreCountedLess = (state : State) (layout : Layout) (keep : Item → Boo
 -- and what is kept is kept still
 abbrev pub CountedLessIsStillOut : Type 0
 CountedLessIsStillOut = (charge : ℕ) (from image : Image) → AreCountedLess charge from image → KeepsOut from image
+
+-- and the session is the same
+abbrev pub CountedLessLeavesSession : Type 0
+CountedLessLeavesSession = (charge : ℕ) (from image : Image) → AreCountedLess charge from image → SameSession from image
 
 -- once all items that go are out, the state without them is kept and counted
 abbrev pub CountedOutEndsKept : Type 0

@@ -1,5 +1,5 @@
 -- An item that goes alone is removed, as a plain object that no handle names, or a part: it is taken out, what it has is freed, and it is counted no longer.
-use Rattle.std.specs.Prelude.{◌≡◌, ◌⊎◌, ℕ, ◌%◌, ◌^◌, List, [], Bool, Option, Some, false, true}
+use Rattle.std.specs.Prelude.{◌≡◌, ◌⊎◌, ℕ, List, [], Bool, Option, Some, false, true}
 use Rattle.blk_image.specs.Image.{Image}
 use Rattle.blk_model.specs.Effects.{doomed}
 use Rattle.blk_model.specs.Holding.{rest}
@@ -38,13 +38,11 @@ ForEachAlone node entry before from P =
 abbrev pub FindsEither : (state after : State) → Image → Type 0
 FindsEither state after image = Finds (rest state) image ⊎ Finds (rest after) image
 
--- the state after is kept but for the counters, which count the one before; it lists one item less, with a charge that as a word is this
+-- the state after is kept but for the counters, which count the one before; it lists one item less, with this charge
 pub record IsGoneUncounted (state after : State) (layout : Layout) (unlinked : List ℕ) (node entry charge : ℕ) (image : Image) : Type 0 where
   pub kept : KeepsUncounted after (layout_removed layout node entry) unlinked image
   pub counters : CountsItems image state layout
-  pub full : ℕ
-  pub charge_is : charge ≡ full % 2 ^ 32
-  pub less : IsOneItemLess state after layout (layout_removed layout node entry) full
+  pub less : IsOneItemLess state after layout (layout_removed layout node entry) charge
 
 -- in the end it is kept and counted
 abbrev pub IsRemovedWhole : State → Layout → List ℕ → (node entry : ℕ) → Image → Type 0

@@ -12,7 +12,7 @@ ghost use Rattle.blk_object.specs.RemovingNext.{KeepsOut};
 use blk_disk::BlockFiles;
 use blk_index::word;
 use blk_io::{Failed, Fault, FileId, Folder, write_words};
-use blk_record::IndexHead;
+use blk_record::{IndexHead, WORD_VALUES};
 
 /// What the index counts.
 #[derive(Clone, Copy, Debug)]
@@ -64,10 +64,11 @@ pub(crate) fn count_entry<F: Folder>(
     set_counters(f, files, entries, bytes, size)
 }
 
-/// Counts one entry less, with a charge, in the counters of the index: three folder calls read them, and three write them.
-pub fn count_less<F: Folder>(f: &mut F, files: &BlockFiles, charge: u32) -> Result<(), Fault>
+/// Counts one entry less, with a charge, in the counters of the index, which are words: three folder calls read them,
+/// and three write them.
+pub fn count_less<F: Folder>(f: &mut F, files: &BlockFiles, charge: u64) -> Result<(), Fault>
     requires is_open { ForSome (F.told f.old).files (IsOpen files.now) }
-    ensures counted { OnOk result (ForSome (F.told f.old).files (λ from. ForSome (F.told f.new).files (AreCountedLess charge from))) }
+    ensures counted { OnOk result (ForSome (F.told f.old).files (λ from. ForSome (F.told f.new).files (AreCountedLess (charge % 2 ^ 32) from))) }
     ensures stops { ForSome (F.told f.old).files (λ from. Passes (F.told f.old) (F.told f.new) (KeepsWith [] [] from)) }
     ensures stops_out { ForSome (F.told f.old).files (λ from. Passes (F.told f.old) (F.told f.new) (KeepsOut from)) }
     ensures is_open { ForSome (F.told f.new).files (IsOpen files.now) }
@@ -78,7 +79,7 @@ pub fn count_less<F: Folder>(f: &mut F, files: &BlockFiles, charge: u32) -> Resu
 {
     let counters = read_counters(f)?;
     let entries = counters.entries.wrapping_sub(1);
-    let bytes = counters.bytes.wrapping_sub(charge);
+    let bytes = counters.bytes.wrapping_sub((charge % WORD_VALUES) as u32);
     let size = counters.size.wrapping_sub(1);
     set_counters(f, files, entries, bytes, size)?;
     Ok(())

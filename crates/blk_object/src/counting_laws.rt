@@ -1,12 +1,13 @@
 // What is left while items of an object are out: laws, each the contract of a function with an empty body.
 ghost use Rattle.blk_object.specs.ListedParts.{FirstPartsLieNext, FoundNamesAreTheParts, FoundPartsLieNext, NoPartsLeftAreAllOut, PartsHaveTheirNames};
-ghost use Rattle.blk_object.specs.RemovingNext.{CountedLessIsStillOut, CountedOutDoomsEnd, CountedOutEndsKept, CountedOutGroupsAreGone, KeptStatesCountAll, NextItemsAreCountedLess};
+ghost use Rattle.blk_object.specs.RemovingNext.{CountedLessIsStillOut, CountedLessLeavesSession, CountedOutDoomsEnd, CountedOutEndsKept, CountedOutGroupsAreGone, KeptStatesCountAll, NextItemsAreCountedLess};
 
-/// At first all items are counted; once one more is out and counted less, those that are left are, and what is kept is kept still; once all that go are out, the state without them is kept and counted, and so are the one after a DoomKey, and the one without the next group.
+/// At first all items are counted; once one more is out and counted less, those that are left are, what is kept is kept still, and the session is the same; once all that go are out, the state without them is kept and counted, and so are the one after a DoomKey, and the one without the next group.
 pub fn left_items_are_counted()
     ensures all { KeptStatesCountAll }
     ensures less { NextItemsAreCountedLess }
     ensures kept { CountedLessIsStillOut }
+    ensures session { CountedLessLeavesSession }
     ensures ends { CountedOutEndsKept }
     ensures doomed { CountedOutDoomsEnd }
     ensures group { CountedOutGroupsAreGone }

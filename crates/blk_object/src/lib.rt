@@ -13,6 +13,7 @@ mod owning;
 mod owning_laws;
 mod removing;
 mod removing_laws;
+mod removing_mains;
 mod removing_objects;
 mod removing_parts;
 
@@ -30,5 +31,6 @@ pub use removing_laws::{
     found_entries_may_go_out, less_is_counted, plain_objects_go_alone, taken_items_are_removed,
     taken_parts_are_out,
 };
+pub use removing_mains::take_main;
 pub use removing_objects::remove_item;
-pub use removing_parts::remove_next;
+pub use removing_parts::remove_part;

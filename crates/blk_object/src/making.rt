@@ -1,5 +1,5 @@
 // A new object is made.
-ghost use Rattle.std.specs.Prelude.{◌≡◌, ◌≢◌, ◌≤◌, None, IfOk, IsTrue, OnOk, length};
+ghost use Rattle.std.specs.Prelude.{◌≡◌, ◌≤◌, None, IfOk, IsTrue, OnOk, length};
 ghost use Rattle.std.specs.Option.{ForSome};
 ghost use Rattle.blk_image.specs.Image.{Index as index, byte};
 ghost use Rattle.blk_image.specs.Told.{Passes, Rises};
@@ -53,7 +53,6 @@ pub fn make_entry<F: Folder>(
 ) -> Result<Made, Fault>
     requires some { 1 ≤ length key.now }
     requires most { length key.now ≤ longest_key }
-    requires mark { mark ≢ 0 }
     requires is_open { ForSome (F.told f.old).files (IsOpen files.old) }
 
     // Each state that was kept, that can have the object, in a session of this number, is kept with it in the end.

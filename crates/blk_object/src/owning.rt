@@ -25,8 +25,8 @@ use blk_record::EntryView;
 pub struct Owned {
     /// The places of its node, its record, its long key and its three streams, in this order, where it has them.
     pub places: [Option<Addr>; 6],
-    /// The bytes of its key and its streams, modulo 2^32.
-    pub charge: u32,
+    /// The bytes of its key and its streams.
+    pub charge: u64,
 }
 
 /// Reads which places an entry has, by its record: one folder call.
@@ -39,7 +39,7 @@ pub fn read_owned<F: Folder>(f: &mut F, files: &BlockFiles, entry: Addr) -> Resu
 
     // They are all the address words of what lies there with this record, and each is there.
     ensures words { IfOk result (λ owned. ForSome (F.told f.old).files (λ image. (loaded : Loaded) → LoadsWith entry loaded image → words_at owned.places ≡ words_of loaded)) }
-    ensures charge { IfOk result (λ owned. ForSome (F.told f.old).files (λ image. (loaded : Loaded) → LoadsWith entry loaded image → owned.charge ≡ charge_of loaded % 2 ^ 32)) }
+    ensures charge { IfOk result (λ owned. ForSome (F.told f.old).files (λ image. (loaded : Loaded) → LoadsWith entry loaded image → owned.charge ≡ charge_of loaded)) }
     ensures there { IfOk result (λ owned. All (IsPlaceAmong files.now) owned.places) }
 
     ensures stays { Stays (F.told f.old) (F.told f.new) }
@@ -83,14 +83,14 @@ pub fn free_owned<F: Folder>(f: &mut F, files: &BlockFiles, owned: &Owned) -> Re
     free_places(f, files, &owned.places)
 }
 
-// The bytes of the key and the streams of an entry, modulo 2^32.
-fn charge_of_head(head: &Head) -> u32
-    ensures { result ≡ (((head.now.key_len + slice_index head.now.sizes 0) % 2 ^ 32 + slice_index head.now.sizes 1) % 2 ^ 32 + slice_index head.now.sizes 2) % 2 ^ 32 }
+// The bytes of the key and the streams of an entry.
+fn charge_of_head(head: &Head) -> u64
+    ensures { result ≡ head.now.key_len + slice_index head.now.sizes 0 + slice_index head.now.sizes 1 + slice_index head.now.sizes 2 }
 {
-    head.key_len
-        .wrapping_add(head.sizes[0])
-        .wrapping_add(head.sizes[1])
-        .wrapping_add(head.sizes[2])
+    u64::from(head.key_len)
+        + u64::from(head.sizes[0])
+        + u64::from(head.sizes[1])
+        + u64::from(head.sizes[2])
 }
 
 // The place of a word of a record, which has none where the word is 0.

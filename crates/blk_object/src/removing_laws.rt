@@ -3,13 +3,14 @@ ghost use Rattle.blk_object.specs.Counters.{LessIsCounted};
 ghost use Rattle.blk_object.specs.RemovingFound.{FoundEntriesLieBehind, KeptStatesCanBeSearched};
 ghost use Rattle.blk_object.specs.RemovingObjects.{PlainObjectsGoAlone};
 ghost use Rattle.blk_object.specs.RemovingParts.{GoingLonePartsFindEither, GoingMainsFindEither, GoingPartsFindDoomed, LeftItemsMayGoOut, TakenOutItemsAreOut, UnlinkedItemsFindDoomed};
-ghost use Rattle.blk_object.specs.Removing.{GoingOutIsRemoving, ListedItemsMayGoOut, TakenOutItemsAreRemoved, TakenOutItemsLeaveCounters};
+ghost use Rattle.blk_object.specs.Removing.{GoingOutIsRemoving, ListedItemsMayGoOut, TakenOutItemsAreRemoved, TakenOutItemsLeaveCounters, TakenOutItemsLeaveSession};
 
-/// Where a state is kept a listed item may go out. Once it is taken out it is removed, and the counters of the index are as they were; at each word it is being removed.
+/// Where a state is kept a listed item may go out. Once it is taken out it is removed, and the counters of the index and the session are as they were; at each word it is being removed.
 pub fn taken_items_are_removed()
     ensures may { ListedItemsMayGoOut }
     ensures removed { TakenOutItemsAreRemoved }
     ensures counters { TakenOutItemsLeaveCounters }
+    ensures session { TakenOutItemsLeaveSession }
     ensures each { GoingOutIsRemoving }
 {}
 

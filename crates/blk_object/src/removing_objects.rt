@@ -3,10 +3,14 @@ ghost use Rattle.std.specs.Prelude.{◌≡◌, ◌≤◌, IfOk, IfSome, IsTrue, 
 ghost use Rattle.std.specs.Option.{ForSome};
 ghost use Rattle.blk_image.specs.Told.{Passes, Rises};
 ghost use Rattle.blk_format.specs.Address.{blocks_256, kind_of};
+ghost use Rattle.blk_volume.specs.Found.{charge_of};
+ghost use Rattle.blk_volume.specs.Loads.{Loaded};
 ghost use Rattle.blk_io.specs.Faults.{IfDamaged, IfDevice};
 ghost use Rattle.blk_disk.specs.Open.{IsOpen};
 ghost use Rattle.blk_disk.specs.Tables.{is_node_among, stands_among};
+ghost use Rattle.blk_kept.specs.Changes.{SameSession};
 ghost use Rattle.blk_object.specs.NextItems.{ForEachNext, IsGoingNext, IsOutUncounted};
+ghost use Rattle.blk_object.specs.Owning.{LoadsWith};
 ghost use Rattle.blk_object.specs.RemovingObjects.{FindsEither, ForEachAlone, IsGoneUncounted, IsRemovedWhole};
 
 use crate::counters::count_less;
@@ -18,7 +22,8 @@ use blk_disk::BlockFiles;
 use blk_io::{Fault, Folder};
 
 /// Removes an item that goes alone, as the object of a plain entry that no handle names, or a part: it is taken out of
-/// the use list and of its chain, its places are freed, and the index counts one entry less, with its charge.
+/// the use list and of its chain, its places are freed, and the index counts one entry less, with its charge, which is
+/// given, in bytes.
 ///
 /// Its record stands in its chain behind the record before, or is the first; and it names this node. This takes at most
 /// 23 folder calls until it is out, seven for each of its places, and six for the counters.
@@ -27,7 +32,7 @@ pub fn remove_item<F: Folder>(
     files: &BlockFiles,
     found: &Found,
     node: Addr,
-) -> Result<(), Fault>
+) -> Result<u64, Fault>
     requires node { IsTrue (is_node_among files.now node) }
     requires kind { kind_of found.now.entry ≡ blocks_256 }
     requires stands { IsTrue (stands_among files.now found.now.entry) }
@@ -35,9 +40,15 @@ pub fn remove_item<F: Folder>(
     requires stands_before { IfSome found.now.before (λ before. IsTrue (stands_among files.now before)) }
     requires is_open { ForSome (F.told f.old).files (IsOpen files.now) }
 
+    // The charge is that of what lay there with this record.
+    ensures charge { IfOk result (λ charge. ForSome (F.told f.old).files (λ from. (was : Loaded) → LoadsWith found.now.entry was from → charge ≡ charge_of was)) }
+
     // Where such an item lies there in a state that is kept and counted, the state without it is so in the end. At each word what was at rest is found, or what is at rest without it.
     ensures removed { OnOk result (ForSome (F.told f.old).files (λ from. ForEachAlone node found.now.entry found.now.before from (λ state after layout unlinked. ForSome (F.told f.new).files (IsRemovedWhole after layout unlinked node found.now.entry)))) }
     ensures stops { ForSome (F.told f.old).files (λ from. ForEachAlone node found.now.entry found.now.before from (λ state after layout unlinked. Passes (F.told f.old) (F.told f.new) (FindsEither state after))) }
+
+    // The session is the same then.
+    ensures session { OnOk result (ForSome (F.told f.old).files (λ from. ForEachAlone node found.now.entry found.now.before from (λ state after layout unlinked. ForSome (F.told f.new).files (SameSession from)))) }
 
     ensures is_open { ForSome (F.told f.new).files (IsOpen files.now) }
 
@@ -49,7 +60,8 @@ pub fn remove_item<F: Folder>(
     ensures device { IfDevice result (Rises (F.faults f.old) (F.faults f.new)) }
 {
     let charge = take_away(f, files, found, node)?;
-    count_less(f, files, charge)
+    count_less(f, files, charge)?;
+    Ok(charge)
 }
 
 // Takes an item out, and frees its places. Its charge is given.
@@ -58,13 +70,14 @@ pub(crate) fn take_away<F: Folder>(
     files: &BlockFiles,
     found: &Found,
     node: Addr,
-) -> Result<u32, Fault>
+) -> Result<u64, Fault>
     requires node { IsTrue (is_node_among files.now node) }
     requires kind { kind_of found.now.entry ≡ blocks_256 }
     requires stands { IsTrue (stands_among files.now found.now.entry) }
     requires kind_before { IfSome found.now.before (λ before. kind_of before ≡ blocks_256) }
     requires stands_before { IfSome found.now.before (λ before. IsTrue (stands_among files.now before)) }
     requires is_open { ForSome (F.told f.old).files (IsOpen files.now) }
+    ensures charge { IfOk result (λ charge. ForSome (F.told f.old).files (λ from. (was : Loaded) → LoadsWith found.now.entry was from → charge ≡ charge_of was)) }
     ensures gone { IfOk result (λ charge. ForSome (F.told f.old).files (λ from. ForEachAlone node found.now.entry found.now.before from (λ state after layout unlinked. ForSome (F.told f.new).files (IsGoneUncounted state after layout unlinked node found.now.entry charge)))) }
     ensures stops { ForSome (F.told f.old).files (λ from. ForEachAlone node found.now.entry found.now.before from (λ state after layout unlinked. Passes (F.told f.old) (F.told f.new) (FindsEither state after))) }
     ensures out { IfOk result (λ charge. ForSome (F.told f.old).files (λ from. ForEachNext node found.now.entry found.now.before from (λ state layout keep chains unlinked item. ForSome (F.told f.new).files (IsOutUncounted state layout keep chains unlinked item found.now.entry charge from)))) }

@@ -1,17 +1,19 @@
-// The next item of an object goes.
-ghost use Rattle.std.specs.Prelude.{◌≡◌, ◌≤◌, IfSome, IsTrue, None, OnOk, Some};
+// A part of an object goes with the object.
+ghost use Rattle.std.specs.Prelude.{◌≡◌, ◌≤◌, IfOk, IfSome, IsTrue, None, OnOk, Some};
 ghost use Rattle.std.specs.Option.{ForSome};
 ghost use Rattle.blk_image.specs.Told.{Passes, Rises};
 ghost use Rattle.blk_model.specs.Effects.{doomed};
 ghost use Rattle.blk_model.specs.Holding.{rest};
 ghost use Rattle.blk_format.specs.Address.{blocks_256, kind_of};
+ghost use Rattle.blk_volume.specs.Found.{charge_of};
+ghost use Rattle.blk_volume.specs.Loads.{Loaded};
 ghost use Rattle.blk_io.specs.Faults.{IfDamaged, IfDevice};
 ghost use Rattle.blk_disk.specs.Open.{IsOpen};
 ghost use Rattle.blk_disk.specs.Tables.{is_node_among, stands_among};
-ghost use Rattle.blk_kept.specs.Changes.{Finds};
-ghost use Rattle.blk_object.specs.NextItems.{ForEachMain, ForEachNext, ForEachPart, IsOutAndCounted};
+ghost use Rattle.blk_kept.specs.Changes.{Finds, SameSession};
+ghost use Rattle.blk_object.specs.NextItems.{ForEachNext, ForEachPart, IsOutAndCounted};
 ghost use Rattle.blk_object.specs.RemovingNext.{CountsLeft};
-ghost use Rattle.blk_object.specs.RemovingObjects.{FindsEither};
+ghost use Rattle.blk_object.specs.Owning.{LoadsWith};
 
 use crate::counters::count_less;
 use crate::removing_objects::take_away;
@@ -20,17 +22,17 @@ use blk_chain::Found;
 use blk_disk::BlockFiles;
 use blk_io::{Fault, Folder};
 
-/// Removes the next item of an object that goes with its parts, as its main item, which goes first, or a part: it is
-/// taken out of the use list and of its chain, its places are freed, and the index counts one entry less, with its charge.
+/// Removes a part of an object that goes with its parts, after its main item: it is taken out of the use list and of its
+/// chain, its places are freed, and the index counts one entry less, with its charge, which is given, in bytes.
 ///
 /// Its record stands in its chain behind the record before, or is the first; and it names this node. This takes as many
 /// folder calls as `remove_item`.
-pub fn remove_next<F: Folder>(
+pub fn remove_part<F: Folder>(
     f: &mut F,
     files: &BlockFiles,
     found: &Found,
     node: Addr,
-) -> Result<(), Fault>
+) -> Result<u64, Fault>
     requires node { IsTrue (is_node_among files.now node) }
     requires kind { kind_of found.now.entry ≡ blocks_256 }
     requires stands { IsTrue (stands_among files.now found.now.entry) }
@@ -38,11 +40,16 @@ pub fn remove_next<F: Folder>(
     requires stands_before { IfSome found.now.before (λ before. IsTrue (stands_among files.now before)) }
     requires is_open { ForSome (F.told f.old).files (IsOpen files.now) }
 
+    // The charge is that of what lay there with this record.
+    ensures charge { IfOk result (λ charge. ForSome (F.told f.old).files (λ from. (was : Loaded) → LoadsWith found.now.entry was from → charge ≡ charge_of was)) }
+
     // Where some items are out, or none, and the others are counted, one more is out in the end, and those that are left are counted.
     ensures removed { OnOk result (ForSome (F.told f.old).files (λ from. ForEachNext node found.now.entry found.now.before from (λ state layout keep chains unlinked item. CountsLeft state layout keep from → ForSome (F.told f.new).files (IsOutAndCounted state layout keep chains unlinked item found.now.entry)))) }
 
-    // While the main item of an object goes, before its parts, what was at rest is found, or what is at rest with the object doomed; while a part goes after it, that.
-    ensures main { ForSome (F.told f.old).files (λ from. ForEachMain node found.now.entry found.now.before from (λ state number object. Passes (F.told f.old) (F.told f.new) (FindsEither state (doomed number state (Some object))))) }
+    // The session is the same then.
+    ensures session { OnOk result (ForSome (F.told f.old).files (λ from. ForEachNext node found.now.entry found.now.before from (λ state layout keep chains unlinked item. ForSome (F.told f.new).files (SameSession from)))) }
+
+    // While a part goes after its main item, what is at rest with its object doomed is found.
     ensures part { ForSome (F.told f.old).files (λ from. ForEachPart node found.now.entry found.now.before from (λ state number object. Passes (F.told f.old) (F.told f.new) (Finds (rest (doomed number state (Some object)))))) }
 
     ensures is_open { ForSome (F.told f.new).files (IsOpen files.now) }
@@ -55,5 +62,6 @@ pub fn remove_next<F: Folder>(
     ensures device { IfDevice result (Rises (F.faults f.old) (F.faults f.new)) }
 {
     let charge = take_away(f, files, found, node)?;
-    count_less(f, files, charge)
+    count_less(f, files, charge)?;
+    Ok(charge)
 }

@@ -1,40 +1,46 @@
-use Rattle.std.proofs.Common.{◌≡◌, ◌∙◌, None, Some, Option, sym}
-use Rattle.std.proofs.lemmas.Result.{on_ok_weaker}
-use Rattle.blk_image.proofs.Runs.{passes_then, passes_weaker}
+use Rattle.std.proofs.Common.{◌≡◌, ◌%◌, None, true}
+use Rattle.std.specs.Prelude.{◌^◌}
 use Rattle.blk_io.proofs.Carried.{carried, if_damaged_weaker}
-use Rattle.blk_stream.proofs.Joined.{told_then}
+use Rattle.blk_kept.proofs.PartlyOut.{kept-begin}
+use Rattle.blk_model.specs.Items.{Item}
 use Rattle.blk_volume.specs.Removal.{without_items}
 use Rattle.blk_object.specs.RemovingObjects.{FindsEither}
-use Rattle.blk_object.proofs.RemovedObjects.{counting-either, removed-whole}
+use Rattle.blk_object.proofs.GoingNext.{behind-next}
+use Rattle.blk_object.proofs.RemovedObjects.{counting-removed, counting-stops, counting-told}
+use Rattle.blk_object.proofs.Sessions.{counted-then}
 use Rattle.blk_object.proofs.removing_objects.remove_item.Goals as goal
-
-some-none : {A : Type 0} {x : A} → ◌≡◌ {A = Option A} (Some x) None → ⊥
-some-none e = cc
 
 pub returns-in_err-charge-clause-untold : goal.returns-in_err-charge-clause-untold
 returns-in_err-charge-clause-untold g c from there state layout unlinked objects keep item k p =
     carried c.take_away.result c.from_residual.result c.in_err-charge.field-0.0 (λ _. (g.F.Folder.told c.args.f.now).files ≡ None) c.in_err-charge.was c.from_residual.ensures.1
     (c.take_away.ensures.untold from there state layout unlinked objects keep item k p)
 
+pub returns-in_err-count_less-clause-stops : goal.returns-in_err-count_less-clause-stops
+returns-in_err-count_less-clause-stops g c from there state layout unlinked objects keep item k p =
+    counting-stops (g.F.Folder.told c.args.f.now) (g.F.Folder.told c.take_away.new.f) (g.F.Folder.told c.count_less.new.f) state (without_items state objects keep) layout unlinked c.args.node c.args.found.now.entry c.in_ok-charge.charge from there
+    (c.in_ok-charge.ensures.stops from there state layout unlinked objects keep item k p) (c.in_ok-charge.ensures.gone from there state layout unlinked objects keep item k p) c.in_err-count_less.ensures.stops
+
+pub returns-in_err-count_less-clause-untold : goal.returns-in_err-count_less-clause-untold
+returns-in_err-count_less-clause-untold g c from there state layout unlinked objects keep item k p =
+    carried c.count_less.result c.from_residual-in_err-count_less.result c.in_err-count_less.field-0.0 (λ _. (g.F.Folder.told c.args.f.now).files ≡ None) c.in_err-count_less.was c.from_residual-in_err-count_less.ensures.1
+    (if_damaged_weaker c.count_less.result _ _ (λ damage none.
+    counting-told (g.F.Folder.told c.args.f.now) (g.F.Folder.told c.take_away.new.f) (g.F.Folder.told c.count_less.new.f) state (without_items state objects keep) layout unlinked c.args.node c.args.found.now.entry c.in_ok-charge.charge from there
+    (c.in_ok-charge.ensures.stops from there state layout unlinked objects keep item k p) (c.in_ok-charge.ensures.gone from there state layout unlinked objects keep item k p) none)
+    c.count_less.ensures.untold)
+
 pub returns-clause-removed : goal.returns-clause-removed
-returns-clause-removed g c =
-    on_ok_weaker c.count_less.result
-    (λ counted from there state layout unlinked objects keep item k p image is.
-    let mid = told_then (g.F.Folder.told c.args.f.now) (g.F.Folder.told c.take_away.new.f) from (FindsEither state (without_items state objects keep)) there (c.in_ok-charge.ensures.stops from there state layout unlinked objects keep item k p) in
-    removed-whole state (without_items state objects keep) layout unlinked c.args.node c.args.found.now.entry c.in_ok-charge.charge mid.image image (c.in_ok-charge.ensures.gone from there state layout unlinked objects keep item k p mid.image mid.is) (counted mid.image mid.is image is))
-    c.count_less.ensures.counted
+returns-clause-removed g c from there state layout unlinked objects keep item k p =
+    counting-removed (g.F.Folder.told c.args.f.now) (g.F.Folder.told c.take_away.new.f) (g.F.Folder.told c.count_less.new.f) state (without_items state objects keep) layout unlinked c.args.node c.args.found.now.entry c.in_ok-charge.charge from there
+    (c.in_ok-charge.ensures.stops from there state layout unlinked objects keep item k p) (c.in_ok-charge.ensures.gone from there state layout unlinked objects keep item k p) c.in_ok-count_less.ensures.counted
 
 pub returns-clause-stops : goal.returns-clause-stops
 returns-clause-stops g c from there state layout unlinked objects keep item k p =
-    let first = c.in_ok-charge.ensures.stops from there state layout unlinked objects keep item k p in
-    let mid = told_then (g.F.Folder.told c.args.f.now) (g.F.Folder.told c.take_away.new.f) from (FindsEither state (without_items state objects keep)) there first in
-    let gone = c.in_ok-charge.ensures.gone from there state layout unlinked objects keep item k p mid.image mid.is in
-    passes_then first
-    (passes_weaker (c.count_less.ensures.stops mid.image mid.is)
-    (λ image keeps. counting-either state (without_items state objects keep) layout unlinked c.args.node c.args.found.now.entry c.in_ok-charge.charge mid.image image gone keeps)
-    (λ image keeps. counting-either state (without_items state objects keep) layout unlinked c.args.node c.args.found.now.entry c.in_ok-charge.charge mid.image image gone keeps))
+    counting-stops (g.F.Folder.told c.args.f.now) (g.F.Folder.told c.take_away.new.f) (g.F.Folder.told c.count_less.new.f) state (without_items state objects keep) layout unlinked c.args.node c.args.found.now.entry c.in_ok-charge.charge from there
+    (c.in_ok-charge.ensures.stops from there state layout unlinked objects keep item k p) (c.in_ok-charge.ensures.gone from there state layout unlinked objects keep item k p) c.in_ok-count_less.ensures.stops
 
-pub returns-clause-untold : goal.returns-clause-untold
-returns-clause-untold g c from there state layout unlinked objects keep item k p =
-    let mid = told_then (g.F.Folder.told c.args.f.now) (g.F.Folder.told c.take_away.new.f) from (FindsEither state (without_items state objects keep)) there (c.in_ok-charge.ensures.stops from there state layout unlinked objects keep item k p) in
-    if_damaged_weaker c.count_less.result _ _ (λ damage none. absurd (some-none (sym mid.is ∙ none))) c.count_less.ensures.untold
+pub returns-clause-session : goal.returns-clause-session
+returns-clause-session g c from there state layout unlinked objects keep item k p =
+    counted-then (g.F.Folder.told c.args.f.now) (g.F.Folder.told c.take_away.new.f) (g.F.Folder.told c.count_less.new.f) from (FindsEither state (without_items state objects keep)) (c.in_ok-charge.charge % 2 ^ 32) there (c.in_ok-charge.ensures.stops from there state layout unlinked objects keep item k p)
+    (λ image is. (c.in_ok-charge.ensures.out from there state layout (λ (other : Item). true) layout.chains unlinked item (kept-begin state layout unlinked from k.entries)
+    (behind-next state layout item p.was c.args.node c.args.found.now.entry c.args.found.now.before p.lies p.node_is p.entry_is) image is).session)
+    c.in_ok-count_less.ensures.counted

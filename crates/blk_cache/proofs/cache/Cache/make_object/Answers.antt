@@ -1,15 +1,11 @@
-use Rattle.std.proofs.Common.{◌≡◌, ◌≢◌, ◌≤◌, ℕ, true, zero, suc, length, set, length-set, Some, None, refl, sym, subst, ◌∙◌, arith}
+use Rattle.std.proofs.Common.{◌≡◌, ℕ, true, length, set, length-set, Some, None, sym, subst, ◌∙◌, arith}
 use Rattle.blk_io.proofs.Carried.{carried}
 use Rattle.blk_handles.specs.Bindings.{Binding, Bindings, binding_for}
 use Rattle.blk_disk.specs.declared.tables.BlockFiles.{BlockFiles}
 use Rattle.blk_disk.specs.Open.{IsOpen}
-use Rattle.blk_cache.proofs.CreateSteps.{bound-stays, mark-is, new-room, new-stops}
+use Rattle.blk_cache.proofs.CreateSteps.{bound-stays, new-room, new-stops}
 use Rattle.blk_cache.proofs.Creates.{created-keeps}
 use Rattle.blk_cache.proofs.cache.Cache.make_object.Goals as goal
-
-above : (n : ℕ) → n ≢ 0 → 1 ≤ n
-above zero other = absurd (other refl)
-above (suc n) other = omega arith
 
 set-long : (bindings new : Bindings) (name : ℕ) (b : Binding) → new ≡ set bindings name (Some b) → length new ≡ 4096 → length bindings ≡ 4096
 set-long bindings new name b is long = sym (length-set bindings name (Some b)) ∙ subst (λ (bs : Bindings). length bs ≡ 4096) is long
@@ -22,18 +18,17 @@ invariant_of-self g c = record {
 
 pub returns-in_err-made-clause-stops : goal.returns-in_err-made-clause-stops
 returns-in_err-made-clause-stops g c =
-    new-stops c.args.self.now (g.F.Folder.told c.args.f.now) (g.F.Folder.told c.make_entry.new.f) c.args.handle c.max-mark.result c.args.key.now (λ other. let some = above c.args.self.now.mark other in omega (arith, some, c.max-mark.ensures)) c.make_entry.ensures.stops
+    new-stops c.args.self.now (g.F.Folder.told c.args.f.now) (g.F.Folder.told c.make_entry.new.f) c.args.handle c.args.key.now c.make_entry.ensures.stops
 
 pub returns-in_err-made-clause-untold : goal.returns-in_err-made-clause-untold
 returns-in_err-made-clause-untold g c any =
     carried c.make_entry.result c.from_residual.result c.in_err-made.field-0.0 (λ _. (g.F.Folder.told c.args.f.now).files ≡ None) c.in_err-made.was c.from_residual.ensures.1
     (c.make_entry.ensures.untold
-    (new-room c.args.self.now (g.F.Folder.told c.args.f.now) (g.F.Folder.told c.make_entry.new.f) c.args.handle c.max-mark.result c.args.key.now (λ other. let some = above c.args.self.now.mark other in omega (arith, some, c.max-mark.ensures)) any))
+    (new-room c.args.self.now (g.F.Folder.told c.args.f.now) (g.F.Folder.told c.make_entry.new.f) c.args.handle c.args.key.now any))
 
 pub returns-clause-made : goal.returns-clause-made
 returns-clause-made g c from there state k room image now =
-    let mark = mark-is c.args.self.now (g.F.Folder.told c.args.f.now) (g.F.Folder.told c.make_entry.new.f) c.args.handle c.max-mark.result c.args.key.now (λ other. let some = above c.args.self.now.mark other in omega (arith, some, c.max-mark.ensures)) state from k in
-    let has = c.in_ok-made.ensures.made from there mark image now state k.layout c.args.handle k.kept room.can in
+    let has = c.in_ok-made.ensures.made from there (sym k.mark) image now state k.layout c.args.handle k.kept room.can in
     let known = c.requires.known in
     let names = k.kept.entries.valid.names in
     let long = set-long c.args.self.now.handles c.bind_new.new.self.handles c.args.handle (binding_for c.args.self.now.handles c.in_ok-made.made.entry c.node_of-node.result true) c.bind_new.ensures.binds c.bind_new.ensures.shared.names in
@@ -43,7 +38,7 @@ returns-clause-made g c from there state k room image now =
 
 pub returns-clause-stops : goal.returns-clause-stops
 returns-clause-stops g c =
-    new-stops c.args.self.now (g.F.Folder.told c.args.f.now) (g.F.Folder.told c.make_entry.new.f) c.args.handle c.max-mark.result c.args.key.now (λ other. let some = above c.args.self.now.mark other in omega (arith, some, c.max-mark.ensures)) c.make_entry.ensures.stops
+    new-stops c.args.self.now (g.F.Folder.told c.args.f.now) (g.F.Folder.told c.make_entry.new.f) c.args.handle c.args.key.now c.make_entry.ensures.stops
 
 pub returns-clause-is_open : goal.returns-clause-is_open
 returns-clause-is_open g c image now = subst (λ (files : BlockFiles). IsOpen files image) (sym c.bind_new.ensures.counts.files) (c.in_ok-made.ensures.is_open image now)

@@ -1,0 +1,62 @@
+// The main item of an object goes out before its parts.
+ghost use Rattle.std.specs.Prelude.{◌≡◌, ◌≤◌, IfSome, IsTrue, None, OnOk, Some};
+ghost use Rattle.std.specs.Option.{ForSome};
+ghost use Rattle.blk_image.specs.Told.{Passes, Rises};
+ghost use Rattle.blk_model.specs.Effects.{doomed};
+ghost use Rattle.blk_format.specs.Address.{blocks_256, kind_of};
+ghost use Rattle.blk_volume.specs.Found.{charge_of};
+ghost use Rattle.blk_io.specs.Faults.{IfDamaged, IfDevice};
+ghost use Rattle.blk_disk.specs.Open.{IsOpen};
+ghost use Rattle.blk_disk.specs.Tables.{is_node_among, stands_among};
+ghost use Rattle.blk_kept.specs.Changes.{SameSession};
+ghost use Rattle.blk_kept.specs.Keeping.{CountsItems};
+ghost use Rattle.blk_object.specs.NextItems.{ForEachMain, IsMainOut};
+ghost use Rattle.blk_object.specs.RemovingObjects.{FindsEither};
+
+use crate::counters::count_less;
+use crate::removing::take_out;
+use blk_addr::Addr;
+use blk_chain::Found;
+use blk_disk::BlockFiles;
+use blk_io::{Fault, Folder};
+
+/// Takes the main item of an object that goes with its parts out, before them: out of the use list and of its chain,
+/// and the index counts one entry less, with its charge, in bytes. Nothing is freed: its places are nobody's then.
+///
+/// Its record stands in its chain behind the record before, or is the first; and it names this node. This takes as many
+/// folder calls as `take_out`, and six for the counters.
+pub fn take_main<F: Folder>(
+    f: &mut F,
+    files: &BlockFiles,
+    found: &Found,
+    node: Addr,
+    charge: u64,
+) -> Result<(), Fault>
+    requires node { IsTrue (is_node_among files.now node) }
+    requires kind { kind_of found.now.entry ≡ blocks_256 }
+    requires stands { IsTrue (stands_among files.now found.now.entry) }
+    requires kind_before { IfSome found.now.before (λ before. kind_of before ≡ blocks_256) }
+    requires stands_before { IfSome found.now.before (λ before. IsTrue (stands_among files.now before)) }
+    requires is_open { ForSome (F.told f.old).files (IsOpen files.now) }
+
+    // Where all items are counted, and this is its charge, it is out in the end, and those that are left are counted.
+    ensures out { OnOk result (ForSome (F.told f.old).files (λ from. ForEachMain node found.now.entry found.now.before from (λ state layout unlinked number object was. CountsItems from state layout → charge ≡ charge_of was → ForSome (F.told f.new).files (IsMainOut state layout unlinked object.key was)))) }
+
+    // At each word what was at rest is found, or what is at rest with the object doomed.
+    ensures stops { ForSome (F.told f.old).files (λ from. ForEachMain node found.now.entry found.now.before from (λ state layout unlinked number object was. Passes (F.told f.old) (F.told f.new) (FindsEither state (doomed number state (Some object))))) }
+
+    // The session is the same then.
+    ensures session { OnOk result (ForSome (F.told f.old).files (λ from. ForEachMain node found.now.entry found.now.before from (λ state layout unlinked number object was. ForSome (F.told f.new).files (SameSession from)))) }
+
+    ensures is_open { ForSome (F.told f.new).files (IsOpen files.now) }
+
+    // A folder that tells its files, with such an item, gives no damage.
+    ensures untold { ForSome (F.told f.old).files (λ from. ForEachMain node found.now.entry found.now.before from (λ state layout unlinked number object was. IfDamaged result (λ _. (F.told f.old).files ≡ None))) }
+
+    ensures silent { (F.told f.old).files ≡ None → (F.told f.new).files ≡ None }
+    ensures later { F.faults f.old ≤ F.faults f.new }
+    ensures device { IfDevice result (Rises (F.faults f.old) (F.faults f.new)) }
+{
+    take_out(f, files, found, node)?;
+    count_less(f, files, charge)
+}
