@@ -1,5 +1,5 @@
 // A part of an object goes with the object.
-ghost use Rattle.std.specs.Prelude.{◌≡◌, ◌≤◌, IfOk, IfSome, IsTrue, None, OnOk, Some};
+ghost use Rattle.std.specs.Prelude.{◌≡◌, ◌≤◌, ◌<◌, ◌^◌, IfOk, IfSome, IsTrue, None, OnOk, Some};
 ghost use Rattle.std.specs.Option.{ForSome};
 ghost use Rattle.blk_image.specs.Told.{Passes, Rises};
 ghost use Rattle.blk_model.specs.Effects.{doomed};
@@ -42,6 +42,7 @@ pub fn remove_part<F: Folder>(
 
     // The charge is that of what lay there with this record.
     ensures charge { IfOk result (λ charge. ForSome (F.told f.old).files (λ from. (was : Loaded) → LoadsWith found.now.entry was from → charge ≡ charge_of was)) }
+    ensures small { IfOk result (λ charge. charge < 2 ^ 34) }
 
     // Where some items are out, or none, and the others are counted, one more is out in the end, and those that are left are counted.
     ensures removed { OnOk result (ForSome (F.told f.old).files (λ from. ForEachNext node found.now.entry found.now.before from (λ state layout keep chains unlinked item. CountsLeft state layout keep from → ForSome (F.told f.new).files (IsOutAndCounted state layout keep chains unlinked item found.now.entry)))) }

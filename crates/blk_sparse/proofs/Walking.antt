@@ -6,6 +6,7 @@ use Rattle.std.specs.Str.{bytes_eq}
 use Rattle.std.proofs.lemmas.Bool.{cases_Bool, or_left, or_parts}
 use Rattle.std.proofs.lemmas.Fn.{FoldsTo-push}
 use Rattle.std.proofs.lemmas.List.Elements.{filter-append, filter_map-append}
+use Rattle.std.proofs.lemmas.List.{length-map}
 use Rattle.std.proofs.lemmas.List.Sums.{sum_by-cons}
 use Rattle.blk_model.specs.Items.{Item, main, part, same_item}
 use Rattle.blk_model.specs.Room.{part_number, parts_among}
@@ -72,8 +73,8 @@ searched-from layout (i ∷ front) items all e =
     (s.first, s.item, e ∙ ap (λ (xs : List Item). xs ++ items) s.is ∙ append_assoc s.first (s.item ∷ []) items, s.place_is)
 
 -- the items behind a node are those that are searched
-pub searched : (layout : Layout) (key : List ℕ) (all : List Item) (node : Option ℕ) (is : IsBehind layout key all node) → AreSearched layout node all is.items
-searched layout key all node is = subst (λ (o : Option ℕ). AreSearched layout o all is.items) (sym is.last) (searched-from layout is.front is.items all is.split)
+pub searched : (layout : Layout) (key : List ℕ) (all : List Item) (at : Option ℕ) (is : IsBehind layout key all at) → AreSearched layout at all is.items
+searched layout key all at is = subst (λ (o : Option ℕ). AreSearched layout o all is.items) (sym is.last) (searched-from layout is.front is.items all is.split)
 
 -- ---- without one
 
@@ -120,9 +121,9 @@ charged-next layout key n numbers was here =
 -- ---- the walk
 
 -- where a walk stands: so many parts went, with these charges, and a closure was called with their numbers; the others are behind a node
-pub record IsWalked (E : Type 0) (call : E → ℕ → E → Type 0) (layout : Layout) (key : List ℕ) (all left : List Item) (node : Option ℕ) (items bytes : ℕ) (old new : E) : Type 0 where
+pub record IsWalked (E : Type 0) (call : E → ℕ → E → Type 0) (layout : Layout) (key : List ℕ) (all left : List Item) (at : Option ℕ) (items bytes : ℕ) (old new : E) : Type 0 where
   pub done : List ℕ
-  pub is : IsBehind layout key left node
+  pub is : IsBehind layout key left at
   pub split : parts_among key all ≡ done ++ parts_among key is.items
   pub called : FoldsTo call old done new
   pub many : items ≡ length done
@@ -139,7 +140,7 @@ walked-begin E call layout key all each = record {
   sum = omega arith;
 }
 
-module _ (E : Type 0) (call : E → ℕ → E → Type 0) (state : State) (layout : Layout) (keep : Item → Bool) (key : List ℕ) (all : List Item) (node : Option ℕ) (items bytes : ℕ) (old new : E) (w : IsWalked E call layout key all (filter keep state.uses) node items bytes old new) where
+module _ (E : Type 0) (call : E → ℕ → E → Type 0) (state : State) (layout : Layout) (keep : Item → Bool) (key : List ℕ) (all : List Item) (at : Option ℕ) (items bytes : ℕ) (old new : E) (w : IsWalked E call layout key all (filter keep state.uses) at items bytes old new) where
   -- once the next part went
   pub walked-next : (n charge : ℕ) (passed behind : List Item) (next : Option ℕ) (was : Loaded) (last : E) → w.is.items ≡ passed ++ part key n ∷ behind → HaveNoPart key passed → next ≡ last_node_of (nodes_of layout (w.is.front ++ passed))
       → layout.at (layout.place (part key n)) ≡ Some was → charge ≡ charge_of was → Distinct (nodes_of layout (filter keep state.uses)) → call new n last
@@ -180,11 +181,7 @@ module _ (E : Type 0) (call : E → ℕ → E → Type 0) (state : State) (layou
       let sum = w.sum in
       record {
         called = subst (λ (ns : List ℕ). FoldsTo call old ns new) (sym same) w.called;
-        many = w.many ∙ ap (λ (ns : List ℕ). length ns) (sym same) ∙ sym (map-long (parts_among key all));
+        many = w.many ∙ ap (λ (ns : List ℕ). length ns) (sym same) ∙ sym (length-map (parts_among key all) (part key));
         sum = omega (arith, zero, sum);
         none = subst (HaveNoPart key) (sym w.is.split) (none-append key w.is.front w.is.items w.is.none none);
       }
-    where
-      map-long : (ns : List ℕ) → length (map (part key) ns) ≡ length ns
-      map-long [] = refl
-      map-long (n ∷ ns) = ap (λ (k : ℕ). k + 1) (map-long ns)

@@ -24,8 +24,7 @@ use blk_disk::BlockFiles;
 use blk_entry::record_damage;
 use blk_io::{Fault, Folder};
 use blk_lru::before;
-use blk_object::{ListedPart, next_part};
-use crate::stub::remove_part;
+use blk_object::{ListedPart, next_part, remove_part};
 use blk_ranges::child_name;
 use blk_record::EntryView;
 

@@ -2,7 +2,6 @@
 #![tactic(auto)]
 
 mod dropping;
-mod stub;
 mod walking_laws;
 
 pub use dropping::{Gone, drop_parts_with};

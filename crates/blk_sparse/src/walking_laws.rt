@@ -1,5 +1,5 @@
 // temporary
-ghost use Rattle.std.specs.Prelude.{◌≡◌};
+ghost use Rattle.std.specs.Prelude.{◌≡◌, Bool, true};
 pub fn x()
-    ensures { 1 ≡ 1 }
+    ensures { ◌≡◌ {A = Bool} true true }
 {}
