@@ -122,7 +122,6 @@ fn drop_next<F: Folder>(
     ensures stands { IfOk result (λ next. IfSome next (λ dropped. IfSome dropped.behind (λ node. IsTrue (is_node_among files.now node)))) }
     ensures session { OnOk result (ForSome (F.told f.old).files (λ image. ForEachBehind key.now (cast_unsigned w64 signature) from image (λ state layout keep unlinked number object is. ForSome (F.told f.new).files (SameSession image)))) }
     ensures stops { ForSome (F.told f.old).files (λ image. ForEachBehind key.now (cast_unsigned w64 signature) from image (λ state layout keep unlinked number object is. Passes (F.told f.old) (F.told f.new) (Finds (rest (doomed number state (Some object)))))) }
-    ensures room { length room.new ≡ length room.old }
     ensures is_open { ForSome (F.told f.new).files (IsOpen files.now) }
     ensures untold { ForSome (F.told f.old).files (λ image. ForEachBehind key.now (cast_unsigned w64 signature) from image (λ state layout keep unlinked number object is. IfDamaged result (λ _. (F.told f.old).files ≡ None))) }
     ensures silent { (F.told f.old).files ≡ None → (F.told f.new).files ≡ None }
@@ -163,7 +162,6 @@ fn drop_part<F: Folder>(
     ensures small { IfOk result (λ charge. charge < 2 ^ 34) }
     ensures session { OnOk result (ForSome (F.told f.old).files (λ from. ForEachPartLeft key.now (cast_unsigned w64 signature) part.now.number part.now.node from (λ state layout keep unlinked number object was. ForSome (F.told f.new).files (SameSession from)))) }
     ensures stops { ForSome (F.told f.old).files (λ from. ForEachPartLeft key.now (cast_unsigned w64 signature) part.now.number part.now.node from (λ state layout keep unlinked number object was. Passes (F.told f.old) (F.told f.new) (Finds (rest (doomed number state (Some object)))))) }
-    ensures room { length room.new ≡ length room.old }
     ensures is_open { ForSome (F.told f.new).files (IsOpen files.now) }
     ensures untold { ForSome (F.told f.old).files (λ from. ForEachPartLeft key.now (cast_unsigned w64 signature) part.now.number part.now.node from (λ state layout keep unlinked number object was. IfDamaged result (λ _. (F.told f.old).files ≡ None))) }
     ensures silent { (F.told f.old).files ≡ None → (F.told f.new).files ≡ None }
