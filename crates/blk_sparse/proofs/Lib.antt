@@ -1,3 +1,4 @@
 pub mod Walking
 pub mod PartsOut
 pub mod PartsNext
+pub mod PartsDropped

@@ -28,7 +28,7 @@ use Rattle.blk_kept.specs.PartlyOut.{chains_but}
 use Rattle.blk_kept.specs.PartlyOutStops.{LeavesOtherKeys}
 use Rattle.blk_sparse.specs.Dropping.{AreLeft, HasSignature, IsPartLeft, IsPartOut}
 
-none-some : {A : Type 0} {x : A} → ◌≡◌ {A = Option A} None (Some x) → ⊥
+pub none-some : {A : Type 0} {x : A} → ◌≡◌ {A = Option A} None (Some x) → ⊥
 none-some e = cc
 
 -- ---- what an Ok value is
