@@ -72,6 +72,10 @@ pub fn drop_parts_with<F: Folder, E: FnMut(u32)>(
     ensures gone { IfOk result (λ gone. ForSome (F.told f.old).files (λ from. ForEachLeft key.now (cast_unsigned w64 signature) from (λ state layout keep unlinked number object. AreGone layout (map (part key.now) (parts_among key.now (filter keep state.uses))) gone))) }
     ensures session { OnOk result (ForSome (F.told f.old).files (λ from. ForEachLeft key.now (cast_unsigned w64 signature) from (λ state layout keep unlinked number object. ForSome (F.told f.new).files (SameSession from)))) }
 
+    // No more parts go than a list has nodes, each charged less than 2^34 bytes.
+    ensures few { IfOk result (λ gone. gone.items ≤ 131072) }
+    ensures light { IfOk result (λ gone. gone.bytes ≤ 2 ^ 51) }
+
     // `each` was called with the numbers of the parts that were left, in the order of the list, once each; or with a front of them.
     ensures each { OnOk result (ForSome (F.told f.old).files (λ from. ForEachLeft key.now (cast_unsigned w64 signature) from (λ state layout keep unlinked number object. FoldsTo (λ p x q. E.step p x tt q) each.old (parts_among key.now (filter keep state.uses)) each.new))) }
     ensures front { ForSome (F.told f.old).files (λ from. ForEachLeft key.now (cast_unsigned w64 signature) from (λ state layout keep unlinked number object. IsCalledAtFront E (λ p x q. E.step p x tt q) (parts_among key.now (filter keep state.uses)) each.old each.new)) }

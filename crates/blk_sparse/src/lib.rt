@@ -2,7 +2,7 @@
 #![tactic(auto)]
 
 mod dropping;
-mod walking_laws;
+mod parents;
 
 pub use dropping::{Gone, drop_parts_with};
-pub use walking_laws::x;
+pub use parents::remove_parent_with;
