@@ -1,15 +1,14 @@
 -- An object goes with its parts, and its main item's places are freed last.
 use Rattle.std.proofs.Common.{◌≡◌, ◌+◌, ℕ, List, [], ◌∷◌, ◌++◌, length, map, inl, refl, ap, sym, ◌∙◌, subst, arith, Bool, true, false, Option, None, Some, ⊎_elim}
-use Rattle.std.specs.Prelude.{◌&&◌, filter, not}
+use Rattle.std.specs.Prelude.{filter, not}
 use Rattle.std.specs.List.{cons_option, filter_map, sum_by}
-use Rattle.std.specs.Str.{bytes_eq}
 use Rattle.std.proofs.lemmas.Bool.{cases_Bool}
 use Rattle.std.proofs.lemmas.List.Sums.{sum_by-cons}
 use Rattle.blk_image.specs.Image.{Image}
 use Rattle.blk_model.specs.Effects.{doomed}
 use Rattle.blk_model.specs.Holding.{rest}
-use Rattle.blk_model.specs.Items.{Item, main, part, same_item}
-use Rattle.blk_model.specs.Room.{items_of_group, part_number, parts_among, whole}
+use Rattle.blk_model.specs.Items.{Item, main, part}
+use Rattle.blk_model.specs.Room.{part_number, parts_among}
 use Rattle.blk_model.specs.State.{Object, State}
 use Rattle.blk_model.proofs.Doomed.{state_doomed}
 use Rattle.blk_model.proofs.Same.{bytes_eq_self}
@@ -18,7 +17,7 @@ use Rattle.blk_volume.specs.Layout.{Layout, nodes_of}
 use Rattle.blk_volume.specs.Loads.{Loaded}
 use Rattle.blk_volume.specs.Removal.{is_of_another}
 use Rattle.blk_volume.specs.Sound.{words_of}
-use Rattle.blk_kept.specs.Changes.{Finds, SameSession}
+use Rattle.blk_kept.specs.Changes.{Finds}
 use Rattle.blk_kept.specs.CountsOfParts.{charges_at}
 use Rattle.blk_kept.specs.GroupLaws.{gone_nodes, layout_less}
 use Rattle.blk_kept.specs.Keeping.{Keeps}

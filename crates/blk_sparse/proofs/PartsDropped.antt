@@ -1,5 +1,5 @@
 -- The parts of a key go in one walk.
-use Rattle.std.proofs.Common.{◌≡◌, ◌+◌, ◌*◌, ◌^◌, ◌≤◌, ℕ, List, [], ◌∷◌, ◌++◌, length, length-append, append_assoc, map, refl, ap, sym, ◌∙◌, subst, arith, Bool, true, false, Option, None, Some}
+use Rattle.std.proofs.Common.{◌≡◌, ◌+◌, ◌≤◌, ℕ, List, [], ◌∷◌, ◌++◌, length, length-append, append_assoc, map, refl, ap, sym, ◌∙◌, subst, arith, Bool, Option, None, Some}
 use Rattle.std.specs.Prelude.{filter}
 use Rattle.std.specs.List.{FoldsTo}
 use Rattle.std.specs.Option.{ForSome}
@@ -12,21 +12,19 @@ use Rattle.blk_model.specs.Holding.{rest}
 use Rattle.blk_model.specs.Items.{Item, part}
 use Rattle.blk_model.specs.Room.{parts_among}
 use Rattle.blk_model.specs.State.{Object, State}
-use Rattle.blk_volume.specs.Layout.{Layout, nodes_of}
-use Rattle.blk_stream.proofs.Joined.{IsTold, told_then}
+use Rattle.blk_volume.specs.Layout.{Layout}
+use Rattle.blk_stream.proofs.Joined.{told_then}
 use Rattle.blk_kept.specs.Changes.{Finds, SameSession}
-use Rattle.blk_kept.specs.CountsOfParts.{IsNextLess}
-use Rattle.blk_kept.specs.PartlyOut.{KeepsPartlyOut, keeps_but}
-use Rattle.blk_kept.proofs.CountsOfParts.{next-less}
+use Rattle.blk_kept.specs.PartlyOut.{keeps_but}
 use Rattle.blk_object.specs.ListedParts.{HaveNoPart}
 use Rattle.blk_object.proofs.PartsLeft.{none-left}
 use Rattle.blk_object.proofs.Sessions.{then-session}
-use Rattle.blk_sparse.specs.Dropping.{AreGone, AreLeft, ForEachLeft, HasSignature, IsBehind, IsCalledAtFront, IsDropOfNext, IsNextOut, IsWholeOut}
+use Rattle.blk_sparse.specs.Dropping.{AreGone, AreLeft, ForEachLeft, HasSignature, IsCalledAtFront, IsDropOfNext, IsNextOut, IsWholeOut}
 use Rattle.blk_sparse.specs.declared.dropping.Dropped.{Dropped}
 use Rattle.blk_sparse.specs.declared.dropping.Gone.{Gone}
 use Rattle.blk_sparse.proofs.PartsOut.{stays-passes}
 use Rattle.blk_sparse.proofs.PartsNext.{same-session}
-use Rattle.blk_sparse.proofs.Walking.{AreAllWalked, IsWalked, charged, walked-begin, walked-end, walked-next, without-one}
+use Rattle.blk_sparse.proofs.Walking.{IsWalked, walked-begin, walked-end, walked-next, without-one}
 
 -- where the loop stands: what was left at first is left but for the parts that went, in the folder as it is now
 pub record IsDropping (E : Type 0) (call : E → ℕ → E → Type 0) (old now : Told) (state : State) (layout : Layout) (keep : Item → Bool) (unlinked key : List ℕ) (number : ℕ) (object : Object) (from : Image) (at : Option ℕ) (turn : ℕ) (gone : Gone) (each last : E) : Type 0 where

@@ -1,7 +1,6 @@
 -- The first part behind a node goes.
 use Rattle.std.proofs.Common.{◌≡◌, ℕ, List, ◌∷◌, ◌++◌, append_assoc, refl, ap, sym, ◌∙◌, subst, Bool, true, false, Option, None, Some}
 use Rattle.std.specs.Prelude.{◌||◌, filter, IfSome}
-use Rattle.std.specs.Option.{ForSome}
 use Rattle.std.proofs.lemmas.Bool.{and_parts}
 use Rattle.blk_image.specs.Image.{Image}
 use Rattle.blk_model.specs.Items.{Item, part}
@@ -17,8 +16,7 @@ use Rattle.blk_kept.specs.Changes.{SameSession}
 use Rattle.blk_object.specs.ListedParts.{ForEachSearch, HaveNoPart, IsFirstPart, IsFoundPart}
 use Rattle.blk_object.specs.declared.listed_parts.ListedPart.{ListedPart}
 use Rattle.blk_object.proofs.WalkedParts.{listed-amid, rests-amid}
-use Rattle.blk_sparse.specs.Dropping.{AreLeft, IsBehind, IsDropOfNext, IsNextOut, IsPartLeft, IsPartOut}
-use Rattle.blk_sparse.specs.declared.dropping.Dropped.{Dropped}
+use Rattle.blk_sparse.specs.Dropping.{AreLeft, IsBehind, IsDropOfNext, IsPartLeft, IsPartOut}
 use Rattle.blk_sparse.proofs.Walking.{searched}
 
 or-true : (b : Bool) → (b || true) ≡ true

@@ -1,9 +1,9 @@
 -- The parts of a key in a use list, as they go one after another.
-use Rattle.std.proofs.Common.{◌≡◌, ◌+◌, ◌≤◌, ℕ, List, [], ◌∷◌, ◌++◌, length, length-append, append_assoc, append-nil, map, refl, ap, sym, ◌∙◌, subst, arith, Bool, true, false, Option, None, Some, ⊎_elim}
-use Rattle.std.specs.Prelude.{◌||◌, ◌&&◌, filter, not, if◌then◌else◌}
+use Rattle.std.proofs.Common.{◌≡◌, ◌+◌, ℕ, List, [], ◌∷◌, ◌++◌, length, length-append, append_assoc, append-nil, map, refl, ap, sym, ◌∙◌, subst, arith, Bool, true, false, Option, None, Some, ⊎_elim}
+use Rattle.std.specs.Prelude.{◌&&◌, filter, not}
 use Rattle.std.specs.List.{FoldsTo, cons_option, filter_map, sum_by}
 use Rattle.std.specs.Str.{bytes_eq}
-use Rattle.std.proofs.lemmas.Bool.{cases_Bool, or_left, or_parts}
+use Rattle.std.proofs.lemmas.Bool.{cases_Bool, or_parts}
 use Rattle.std.proofs.lemmas.Fn.{FoldsTo-push}
 use Rattle.std.proofs.lemmas.List.Elements.{filter-append, filter_map-append}
 use Rattle.std.proofs.lemmas.List.{length-map}

@@ -1,9 +1,8 @@
 -- The parts of an object go after its main item, one after another, in the order of the use list.
-use Rattle.std.specs.Prelude.{◌≡◌, ℕ, List, ◌∷◌, ◌++◌, Bool, Option, None, Some, filter, length, map, true}
+use Rattle.std.specs.Prelude.{◌≡◌, ℕ, List, ◌∷◌, ◌++◌, Bool, Option, None, Some, filter, length, true}
 use Rattle.std.specs.List.{FoldsTo}
 use Rattle.blk_image.specs.Image.{Image}
 use Rattle.blk_model.specs.Items.{Item, main, part}
-use Rattle.blk_model.specs.Room.{parts_among}
 use Rattle.blk_model.specs.State.{Object, State, object_at}
 use Rattle.blk_format.specs.SparseIndex.{ParentIndex}
 use Rattle.blk_volume.specs.Entries.{IsParent}

@@ -2,7 +2,6 @@ use Rattle.std.proofs.Common.{rules, ◌≡◌, ◌∙◌, ap, sym, subst, arith
 use Rattle.std.specs.Int.{cast_unsigned, w64}
 use Rattle.std.proofs.lemmas.Int.{of_z-to_z}
 use Rattle.blk_format.specs.Names.{child_name}
-use Rattle.std.specs.Option.{ForSome}
 use Rattle.std.proofs.lemmas.Result.{on_ok_weaker}
 use Rattle.blk_image.specs.Told.{Told}
 use Rattle.blk_image.proofs.Runs.{passes_stayed, some_inj}
@@ -13,7 +12,7 @@ use Rattle.blk_model.specs.Holding.{rest}
 use Rattle.blk_model.specs.Items.{part}
 use Rattle.blk_kept.specs.Changes.{Finds}
 use Rattle.blk_chain.specs.Finding.{CanBeSearched}
-use Rattle.blk_sparse.proofs.PartsOut.{if_ok_weaker, left-finds, none-found, of-object, others-left, others-stay, part-searched, some-found, stays-back, stays-passes, stays-there}
+use Rattle.blk_sparse.proofs.PartsOut.{if_ok_weaker, left-finds, none-found, of-object, others-left, others-stay, part-searched, some-found, stays-passes, stays-there}
 use Rattle.blk_sparse.proofs.dropping.drop_part.Goals as goal
 
 pub returns-in_err-found-clause-stops : goal.returns-in_err-found-clause-stops

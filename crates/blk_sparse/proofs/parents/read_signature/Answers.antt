@@ -1,4 +1,4 @@
-use Rattle.std.proofs.Common.{◌≡◌, ◌∙◌, sym, arith, None, Some, Err}
+use Rattle.std.proofs.Common.{◌≡◌, ◌∙◌, ℤ, sym, arith, None, Err}
 use Rattle.std.specs.Int.{cast_unsigned, w64}
 use Rattle.std.proofs.lemmas.Int.{of_z-to_z}
 use Rattle.blk_entry.proofs.KeyPlaces.{damaged_any}
@@ -24,7 +24,7 @@ returns-in-Some-clause-signature g c image there loaded index w role =
 
 pub returns-in-None-clause-untold : goal.returns-in-None-clause-untold
 returns-in-None-clause-untold g c agrees lies =
-    damaged_any (Err c.record_damage.result) ((g.F.Folder.told c.args.f.now).files ≡ None)
+    damaged_any {A = ℤ} (Err c.record_damage.result) ((g.F.Folder.told c.args.f.now).files ≡ None)
     (untold_where (g.F.Folder.told c.args.f.now).files (λ image there.
     let l = lies image there in
     none-read image c.args.entry l.loaded l.index l.loads l.role c.args.room.now c.read.new.out c.in_ok-len.len c.requires.room (c.in_ok-len.ensures.piece image there) c.read-2.result c.in-None.is c.read-2.ensures.fields))

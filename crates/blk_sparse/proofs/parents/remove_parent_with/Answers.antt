@@ -1,17 +1,15 @@
-use Rattle.std.proofs.Common.{◌≡◌, ◌∙◌, ◌++◌, inr, refl, ap, sym, subst, arith, ℕ, List, [], None, Some, map}
-use Rattle.std.specs.Prelude.{filter}
+use Rattle.std.proofs.Common.{◌≡◌, ◌∙◌, ◌++◌, inr, ap, sym, subst, arith, ℕ, List, None, Some, map}
 use Rattle.std.specs.List.{FoldsTo}
 use Rattle.std.specs.Int.{cast_unsigned, w64}
+use Rattle.std.proofs.lemmas.Int.{of_z-to_z}
 use Rattle.blk_image.specs.Told.{Told}
 use Rattle.blk_image.proofs.Runs.{passes_stayed, passes_then, passes_weaker, some_inj}
 use Rattle.blk_io.specs.Faults.{IfDamaged}
 use Rattle.blk_io.proofs.Carried.{carried, if_damaged_weaker}
 use Rattle.blk_model.specs.Effects.{doomed}
-use Rattle.blk_model.specs.Holding.{rest}
 use Rattle.blk_model.specs.Items.{part}
 use Rattle.blk_model.specs.Room.{parts_among}
 use Rattle.blk_stream.proofs.Joined.{told_then}
-use Rattle.blk_kept.specs.Changes.{Finds}
 use Rattle.std.proofs.lemmas.Result.{on_ok_weaker}
 use Rattle.blk_object.specs.Freeing.{words_at}
 use Rattle.blk_object.specs.Owning.{LoadsWith}
@@ -19,7 +17,6 @@ use Rattle.blk_object.specs.RemovingObjects.{FindsEither}
 use Rattle.blk_object.proofs.Sessions.{then-session}
 use Rattle.blk_sparse.specs.Dropping.{IsCalledAtFront}
 use Rattle.blk_sparse.specs.Parents.{AreGoneBeside, LoadsAsParent}
-use Rattle.blk_sparse.specs.declared.dropping.Gone.{Gone}
 use Rattle.blk_sparse.proofs.PartsOut.{if_ok_weaker, none-some, stays-passes, stays-there}
 use Rattle.blk_sparse.proofs.ParentsOut.{all-among, as-parent, at-rest, gone-whole, group-told, has-signature, main-loads, not-yet, parts-left}
 use Rattle.blk_sparse.proofs.parents.remove_parent_with.Goals as goal
@@ -92,7 +89,7 @@ returns-clause-removed g c =
     let words = c.in_ok-owned.ensures.words from there m.lies.was (main-loads state layout unlinked number object c.args.key.now c.args.node c.args.found.now.entry c.args.found.now.before from m) in
     let mid = told_then (g.F.Folder.told c.read_signature.new.f) (g.F.Folder.told c.take_main.new.f) from (FindsEither state (doomed number state (Some object))) at (c.in_ok-take_main.ensures.stops from at state layout unlinked number object m.kept.entries m.here m.live m.lies) in
     let left = parts-left state layout unlinked number object c.args.key.now c.args.node c.args.found.now.entry c.args.found.now.before from m (words_at c.in_ok-owned.owned.places) mid.image (ap (λ (ws : List ℕ). ws ++ unlinked) words) (c.in_ok-take_main.ensures.out from at state layout unlinked number object m.kept.entries m.here m.live m.lies m.kept.counters charge mid.image mid.is) in
-    let sig = has-signature state layout unlinked number object c.args.key.now c.args.node c.args.found.now.entry c.args.found.now.before from m _ (c.in_ok-signature.ensures.signature from main-at1 m.lies.was m.index (main-loads state layout unlinked number object c.args.key.now c.args.node c.args.found.now.entry c.args.found.now.before from m) m.role) in
+    let sig = has-signature state layout unlinked number object c.args.key.now c.args.node c.args.found.now.entry c.args.found.now.before from m _ (c.in_ok-signature.ensures.signature from main-at1 m.lies.was m.index (main-loads state layout unlinked number object c.args.key.now c.args.node c.args.found.now.entry c.args.found.now.before from m) m.role ∙ sym (of_z-to_z w64 (cast_unsigned w64 c.in_ok-signature.signature) (let small = c.in_ok-signature.ensures.small in omega (arith, small)))) in
     gone-whole state layout unlinked number object c.args.key.now c.args.node c.args.found.now.entry c.args.found.now.before from m image (ends mid.image mid.is state layout _ _ unlinked number object left sig image is))
     c.drop_and_free.ensures.out
 
@@ -107,7 +104,7 @@ returns-clause-session g c =
     let words = c.in_ok-owned.ensures.words from there m.lies.was (main-loads state layout unlinked number object c.args.key.now c.args.node c.args.found.now.entry c.args.found.now.before from m) in
     let mid = told_then (g.F.Folder.told c.read_signature.new.f) (g.F.Folder.told c.take_main.new.f) from (FindsEither state (doomed number state (Some object))) at (c.in_ok-take_main.ensures.stops from at state layout unlinked number object m.kept.entries m.here m.live m.lies) in
     let left = parts-left state layout unlinked number object c.args.key.now c.args.node c.args.found.now.entry c.args.found.now.before from m (words_at c.in_ok-owned.owned.places) mid.image (ap (λ (ws : List ℕ). ws ++ unlinked) words) (c.in_ok-take_main.ensures.out from at state layout unlinked number object m.kept.entries m.here m.live m.lies m.kept.counters charge mid.image mid.is) in
-    let sig = has-signature state layout unlinked number object c.args.key.now c.args.node c.args.found.now.entry c.args.found.now.before from m _ (c.in_ok-signature.ensures.signature from main-at1 m.lies.was m.index (main-loads state layout unlinked number object c.args.key.now c.args.node c.args.found.now.entry c.args.found.now.before from m) m.role) in
+    let sig = has-signature state layout unlinked number object c.args.key.now c.args.node c.args.found.now.entry c.args.found.now.before from m _ (c.in_ok-signature.ensures.signature from main-at1 m.lies.was m.index (main-loads state layout unlinked number object c.args.key.now c.args.node c.args.found.now.entry c.args.found.now.before from m) m.role ∙ sym (of_z-to_z w64 (cast_unsigned w64 c.in_ok-signature.signature) (let small = c.in_ok-signature.ensures.small in omega (arith, small)))) in
     then-session from mid.image image (c.in_ok-take_main.ensures.session from at state layout unlinked number object m.kept.entries m.here m.live m.lies mid.image mid.is) (ends mid.image mid.is state layout _ _ unlinked number object left sig image is))
     c.drop_and_free.ensures.session
 
@@ -122,7 +119,7 @@ returns-clause-each g c =
     let words = c.in_ok-owned.ensures.words from there m.lies.was (main-loads state layout unlinked number object c.args.key.now c.args.node c.args.found.now.entry c.args.found.now.before from m) in
     let mid = told_then (g.F.Folder.told c.read_signature.new.f) (g.F.Folder.told c.take_main.new.f) from (FindsEither state (doomed number state (Some object))) at (c.in_ok-take_main.ensures.stops from at state layout unlinked number object m.kept.entries m.here m.live m.lies) in
     let left = parts-left state layout unlinked number object c.args.key.now c.args.node c.args.found.now.entry c.args.found.now.before from m (words_at c.in_ok-owned.owned.places) mid.image (ap (λ (ws : List ℕ). ws ++ unlinked) words) (c.in_ok-take_main.ensures.out from at state layout unlinked number object m.kept.entries m.here m.live m.lies m.kept.counters charge mid.image mid.is) in
-    let sig = has-signature state layout unlinked number object c.args.key.now c.args.node c.args.found.now.entry c.args.found.now.before from m _ (c.in_ok-signature.ensures.signature from main-at1 m.lies.was m.index (main-loads state layout unlinked number object c.args.key.now c.args.node c.args.found.now.entry c.args.found.now.before from m) m.role) in
+    let sig = has-signature state layout unlinked number object c.args.key.now c.args.node c.args.found.now.entry c.args.found.now.before from m _ (c.in_ok-signature.ensures.signature from main-at1 m.lies.was m.index (main-loads state layout unlinked number object c.args.key.now c.args.node c.args.found.now.entry c.args.found.now.before from m) m.role ∙ sym (of_z-to_z w64 (cast_unsigned w64 c.in_ok-signature.signature) (let small = c.in_ok-signature.ensures.small in omega (arith, small)))) in
     subst (λ (ns : List ℕ). FoldsTo (λ p x q. goal.E-step g p x tt q) c.args.each.now ns c.drop_and_free.new.each) (all-among c.args.key.now object.key state.uses) (ends mid.image mid.is state layout _ _ unlinked number object left sig))
     c.drop_and_free.ensures.each
 
@@ -137,7 +134,7 @@ returns-clause-gone g c =
     let words = c.in_ok-owned.ensures.words from there m.lies.was (main-loads state layout unlinked number object c.args.key.now c.args.node c.args.found.now.entry c.args.found.now.before from m) in
     let mid = told_then (g.F.Folder.told c.read_signature.new.f) (g.F.Folder.told c.take_main.new.f) from (FindsEither state (doomed number state (Some object))) at (c.in_ok-take_main.ensures.stops from at state layout unlinked number object m.kept.entries m.here m.live m.lies) in
     let left = parts-left state layout unlinked number object c.args.key.now c.args.node c.args.found.now.entry c.args.found.now.before from m (words_at c.in_ok-owned.owned.places) mid.image (ap (λ (ws : List ℕ). ws ++ unlinked) words) (c.in_ok-take_main.ensures.out from at state layout unlinked number object m.kept.entries m.here m.live m.lies m.kept.counters charge mid.image mid.is) in
-    let sig = has-signature state layout unlinked number object c.args.key.now c.args.node c.args.found.now.entry c.args.found.now.before from m _ (c.in_ok-signature.ensures.signature from main-at1 m.lies.was m.index (main-loads state layout unlinked number object c.args.key.now c.args.node c.args.found.now.entry c.args.found.now.before from m) m.role) in
+    let sig = has-signature state layout unlinked number object c.args.key.now c.args.node c.args.found.now.entry c.args.found.now.before from m _ (c.in_ok-signature.ensures.signature from main-at1 m.lies.was m.index (main-loads state layout unlinked number object c.args.key.now c.args.node c.args.found.now.entry c.args.found.now.before from m) m.role ∙ sym (of_z-to_z w64 (cast_unsigned w64 c.in_ok-signature.signature) (let small = c.in_ok-signature.ensures.small in omega (arith, small)))) in
     group-told state layout unlinked number object c.args.key.now c.args.node c.args.found.now.entry c.args.found.now.before from m c.in_ok-owned.owned.charge gone charge (subst (λ (ns : List ℕ). AreGoneBeside layout (map (part c.args.key.now) ns) c.in_ok-owned.owned.charge gone) (all-among c.args.key.now object.key state.uses) (ends mid.image mid.is state layout _ _ unlinked number object left sig)))
     c.drop_and_free.ensures.gone
 
@@ -150,7 +147,7 @@ returns-clause-front g c from there state layout unlinked number object m =
     let words = c.in_ok-owned.ensures.words from there m.lies.was (main-loads state layout unlinked number object c.args.key.now c.args.node c.args.found.now.entry c.args.found.now.before from m) in
     let mid = told_then (g.F.Folder.told c.read_signature.new.f) (g.F.Folder.told c.take_main.new.f) from (FindsEither state (doomed number state (Some object))) at (c.in_ok-take_main.ensures.stops from at state layout unlinked number object m.kept.entries m.here m.live m.lies) in
     let left = parts-left state layout unlinked number object c.args.key.now c.args.node c.args.found.now.entry c.args.found.now.before from m (words_at c.in_ok-owned.owned.places) mid.image (ap (λ (ws : List ℕ). ws ++ unlinked) words) (c.in_ok-take_main.ensures.out from at state layout unlinked number object m.kept.entries m.here m.live m.lies m.kept.counters charge mid.image mid.is) in
-    let sig = has-signature state layout unlinked number object c.args.key.now c.args.node c.args.found.now.entry c.args.found.now.before from m _ (c.in_ok-signature.ensures.signature from main-at1 m.lies.was m.index (main-loads state layout unlinked number object c.args.key.now c.args.node c.args.found.now.entry c.args.found.now.before from m) m.role) in
+    let sig = has-signature state layout unlinked number object c.args.key.now c.args.node c.args.found.now.entry c.args.found.now.before from m _ (c.in_ok-signature.ensures.signature from main-at1 m.lies.was m.index (main-loads state layout unlinked number object c.args.key.now c.args.node c.args.found.now.entry c.args.found.now.before from m) m.role ∙ sym (of_z-to_z w64 (cast_unsigned w64 c.in_ok-signature.signature) (let small = c.in_ok-signature.ensures.small in omega (arith, small)))) in
     subst (λ (ns : List ℕ). IsCalledAtFront _ (λ p x q. goal.E-step g p x tt q) ns c.args.each.now c.drop_and_free.new.each) (all-among c.args.key.now object.key state.uses) (c.drop_and_free.ensures.front mid.image mid.is state layout _ _ unlinked number object left sig)
 
 pub returns-clause-stops : goal.returns-clause-stops
@@ -162,7 +159,7 @@ returns-clause-stops g c from there state layout unlinked number object m =
     let words = c.in_ok-owned.ensures.words from there m.lies.was (main-loads state layout unlinked number object c.args.key.now c.args.node c.args.found.now.entry c.args.found.now.before from m) in
     let mid = told_then (g.F.Folder.told c.read_signature.new.f) (g.F.Folder.told c.take_main.new.f) from (FindsEither state (doomed number state (Some object))) at (c.in_ok-take_main.ensures.stops from at state layout unlinked number object m.kept.entries m.here m.live m.lies) in
     let left = parts-left state layout unlinked number object c.args.key.now c.args.node c.args.found.now.entry c.args.found.now.before from m (words_at c.in_ok-owned.owned.places) mid.image (ap (λ (ws : List ℕ). ws ++ unlinked) words) (c.in_ok-take_main.ensures.out from at state layout unlinked number object m.kept.entries m.here m.live m.lies m.kept.counters charge mid.image mid.is) in
-    let sig = has-signature state layout unlinked number object c.args.key.now c.args.node c.args.found.now.entry c.args.found.now.before from m _ (c.in_ok-signature.ensures.signature from main-at1 m.lies.was m.index (main-loads state layout unlinked number object c.args.key.now c.args.node c.args.found.now.entry c.args.found.now.before from m) m.role) in
+    let sig = has-signature state layout unlinked number object c.args.key.now c.args.node c.args.found.now.entry c.args.found.now.before from m _ (c.in_ok-signature.ensures.signature from main-at1 m.lies.was m.index (main-loads state layout unlinked number object c.args.key.now c.args.node c.args.found.now.entry c.args.found.now.before from m) m.role ∙ sym (of_z-to_z w64 (cast_unsigned w64 c.in_ok-signature.signature) (let small = c.in_ok-signature.ensures.small in omega (arith, small)))) in
     passes_stayed stays (passes_then (c.in_ok-take_main.ensures.stops from at state layout unlinked number object m.kept.entries m.here m.live m.lies) (passes_weaker (c.drop_and_free.ensures.stops mid.image mid.is state layout _ _ unlinked number object left sig) (λ image found. inr found) (λ image found. inr found)))
 
 pub returns-clause-untold : goal.returns-clause-untold
@@ -174,5 +171,5 @@ returns-clause-untold g c from there state layout unlinked number object m =
     let words = c.in_ok-owned.ensures.words from there m.lies.was (main-loads state layout unlinked number object c.args.key.now c.args.node c.args.found.now.entry c.args.found.now.before from m) in
     let mid = told_then (g.F.Folder.told c.read_signature.new.f) (g.F.Folder.told c.take_main.new.f) from (FindsEither state (doomed number state (Some object))) at (c.in_ok-take_main.ensures.stops from at state layout unlinked number object m.kept.entries m.here m.live m.lies) in
     let left = parts-left state layout unlinked number object c.args.key.now c.args.node c.args.found.now.entry c.args.found.now.before from m (words_at c.in_ok-owned.owned.places) mid.image (ap (λ (ws : List ℕ). ws ++ unlinked) words) (c.in_ok-take_main.ensures.out from at state layout unlinked number object m.kept.entries m.here m.live m.lies m.kept.counters charge mid.image mid.is) in
-    let sig = has-signature state layout unlinked number object c.args.key.now c.args.node c.args.found.now.entry c.args.found.now.before from m _ (c.in_ok-signature.ensures.signature from main-at1 m.lies.was m.index (main-loads state layout unlinked number object c.args.key.now c.args.node c.args.found.now.entry c.args.found.now.before from m) m.role) in
+    let sig = has-signature state layout unlinked number object c.args.key.now c.args.node c.args.found.now.entry c.args.found.now.before from m _ (c.in_ok-signature.ensures.signature from main-at1 m.lies.was m.index (main-loads state layout unlinked number object c.args.key.now c.args.node c.args.found.now.entry c.args.found.now.before from m) m.role ∙ sym (of_z-to_z w64 (cast_unsigned w64 c.in_ok-signature.signature) (let small = c.in_ok-signature.ensures.small in omega (arith, small)))) in
     if_damaged_weaker c.drop_and_free.result _ _ (λ damage none. absurd (none-some (sym none ∙ mid.is))) (c.drop_and_free.ensures.untold mid.image mid.is state layout _ _ unlinked number object left sig)
