@@ -1,5 +1,5 @@
 -- One item more is taken out, while others of its object may be out already: what holds as its record goes, and in the end, where the seals of what is left stand.
-use Rattle.std.proofs.Common.{◌≡◌, ℕ, List, ◌∷◌, ◌++◌, refl, ap, sym, ◌∙◌, subst, arith, Bool, true, false, Option, Some, None, Ok, ⊎_elim, append_assoc}
+use Rattle.std.proofs.Common.{◌≡◌, ℕ, List, ◌∷◌, ◌++◌, refl, ap, sym, ◌∙◌, subst, arith, Bool, true, false, Option, Some, None, Ok, inl, inr, ⊎_elim, append_assoc}
 use Rattle.std.specs.Prelude.{◌&&◌, ◌||◌, ◌==◌, filter, if◌then◌else◌, not}
 use Rattle.std.specs.Option.{option_map_or}
 use Rattle.std.specs.List.{AllByRecursion, cons_option, filter_map, flat_map}
@@ -40,7 +40,7 @@ use Rattle.blk_laws.proofs.commands.Removing.{in-filter}
 use Rattle.blk_laws.proofs.lists.ListCompletions.{listed}
 use Rattle.blk_laws.proofs.lists.WordTurns.{removals-can}
 use Rattle.blk_laws.proofs.states.Laid.{IsNodeOf, node-of}
-use Rattle.blk_laws.proofs.states.OthersHold.{chained-only, more-left_out, others-outside, others-unlinked}
+use Rattle.blk_laws.proofs.states.OthersHold.{chained-only, more-left_out, others-outside, others-unlinked, records-outside, records-unlinked}
 use Rattle.blk_laws.proofs.states.Tidying.{counter-same, record-bytes, touch_range, touch_sizes, touch_spares}
 use Rattle.blk_laws.proofs.updates.StillShown.{core-standing, standing-parts}
 use Rattle.blk_laws.proofs.walks.Loads.{load-then}
@@ -174,6 +174,18 @@ module _ (state : State) (layout : Layout) (keep : Item → Bool) (chains : ℕ 
   holds-now = others-unlinked (is_among more) (store_of between) (store_of image) state chained_layout between-holds unlinking.word unlinking.only only-record (chains_but chains was.contents)
       (record { whole = unlinking.whole; chained = λ n l ordered is kept. let p = smaller n kept in in-filtered was.contents (chains (bucket_of_hash (hash l.key))) l.contents (other-record n l is p.1) (k.holds.chained n l ordered is p.0) })
 
+  -- and each node that was left loads as it did, that of the item too
+  pub still-loads : (n : ℕ) (l : Loaded) → layout.at n ≡ Some l → is_among gone n ≡ false → load (store_of image) (rule_of layout n) n ≡ Ok l
+  still-loads n l is kept =
+      let loads : load (store_of between) (rule_of layout n) n ≡ Ok l = records-outside (λ claim. false) (store_of from) (store_of between) (layout.state n) n l (loads-left n l is kept) unlisted.partly.shown.store.store (λ claim has. refl) in
+      records-unlinked (store_of between) (store_of image) (layout.state n) n unlinking.word l loads (k.lies.single n l is) unlinking.only (⊎_elim
+      (λ (e : (l.contents == unlinking.word) ≡ true). inl (eqb-true l.contents unlinking.word e))
+      (λ (e : (l.contents == unlinking.word) ≡ false). inr (λ c has. ⊎_elim
+      (λ (h : has_claim (claims_of unlinking.word) c ≡ true). let p : l.contents ≡ unlinking.word = only-record c n l h (k.lies.own n l c is has) is in absurd (let z : true ≡ false = sym (eq-eqb l.contents unlinking.word p) ∙ e in cc))
+      (λ (h : has_claim (claims_of unlinking.word) c ≡ false). h)
+      (cases_Bool (has_claim (claims_of unlinking.word) c))))
+      (cases_Bool (l.contents == unlinking.word)))
+
   -- so what is at rest with its object doomed is found
   pub out-finds : (number : ℕ) (object : Object) → object_at state number ≡ Some object → LeavesOtherKeys object.key less → Finds (rest (doomed number state (Some object))) image
   out-finds number object at others = out-doomed state (record layout { chains = chains_but chains was.contents }) number object less image k.valid at (record {
@@ -240,15 +252,14 @@ module _ (state : State) (layout : Layout) (keep : Item → Bool) (chains : ℕ 
         let kept = here-stays in
         let z : ◌≡◌ {A = Option ℕ} (Some node) None = rw (mine, kept) at none in cc)
 
-    -- seals
-    sealed : (n : ℕ) (l : Loaded) → layout.at n ≡ Some l → is_among more n ≡ false → AreSealed image l
-    sealed n l is kept =
-        let p = smaller n kept in
-        seals n l is p.0 (load-then (store_of from) (rule_of layout n) n l (loads-left n l is p.0) (λ nf e f.
+    -- seals, that of the item's node and its record's too
+    pub still-sealed : (n : ℕ) (l : Loaded) → layout.at n ≡ Some l → is_among gone n ≡ false → AreSealed image l
+    still-sealed n l is kept =
+        seals n l is kept (load-then (store_of from) (rule_of layout n) n l (loads-left n l is kept) (λ nf e f.
         let stands : stands_as from blocks_256 l.contents ≡ true = subst (λ (c : ℕ). stands_as from blocks_256 c ≡ true) (sym f.facts.contents_is) (core-standing from nf.contents e f.entry) in
-        let s = k.sealed n l is p.0 in
+        let s = k.sealed n l is kept in
         record {
-          node = unlisted.sealed l.node (standing-parts from rankings l.node (standing-loaded from layout n l (loads-left n l is p.0)).node).1 s.node;
+          node = unlisted.sealed l.node (standing-parts from rankings l.node (standing-loaded from layout n l (loads-left n l is kept)).node).1 s.node;
           entry = ap (λ (g : ℕ → ℕ). entry_is_sealed (entry_in g (place l.contents))) (record-bytes from between writes node outside (removals-can from node prefix suffix old-rest).nodes (listed node (list_of from) prefix suffix old-rest.whole).good l.contents stands) ∙ s.entry;
         }))
 
@@ -274,6 +285,6 @@ module _ (state : State) (layout : Layout) (keep : Item → Bool) (chains : ℕ 
       stand = stand-same from image leaves.headers (words_of was ++ unlinked) stood;
       free = free;
       single = single;
-      sealed = sealed;
+      sealed = λ n l is kept. still-sealed n l is (smaller n kept).0;
       session = session-same from image state layout leaves.session k.session;
     }

@@ -21,13 +21,14 @@ use Rattle.blk_volume.specs.Chains.{IsChain, bucket_at}
 use Rattle.blk_volume.specs.Footprint.{AgreeBut, IsClear}
 use Rattle.blk_volume.specs.Layout.{IsListedRecord, Layout, rule_of}
 use Rattle.blk_volume.specs.ListImages.{HasListAtRest}
-use Rattle.blk_volume.specs.Loads.{Loaded, all_claims, load, record_claims}
+use Rattle.blk_volume.specs.Loads.{Loaded, all_claims, load, record_claims, unchained_rule}
 use Rattle.blk_volume.specs.Searches.{bucket_of_key}
 use Rattle.blk_volume.specs.Sound.{AreSealed}
 use Rattle.blk_volume.specs.View.{entry_at, stands_as, store_of}
 use Rattle.blk_laws.proofs.claims.ByteChanges.{node-same}
 use Rattle.blk_laws.proofs.claims.ClaimLists.{claim-append, contents-claims}
 use Rattle.blk_laws.proofs.claims.Outside.{AreClear, all-clear}
+use Rattle.blk_laws.proofs.states.Laid.{is_among-node}
 use Rattle.blk_laws.proofs.states.Marking.{repeats-apart}
 use Rattle.blk_laws.proofs.updates.StillShown.{standing-parts}
 use Rattle.blk_laws.proofs.walks.Loads.{load-then}
@@ -57,9 +58,9 @@ use Rattle.blk_object.specs.Removing.{IsMidRemoving}
 use Rattle.blk_object.proofs.TakenItems.{going-removing}
 use Rattle.blk_kept.proofs.PartlyOutStops.{next-parts-find, own-items-leave, unlinking-items-find}
 use Rattle.blk_object.specs.Removing.{IsYetLinked}
-use Rattle.blk_object.specs.RemovingParts.{GoingLonePartsFindEither, GoingMainsFindEither, GoingPartsFindDoomed, LeftItemsMayGoOut, LiesLeft, TakenOutItemsAreOut, UnlinkedItemsFindDoomed}
+use Rattle.blk_object.specs.RemovingParts.{GoingLonePartsFindEither, GoingMainsFindEither, GoingPartsFindDoomed, LeftItemsMayGoOut, LiesLeft, TakenOutItemsAreOut, TakenOutItemsLoad, UnlinkedItemsFindDoomed}
 use Rattle.blk_object.proofs.ChainsOut.{among-front, can-go, goes-out, leaves-files, yet-in}
-use Rattle.blk_object.proofs.OneMoreTaken.{one-more-out, out-finds}
+use Rattle.blk_object.proofs.OneMoreTaken.{one-more-out, out-finds, still-loads, still-sealed}
 use Rattle.blk_object.proofs.TakenItems.{again-sealed, bucket-is, removal-leaves}
 
 module _ (state : State) (layout : Layout) (keep : Item → Bool) (chains : ℕ → List ℕ) (unlinked : List ℕ) (item : Item) (was : Loaded) (before : Option ℕ) (from : Image) (k : KeepsPartlyOut state layout keep chains unlinked from) (left : LiesLeft state layout keep chains item was before) where
@@ -172,6 +173,20 @@ left-out state layout keep chains unlinked item was before from image k left t =
     (goes-out layout chains t.between all was.contents before left.lies.prefix left.lies.suffix behind image t.unlinked)
     (leaves-files layout chains t.between all was.contents before left.lies.prefix left.lies.suffix behind image t.unlinked)
     (seals state layout keep chains unlinked item was before from k left t.between t.unlisted image before left.lies.stands t.unlinked t.sealed t.bytes)
+
+pub left-loads : TakenOutItemsLoad
+left-loads state layout keep chains unlinked item was before from image k left t =
+    let all = whole state layout keep chains unlinked item was before from k left t.between t.unlisted in
+    let behind = stands state layout keep chains unlinked item was before from k left t.between t.unlisted in
+    let unlinking = goes-out layout chains t.between all was.contents before left.lies.prefix left.lies.suffix behind image t.unlinked in
+    let stays = here-stays state layout keep chains unlinked item was before from k left in
+    let normal = k.lies.normal (layout.place item) (is_among-node layout state.uses item left.lies.listed) in
+    (
+      subst (λ (s : ℕ). load (store_of image) (unchained_rule s) (layout.place item) ≡ Ok was) normal (still-loads state layout keep chains unlinked item was from t.between image k left.lies.listed left.stays left.lies.here t.unlisted unlinking (layout.place item) was left.lies.here stays),
+      still-sealed state layout keep chains unlinked item was from t.between image k left.lies.listed left.stays left.lies.here t.unlisted unlinking
+      (leaves-files layout chains t.between all was.contents before left.lies.prefix left.lies.suffix behind image t.unlinked)
+      (seals state layout keep chains unlinked item was before from k left t.between t.unlisted image before left.lies.stands t.unlinked t.sealed t.bytes) (layout.place item) was left.lies.here stays,
+    )
 
 pub unlinked-find : UnlinkedItemsFindDoomed
 unlinked-find state layout keep chains unlinked item was before number object from image k left at others m = by m.moment where
