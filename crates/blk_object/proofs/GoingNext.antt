@@ -1,5 +1,5 @@
 -- The next item of an object goes: what each call adds.
-use Rattle.std.proofs.Common.{◌≡◌, inl, inr, ℕ, ◌%◌, List, [], ◌++◌, refl, ap, sym, ◌∙◌, subst, Bool, true, Option, None, Some}
+use Rattle.std.proofs.Common.{◌≡◌, inl, inr, ℕ, ◌%◌, List, [], ◌++◌, refl, ap, sym, ◌∙◌, subst, Bool, true, Ok, Option, None, Some}
 use Rattle.std.specs.Prelude.{◌^◌}
 use Rattle.std.specs.Option.{ForSome}
 use Rattle.blk_image.specs.Image.{Image}
@@ -11,8 +11,10 @@ use Rattle.blk_model.specs.Items.{Item, main, part}
 use Rattle.blk_model.specs.State.{Object, State, object_at}
 use Rattle.blk_volume.specs.Found.{charge_of}
 use Rattle.blk_volume.specs.Layout.{Layout}
-use Rattle.blk_volume.specs.Loads.{Loaded}
-use Rattle.blk_volume.specs.Sound.{words_of}
+use Rattle.blk_format.specs.Records.{entry_normal}
+use Rattle.blk_volume.specs.Loads.{Loaded, load, unchained_rule}
+use Rattle.blk_volume.specs.Sound.{AreSealed, words_of}
+use Rattle.blk_volume.specs.View.{store_of}
 use Rattle.blk_kept.specs.Changes.{Finds, SameCounters, SameSession}
 use Rattle.blk_kept.specs.Keeping.{CountsItems, KeepsUncounted}
 use Rattle.blk_kept.specs.PartlyOut.{KeepsPartlyOut, chains_but, keeps_but}
@@ -34,12 +36,12 @@ use Rattle.blk_object.proofs.FreedPlaces as freed
 use Rattle.blk_object.proofs.Sessions.{counted-session, counted-then, freed-session, taken-session, then-session}
 use Rattle.blk_object.proofs.OwnedPlaces.{left-load}
 use Rattle.blk_object.proofs.TakenItems.{counters-left}
-use Rattle.blk_object.proofs.TakenParts.{going-mains, going-parts, left-may, left-out}
+use Rattle.blk_object.proofs.TakenParts.{going-mains, going-parts, left-loads, left-may, left-out}
 
 some-none : {A : Type 0} {x : A} → ◌≡◌ {A = Option A} (Some x) None → ⊥
 some-none e = cc
 
-then-counters : (from mid image : Image) → SameCounters from mid → SameCounters mid image → SameCounters from image
+pub then-counters : (from mid image : Image) → SameCounters from mid → SameCounters mid image → SameCounters from image
 then-counters from mid image a b = record { sizes = b.sizes ∙ a.sizes; num_entries = b.num_entries ∙ a.num_entries; num_bytes = b.num_bytes ∙ a.num_bytes }
 
 module _ (state : State) (layout : Layout) (keep : Item → Bool) (chains : ℕ → List ℕ) (unlinked : List ℕ) (item : Item) (node entry : ℕ) (before : Option ℕ) (from : Image) (k : KeepsPartlyOut state layout keep chains unlinked from) (p : LiesNext state layout keep chains item node entry before) where
@@ -57,6 +59,10 @@ module _ (state : State) (layout : Layout) (keep : Item → Bool) (chains : ℕ 
   module _ (mid : Image) (t : IsTakenOut node entry before from mid) where
     pub out-there : KeepsPartlyOut state layout (keeps_but keep item) (chains_but chains p.was.contents) (words_of p.was ++ unlinked) mid
     out-there = left-out state layout keep chains unlinked item p.was before from mid k p.lies (subst (λ (n : ℕ). IsTakenOut n p.was.contents before from mid) (sym p.node_is) (subst (λ (e : ℕ). IsTakenOut node e before from mid) (sym p.entry_is) t))
+
+    -- it loads yet
+    pub there-loads : (load (store_of mid) (unchained_rule entry_normal) its ≡ Ok p.was) × AreSealed mid p.was
+    there-loads = left-loads state layout keep chains unlinked item p.was before from mid k p.lies (subst (λ (n : ℕ). IsTakenOut n p.was.contents before from mid) (sym p.node_is) (subst (λ (e : ℕ). IsTakenOut node e before from mid) (sym p.entry_is) t))
 
     out-mid : KeepsPartlyOut state layout (keeps_but keep item) (chains_but chains entry) (words_of p.was ++ unlinked) mid
     out-mid = subst (λ (e : ℕ). KeepsPartlyOut state layout (keeps_but keep item) (chains_but chains e) (words_of p.was ++ unlinked) mid) p.entry_is out-there
@@ -223,7 +229,7 @@ module _ (a m b : Told) (state : State) (layout : Layout) (unlinked : List ℕ) 
   main-taking = passes_weaker (next-taking a a m refl state layout (λ item. true) layout.chains unlinked (main object.key) node entry before from there begins next stops)
       (λ image going. main-going state layout unlinked number object node entry before from image k at live p going) (λ image going. main-going state layout unlinked number object node entry before from image k at live p going)
 
-  main-on : IsTold m (IsGoingOut node entry before from)
+  pub main-on : IsTold m (IsGoingOut node entry before from)
   main-on = next-on a a m refl state layout (λ item. true) layout.chains unlinked (main object.key) node entry before from there begins next stops
 
   -- so it isn't silent in between
@@ -231,12 +237,16 @@ module _ (a m b : Told) (state : State) (layout : Layout) (unlinked : List ℕ) 
   main-told none = absurd (some-none (sym main-on.is ∙ none))
 
   module _ (taken : ForSome a.files (λ i. MayGoOut node entry before i → ForSome m.files (IsTakenOut node entry before i))) where
-    main-taken : IsTakenOut node entry before from main-on.image
+    pub main-taken : IsTakenOut node entry before from main-on.image
     main-taken = taken from there main-may-go main-on.image main-on.is
 
-    main-out : KeepsPartlyOut state layout (keeps_but (λ item. true) (main object.key)) (chains_but layout.chains p.was.contents) (words_of p.was ++ unlinked) main-on.image
+    pub main-out : KeepsPartlyOut state layout (keeps_but (λ item. true) (main object.key)) (chains_but layout.chains p.was.contents) (words_of p.was ++ unlinked) main-on.image
     unfolding next main-next behind-next
     main-out = out-there state layout (λ item. true) layout.chains unlinked (main object.key) node entry before from begins next main-on.image main-taken
+
+    pub main-loads : (load (store_of main-on.image) (unchained_rule entry_normal) (layout.place (main object.key)) ≡ Ok p.was) × AreSealed main-on.image p.was
+    unfolding next main-next behind-next
+    main-loads = there-loads state layout (λ item. true) layout.chains unlinked (main object.key) node entry before from begins next main-on.image main-taken
 
     pub main-stops : ForSome m.files (λ i. Passes m b (KeepsOut i)) → Passes a b (FindsEither state (doomed number state (Some object)))
     main-stops keeps = passes_then main-taking (passes_weaker (keeps main-on.image main-on.is) finds finds) where

@@ -26,3 +26,4 @@ pub mod PartNames
 pub mod WalkedParts
 pub mod PartsLeft
 pub mod PartsFound
+pub mod HeldDooms

@@ -13,7 +13,7 @@ use Rattle.blk_model.specs.Items.{Item, part}
 use Rattle.blk_model.specs.State.{Object, State}
 use Rattle.blk_format.specs.Address.{blocks_256, kind_of, rankings}
 use Rattle.blk_format.specs.BlockFiles.{is_among}
-use Rattle.blk_format.specs.Claims.{Claim, claims_of, has_claim}
+use Rattle.blk_format.specs.Claims.{Claim, claims_of, has_claim, repeats}
 use Rattle.blk_format.specs.Hash.{hash}
 use Rattle.blk_format.specs.Records.{Node, entry_is_sealed, node_is_sealed}
 use Rattle.blk_format.specs.Sealed.{record_range}
@@ -62,6 +62,17 @@ use Rattle.blk_object.specs.RemovingParts.{GoingLonePartsFindEither, GoingMainsF
 use Rattle.blk_object.proofs.ChainsOut.{among-front, can-go, goes-out, leaves-files, yet-in}
 use Rattle.blk_object.proofs.OneMoreTaken.{one-more-out, out-finds, still-loads, still-sealed}
 use Rattle.blk_object.proofs.TakenItems.{again-sealed, bucket-is, removal-leaves}
+
+-- a node is clear of its record
+pub node-clear : (l : Loaded) → repeats (all_claims l) ≡ false → IsClear (has_claim (claims_of l.contents)) l.node
+unfolding all_claims record_claims
+node-clear l once c e = ⊎_elim
+    (λ (h : has_claim (claims_of l.contents) c ≡ true).
+    let a : has_claim (record_claims l) c ≡ false = repeats-apart (claims_of l.node) (record_claims l) c once e in
+    let b : has_claim (record_claims l) c ≡ true = claim-append (claims_of l.contents) (flat_map claims_of l.others) c ∙ or_left (has_claim (claims_of l.contents) c) (has_claim (flat_map claims_of l.others) c) h in
+    absurd (let z : true ≡ false = sym b ∙ a in cc))
+    (λ (h : has_claim (claims_of l.contents) c ≡ false). h)
+    (cases_Bool (has_claim (claims_of l.contents) c))
 
 module _ (state : State) (layout : Layout) (keep : Item → Bool) (chains : ℕ → List ℕ) (unlinked : List ℕ) (item : Item) (was : Loaded) (before : Option ℕ) (from : Image) (k : KeepsPartlyOut state layout keep chains unlinked from) (left : LiesLeft state layout keep chains item was before) where
   abbrev node : ℕ
@@ -112,16 +123,6 @@ module _ (state : State) (layout : Layout) (keep : Item → Bool) (chains : ℕ 
           let a = standing-parts between blocks_256 l.contents (standing other l at kept).record_ in
           (updates-change between image l.contents a.0 (inr a.1) same).agree
 
-      node-clear : IsClear touched l.node
-      unfolding all_claims record_claims
-      node-clear c e = ⊎_elim
-          (λ (h : touched c ≡ true).
-          let a : has_claim (record_claims l) c ≡ false = repeats-apart (claims_of l.node) (record_claims l) c (k.lies.single other l at) e in
-          let b : has_claim (record_claims l) c ≡ true = claim-append (claims_of l.contents) (flat_map claims_of l.others) c ∙ or_left (has_claim (claims_of l.contents) c) (has_claim (flat_map claims_of l.others) c) h in
-          absurd (let z : true ≡ false = sym b ∙ a in cc))
-          (λ (h : touched c ≡ false). h)
-          (cases_Bool (touched c))
-
       apart : (n : ℕ) (m : Loaded) → layout.at n ≡ Some m → (other == n) ≡ false → AreClear touched m
       apart n m is differs = all-clear touched m (λ c has. ⊎_elim
           (λ (h : touched c ≡ true).
@@ -136,7 +137,7 @@ module _ (state : State) (layout : Layout) (keep : Item → Bool) (chains : ℕ 
           (λ (e : (other == n) ≡ true).
           let it : l ≡ m = some_inj (sym at ∙ ap layout.at (eqb-true other n e) ∙ is) in
           subst (λ (x : Loaded). AreSealed image x) it (record {
-            node = ap (λ (x : Node). node_is_sealed x) (node-same touched between image agree l.node (standing other l at kept).node node-clear) ∙ (subst (λ (x : Loaded). AreSealed between x) (sym it) sealed).node;
+            node = ap (λ (x : Node). node_is_sealed x) (node-same touched between image agree l.node (standing other l at kept).node (node-clear l (k.lies.single other l at))) ∙ (subst (λ (x : Loaded). AreSealed between x) (sym it) sealed).node;
             entry = done_again;
           }))
           (λ (e : (other == n) ≡ false). let clear = apart n m is e in sealed-same touched between image agree m (standing n m is stays) clear.node clear.contents sealed)
@@ -180,12 +181,11 @@ left-loads state layout keep chains unlinked item was before from image k left t
     let behind = stands state layout keep chains unlinked item was before from k left t.between t.unlisted in
     let unlinking = goes-out layout chains t.between all was.contents before left.lies.prefix left.lies.suffix behind image t.unlinked in
     let stays = here-stays state layout keep chains unlinked item was before from k left in
-    let normal = k.lies.normal (layout.place item) (is_among-node layout state.uses item left.lies.listed) in
-    (
+    let normal = k.lies.normal (layout.place item) (is_among-node layout state.uses item left.lies.listed) in (
       subst (λ (s : ℕ). load (store_of image) (unchained_rule s) (layout.place item) ≡ Ok was) normal (still-loads state layout keep chains unlinked item was from t.between image k left.lies.listed left.stays left.lies.here t.unlisted unlinking (layout.place item) was left.lies.here stays),
       still-sealed state layout keep chains unlinked item was from t.between image k left.lies.listed left.stays left.lies.here t.unlisted unlinking
-      (leaves-files layout chains t.between all was.contents before left.lies.prefix left.lies.suffix behind image t.unlinked)
-      (seals state layout keep chains unlinked item was before from k left t.between t.unlisted image before left.lies.stands t.unlinked t.sealed t.bytes) (layout.place item) was left.lies.here stays,
+          (leaves-files layout chains t.between all was.contents before left.lies.prefix left.lies.suffix behind image t.unlinked)
+          (seals state layout keep chains unlinked item was before from k left t.between t.unlisted image before left.lies.stands t.unlinked t.sealed t.bytes) (layout.place item) was left.lies.here stays,
     )
 
 pub unlinked-find : UnlinkedItemsFindDoomed

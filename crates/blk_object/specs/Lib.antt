@@ -9,3 +9,4 @@ pub mod ListedParts
 pub mod RemovingObjects
 pub mod RemovingParts
 pub mod RemovingFound
+pub mod Dooming

@@ -3,6 +3,7 @@
 
 mod counters;
 mod counting_laws;
+mod dooming;
 mod freeing;
 mod freeing_laws;
 mod listed_parts;
@@ -18,6 +19,7 @@ mod removing_parts;
 
 pub use counters::count_less;
 pub use counting_laws::{left_items_are_counted, parts_go_until_none_is_left};
+pub use dooming::{doom_plain, doom_record};
 pub use freeing::free_places;
 pub use freeing_laws::freed_words_are_gone;
 pub use listed_parts::{ListedPart, next_part};
