@@ -1,11 +1,11 @@
 -- An object that a handle names is doomed: its record gets state 2 once its items are out, and it is kept as a doomed one then.
-use Rattle.std.proofs.Common.{◌≡◌, ◌≢◌, inl, inr, ⊎_elim, ℕ, ◌%◌, ◌+◌, ◌<◌, ◌≤◌, List, [], ◌∷◌, ◌++◌, All, refl, ap, sym, ◌∙◌, subst, arith, lit≤, Bool, true, false, Ok, Option, None, Some}
-use Rattle.std.specs.Prelude.{◌^◌, ◌||◌, ◌==◌, filter, if◌then◌else◌, not}
+use Rattle.std.proofs.Common.{◌≡◌, ◌≢◌, inr, ⊎_elim, ℕ, ◌%◌, ◌<◌, ◌≤◌, List, [], ◌∷◌, ◌++◌, refl, ap, sym, ◌∙◌, subst, arith, lit≤, Bool, true, false, Ok, Option, None, Some}
+use Rattle.std.specs.Prelude.{◌^◌, ◌||◌, filter, if◌then◌else◌, not}
 use Rattle.std.specs.Option.{ForSome, option_map_or}
 use Rattle.std.proofs.lemmas.Bool.{cases_Bool}
 use Rattle.std.proofs.lemmas.List.Elements.{All-cons, All-nil}
 use Rattle.blk_image.specs.Footprint.{SameOutside}
-use Rattle.blk_image.specs.Image.{AreBytes, Image, Index, length_of}
+use Rattle.blk_image.specs.Image.{AreBytes, Image}
 use Rattle.blk_image.specs.Steps.{after}
 use Rattle.blk_image.specs.Told.{Applies, Passes, TellsBytes, Told}
 use Rattle.blk_image.proofs.Runs.{passes_then, passes_weaker, some_inj, told_whole}
@@ -15,7 +15,7 @@ use Rattle.blk_model.specs.Holding.{rest}
 use Rattle.blk_model.specs.Items.{Item, main, same_item}
 use Rattle.blk_model.specs.State.{Object, State}
 use Rattle.blk_format.specs.Address.{blocks_256, kind_of, rankings}
-use Rattle.blk_format.specs.BlockFiles.{is_among, stands_in}
+use Rattle.blk_format.specs.BlockFiles.{is_among}
 use Rattle.blk_format.specs.Claims.{Claim, claims_of, has_claim}
 use Rattle.blk_format.specs.Headers.{header_length}
 use Rattle.blk_format.specs.Records.{Node, node_is_sealed}
@@ -23,7 +23,7 @@ use Rattle.blk_format.specs.Sealed.{AreChanges, IsMidUpdate, RecordChecks, recor
 use Rattle.blk_disk.specs.declared.tables.BlockFiles.{BlockFiles}
 use Rattle.blk_disk.specs.Open.{IsOpen}
 use Rattle.blk_volume.specs.Found.{charge_of}
-use Rattle.blk_volume.specs.Layout.{Layout, is_in, is_listed, nodes_of, rule_of}
+use Rattle.blk_volume.specs.Layout.{Layout, is_in, is_listed, nodes_of}
 use Rattle.blk_volume.specs.ListImages.{IsWritable}
 use Rattle.blk_volume.specs.Loads.{Loaded, load, unchained_rule}
 use Rattle.blk_volume.specs.Removal.{is_of_another, placed_doomed}
@@ -36,14 +36,13 @@ use Rattle.blk_laws.proofs.states.Laid.{is_among-node}
 use Rattle.blk_laws.proofs.updates.StillShown.{core-standing, standing-parts}
 use Rattle.blk_laws.proofs.updates.Updates.{entry-seal}
 use Rattle.blk_laws.proofs.walks.Loads.{load-then}
-use Rattle.blk_kept.specs.Changes.{ChangesOnly, Finds, KeepsWith, SameCounters, SameSession}
+use Rattle.blk_kept.specs.Changes.{Finds, KeepsWith, SameSession}
 use Rattle.blk_kept.specs.DoomLaws.{CanBeDoomed}
 use Rattle.blk_kept.specs.GroupLaws.{at_without, gone_nodes, owners_without}
-use Rattle.blk_kept.specs.HeldPartlyOut.{IsHeldOut}
 use Rattle.blk_kept.specs.Keeping.{CountsItems, Keeps, KeepsUncounted}
 use Rattle.blk_kept.specs.PartlyOut.{KeepsPartlyOut, chains_but, keeps_but}
 use Rattle.blk_kept.specs.PartlyOutStops.{LeavesOtherKeys}
-use Rattle.blk_kept.specs.WholeRemovals.{is_no_part_of, layout_doomed_whole, part_nodes}
+use Rattle.blk_kept.specs.WholeRemovals.{is_no_part_of, part_nodes}
 use Rattle.blk_kept.proofs.AtNodes.{updates-change, updates-leave}
 use Rattle.blk_kept.proofs.Doomed.{doomed-less, other-items}
 use Rattle.blk_kept.proofs.DoomedNumbers.{its-main}
