@@ -1,6 +1,7 @@
 -- An object that a handle names is doomed: its record gets state 2 once its items are out, and it is kept as a doomed one then.
 use Rattle.std.proofs.Common.{◌≡◌, ◌≢◌, inr, ⊎_elim, ℕ, ◌%◌, ◌<◌, ◌≤◌, List, [], ◌∷◌, ◌++◌, refl, ap, sym, ◌∙◌, subst, arith, lit≤, Bool, true, false, Ok, Option, None, Some}
 use Rattle.std.specs.Prelude.{◌^◌, ◌||◌, filter, if◌then◌else◌, not}
+use Rattle.std.specs.List.{sum_by}
 use Rattle.std.specs.Option.{ForSome, option_map_or}
 use Rattle.std.proofs.lemmas.Bool.{cases_Bool}
 use Rattle.std.proofs.lemmas.List.Elements.{All-cons, All-nil}
@@ -46,6 +47,7 @@ use Rattle.blk_kept.specs.WholeRemovals.{is_no_part_of, part_nodes}
 use Rattle.blk_kept.proofs.AtNodes.{updates-change, updates-leave}
 use Rattle.blk_kept.proofs.Doomed.{doomed-less, other-items}
 use Rattle.blk_kept.proofs.DoomedNumbers.{its-main}
+use Rattle.blk_kept.proofs.DoomedPlaces as places
 use Rattle.blk_kept.proofs.DoomSteps.{IsDoomedRecord, doomed-record, with_doomed}
 use Rattle.blk_kept.proofs.Free.{standing-loaded, then-found}
 use Rattle.blk_kept.proofs.Groups as groups
@@ -60,6 +62,7 @@ use Rattle.blk_object.specs.Dooming.{ForEachOut, IsDoomedOut, IsDoomedUncounted,
 use Rattle.blk_object.specs.Removing.{IsGoingOut, IsTakenOut, MayGoOut}
 use Rattle.blk_object.specs.RemovingFound.{LiesAsFound}
 use Rattle.blk_object.specs.RemovingObjects.{FindsEither}
+use Rattle.blk_object.specs.UnlinkedLoads.{HeldOutObjectsAreCounted}
 use Rattle.blk_object.proofs.CounterWords.{less-counted}
 use Rattle.blk_object.proofs.GoingNext.{main-loads, main-may-go, main-on, main-out, main-taken, main-taking, then-counters}
 use Rattle.blk_object.proofs.RemovedObjects.{still-counts}
@@ -174,6 +177,20 @@ doomed-told files a b entry bytes open_folder steps from there state layout numb
     subst (λ (i : Image). IsDoomedOut state layout number object loaded chains unlinked from (after (sealed_steps from entry doomed_change) i)) (some_inj (sym there ∙ is))
     (subst (λ (w : ℕ). IsDoomedOut state layout number object loaded chains unlinked from (after (sealed_steps from w doomed_change) from)) o.entry_is
     (doomed-there state layout number object loaded chains unlinked entry from o (open-writable files from (bytes from there) (open_folder from there)))))
+
+-- ---- an object whose parts are out
+
+pub held-out-counted : HeldOutObjectsAreCounted
+unfolding doomed
+held-out-counted state layout number object loaded chains unlinked image h c = record {
+  entries = held-out-objects-doomed state layout number object loaded chains unlinked image h;
+  counters = record {
+    sizes = c.sizes;
+    num_entries = c.num_entries;
+    num_bytes = c.num_bytes ∙ ap (λ (ls : List Loaded). sum_by charge_of ls % 2 ^ 32) (sym (groups.same-at layout (part_nodes state layout object.key) (nodes_of layout (filter (is_of_another object.key) state.uses))
+        (places.others-stay state layout number object loaded chains h.keeps.numbers h.keeps.valid h.keeps.lies h.keeps.owners h.placed h.named)));
+  };
+}
 
 -- ---- an object without parts
 

@@ -31,7 +31,7 @@ use Rattle.blk_volume.specs.ListView.{IsAtRest, ListView, ListWrite}
 use Rattle.blk_volume.specs.Loads.{Loaded, all_claims, load}
 use Rattle.blk_volume.specs.Sound.{AreSealed, words_of}
 use Rattle.blk_volume.specs.Tidy.{doomed_nodes, loaded_at}
-use Rattle.blk_volume.specs.View.{list_of, stands_as, store_of}
+use Rattle.blk_volume.specs.View.{list_of, store_of}
 use Rattle.blk_laws.proofs.claims.Allocations.{words-claims, words-stand, join}
 use Rattle.blk_laws.proofs.claims.ByteChanges.{stands-some}
 use Rattle.blk_laws.proofs.claims.ClaimLists.{claim-append, contents-claims, repeats-append, some-claim}
@@ -42,8 +42,7 @@ use Rattle.blk_laws.proofs.lists.WordTurns.{removals-can}
 use Rattle.blk_laws.proofs.states.Laid.{IsNodeOf, node-of}
 use Rattle.blk_laws.proofs.states.OthersHold.{chained-only, more-left_out, others-outside, others-unlinked, records-outside, records-unlinked}
 use Rattle.blk_laws.proofs.states.Tidying.{counter-same, record-bytes, touch_range, touch_sizes, touch_spares}
-use Rattle.blk_laws.proofs.updates.StillShown.{core-standing, standing-parts}
-use Rattle.blk_laws.proofs.walks.Loads.{load-then}
+use Rattle.blk_laws.proofs.updates.StillShown.{standing-parts}
 use Rattle.blk_kept.specs.Arranging.{LeavesFiles}
 use Rattle.blk_kept.specs.GroupLaws.{gone_nodes, owners_without}
 use Rattle.blk_kept.specs.Keeping.{words_in_use}
@@ -57,7 +56,7 @@ use Rattle.blk_model.specs.Effects.{doomed}
 use Rattle.blk_model.specs.Holding.{rest}
 use Rattle.blk_model.specs.State.{Object, object_at}
 use Rattle.blk_kept.proofs.NextOut as next
-use Rattle.blk_kept.proofs.Free.{session-same, standing-loaded}
+use Rattle.blk_kept.proofs.Free.{AreStanding, session-same, standing-loaded}
 use Rattle.blk_kept.proofs.Groups as groups
 use Rattle.blk_kept.proofs.Headers.{files-same, stand-same}
 use Rattle.blk_kept.proofs.Leaving.{leaves-files, leaves-then}
@@ -198,15 +197,23 @@ module _ (state : State) (layout : Layout) (keep : Item → Bool) (chains : ℕ 
     list = new-rest;
   })
 
+  -- what the removal from the list touches
+  abbrev writes : List ListWrite
+  writes = writes_of remove node (list_of from)
+
+  outside : SameOutside (touch_range writes node) from between
+  outside = outside_wider (touched_by_writes writes) (touch_range writes node) from between (within_left (touched_by_writes writes) (record_range node)) unlisted.partly.outside
+
+  -- it leaves seals
+  pub between-sealed : (l : Loaded) → AreStanding from l → AreSealed from l → AreSealed between l
+  between-sealed l stands s = record {
+    node = unlisted.sealed l.node (standing-parts from rankings l.node stands.node).1 s.node;
+    entry = ap (λ (g : ℕ → ℕ). entry_is_sealed (entry_in g (place l.contents))) (record-bytes from between writes node outside (removals-can from node prefix suffix old-rest).nodes (listed node (list_of from) prefix suffix old-rest.whole).good l.contents stands.record_) ∙ s.entry;
+  }
+
   -- in the end
   module _ (leaves_files : LeavesFiles between image) (seals : (n : ℕ) (l : Loaded) → layout.at n ≡ Some l → is_among gone n ≡ false → AreSealed between l → AreSealed image l) where
     -- files
-    abbrev writes : List ListWrite
-    writes = writes_of remove node (list_of from)
-
-    outside : SameOutside (touch_range writes node) from between
-    outside = outside_wider (touched_by_writes writes) (touch_range writes node) from between (within_left (touched_by_writes writes) (record_range node)) unlisted.partly.outside
-
     pub leaves : LeavesFiles from image
     leaves = leaves-then from between image (leaves-files (touch_range writes node) from between (touch_spares writes node) (touch_sizes writes node) outside
         (record { crash = counter-same writes node from between outside 32 (omega arith); id = counter-same writes node from between outside 20 (omega arith) }) unlisted.partly.well_formed) leaves_files
@@ -255,13 +262,7 @@ module _ (state : State) (layout : Layout) (keep : Item → Bool) (chains : ℕ 
     -- seals, that of the item's node and its record's too
     pub still-sealed : (n : ℕ) (l : Loaded) → layout.at n ≡ Some l → is_among gone n ≡ false → AreSealed image l
     still-sealed n l is kept =
-        seals n l is kept (load-then (store_of from) (rule_of layout n) n l (loads-left n l is kept) (λ nf e f.
-        let stands : stands_as from blocks_256 l.contents ≡ true = subst (λ (c : ℕ). stands_as from blocks_256 c ≡ true) (sym f.facts.contents_is) (core-standing from nf.contents e f.entry) in
-        let s = k.sealed n l is kept in
-        record {
-          node = unlisted.sealed l.node (standing-parts from rankings l.node (standing-loaded from layout n l (loads-left n l is kept)).node).1 s.node;
-          entry = ap (λ (g : ℕ → ℕ). entry_is_sealed (entry_in g (place l.contents))) (record-bytes from between writes node outside (removals-can from node prefix suffix old-rest).nodes (listed node (list_of from) prefix suffix old-rest.whole).good l.contents stands) ∙ s.entry;
-        }))
+        seals n l is kept (between-sealed l (standing-loaded from layout n l (loads-left n l is kept)) (k.sealed n l is kept))
 
     pub one-more-out : KeepsPartlyOut state layout less (chains_but chains was.contents) (words_of was ++ unlinked) image
     one-more-out = record {

@@ -13,7 +13,7 @@ use Rattle.blk_model.specs.Items.{Item, part}
 use Rattle.blk_model.specs.State.{Object, State}
 use Rattle.blk_format.specs.Address.{blocks_256, kind_of, rankings}
 use Rattle.blk_format.specs.BlockFiles.{is_among}
-use Rattle.blk_format.specs.Claims.{Claim, claims_of, has_claim, repeats}
+use Rattle.blk_format.specs.Claims.{Claim, claims_of, claims_of_all, has_claim, repeats}
 use Rattle.blk_format.specs.Hash.{hash}
 use Rattle.blk_format.specs.Records.{Node, entry_is_sealed, node_is_sealed}
 use Rattle.blk_format.specs.Sealed.{record_range}
@@ -30,6 +30,7 @@ use Rattle.blk_laws.proofs.claims.ClaimLists.{claim-append, contents-claims}
 use Rattle.blk_laws.proofs.claims.Outside.{AreClear, all-clear}
 use Rattle.blk_laws.proofs.states.Laid.{is_among-node}
 use Rattle.blk_laws.proofs.states.Marking.{repeats-apart}
+use Rattle.blk_laws.proofs.states.OthersHold.{records-outside, records-unlinked}
 use Rattle.blk_laws.proofs.updates.StillShown.{standing-parts}
 use Rattle.blk_laws.proofs.walks.Loads.{load-then}
 use Rattle.blk_chain.specs.Unlinking.{IsSealedAgain, IsUnlinked, StandsBehind}
@@ -60,7 +61,9 @@ use Rattle.blk_kept.proofs.PartlyOutStops.{next-parts-find, own-items-leave, unl
 use Rattle.blk_object.specs.Removing.{IsYetLinked}
 use Rattle.blk_object.specs.RemovingParts.{GoingLonePartsFindEither, GoingMainsFindEither, GoingPartsFindDoomed, LeftItemsMayGoOut, LiesLeft, TakenOutItemsAreOut, TakenOutItemsLoad, UnlinkedItemsFindDoomed}
 use Rattle.blk_object.proofs.ChainsOut.{among-front, can-go, goes-out, leaves-files, yet-in}
-use Rattle.blk_object.proofs.OneMoreTaken.{one-more-out, out-finds, still-loads, still-sealed}
+use Rattle.blk_object.proofs.OneMoreTaken.{between-sealed, one-more-out, out-finds, still-loads, still-sealed}
+use Rattle.blk_object.proofs.UnlinkedLoads.{unlinked-stands}
+use Rattle.blk_object.specs.UnlinkedLoads.{TakenOutItemsKeepUnlinked}
 use Rattle.blk_object.proofs.TakenItems.{again-sealed, bucket-is, removal-leaves}
 
 -- a node is clear of its record
@@ -156,6 +159,30 @@ module _ (state : State) (layout : Layout) (keep : Item → Bool) (chains : ℕ 
         seals-stand image q.node q.loaded q.here kept (subst (λ (x : ℕ). SameOutside (record_range x) between image) (sym q.record_is) u.keeps.outside)
         (subst (λ (x : ℕ). entry_is_sealed (entry_at image x) ≡ true) (sym q.record_is) (again-sealed between image was.contents v e here bytes again)) n m is stays sealed)
 
+    -- what lies in unlinked places is apart from each record of a chain
+    unlinked-apart : (bucket v : ℕ) → bucket < 65536 → is_among (chains bucket) v ≡ true → (c : Claim) → has_claim (claims_of_all unlinked) c ≡ true → has_claim (claims_of v) c ≡ false
+    unlinked-apart bucket v small among c has =
+        let q : IsListedRecord state layout v = k.lies.unchained bucket v small (k.chained bucket v small among) in
+        ⊎_elim
+        (λ (h : has_claim (claims_of v) c ≡ true).
+        let its : layout.owner c ≡ Some q.node = k.lies.own q.node q.loaded c q.here (contents-claims q.loaded c (ap (λ (w : ℕ). has_claim (claims_of w) c) q.record_is ∙ h)) in
+        let z : ◌≡◌ {A = Option ℕ} None (Some q.node) = sym (k.free c has) ∙ groups.still-owned state layout keep k.numbers k.lies k.owners c q.node its (is-left bucket v small among q) in
+        absurd (cc))
+        (λ (h : has_claim (claims_of v) c ≡ false). h)
+        (cases_Bool (has_claim (claims_of v) c))
+
+    -- so its seals stand
+    unlinked-sealed : (image : Image) (o : Option ℕ) → StandsBehind (chains its_bucket) was.contents o left.lies.prefix left.lies.suffix → IsUnlinked between was.contents o image
+        → (s n : ℕ) (l : Loaded) → load (store_of between) (unchained_rule s) n ≡ Ok l → ((c : Claim) → has_claim (all_claims l) c ≡ true → has_claim (claims_of_all unlinked) c ≡ true) → AreSealed between l → AreSealed image l
+    unlinked-sealed image None there u s n l loads_so among_so sealed = table-sealed between image (bucket_at between was.contents) l u.keeps.outside sealed
+    unlinked-sealed image (Some v) there u s n l loads_so among_so sealed =
+        let small : its_bucket < 65536 = mod_below (hash was.key) 65536 (lit< tt) in
+        let among : is_among (chains its_bucket) v ≡ true = ap (λ (words : List ℕ). is_among words v) there ∙ among-front left.lies.prefix v (was.contents ∷ left.lies.suffix) in
+        let q : IsListedRecord state layout v = k.lies.unchained its_bucket v small (k.chained its_bucket v small among) in
+        let stands = standing-parts between blocks_256 v (subst (λ (w : ℕ). stands_as between blocks_256 w ≡ true) q.record_is (standing q.node q.loaded q.here (is-left its_bucket v small among q)).record_) in
+        let clear : AreClear (has_claim (claims_of v)) l = all-clear (has_claim (claims_of v)) l (λ c has. unlinked-apart its_bucket v small among c (among_so c has)) in
+        sealed-same (has_claim (claims_of v)) between image (updates-change between image v stands.0 (inr stands.1) u.keeps.outside).agree l (unlinked-stands between s n l loads_so) clear.node clear.contents sealed
+
 pub left-may : LeftItemsMayGoOut
 left-may state layout keep chains unlinked item was before from k left = record {
   listed = record {
@@ -187,6 +214,21 @@ left-loads state layout keep chains unlinked item was before from image k left t
           (leaves-files layout chains t.between all was.contents before left.lies.prefix left.lies.suffix behind image t.unlinked)
           (seals state layout keep chains unlinked item was before from k left t.between t.unlisted image before left.lies.stands t.unlinked t.sealed t.bytes) (layout.place item) was left.lies.here stays,
     )
+
+pub left-keeps : TakenOutItemsKeepUnlinked
+left-keeps state layout keep chains unlinked item was before from image k left t s n l u =
+    let all = whole state layout keep chains unlinked item was before from k left t.between t.unlisted in
+    let behind = stands state layout keep chains unlinked item was before from k left t.between t.unlisted in
+    let unlinking = goes-out layout chains t.between all was.contents before left.lies.prefix left.lies.suffix behind image t.unlinked in
+    let there : load (store_of t.between) (unchained_rule s) n ≡ Ok l = records-outside (λ claim. false) (store_of from) (store_of t.between) s n l u.loads t.unlisted.partly.shown.store.store (λ claim has. refl) in
+    let sealed = between-sealed state layout keep chains unlinked item was from t.between image k left.lies.listed left.stays left.lies.here t.unlisted unlinking l (unlinked-stands from s n l u.loads) u.sealed in
+    record {
+      loads = records-unlinked (store_of t.between) (store_of image) s n unlinking.word l there u.once unlinking.only
+          (inr (λ c has. unlinked-apart state layout keep chains unlinked item was before from k left t.between t.unlisted unlinking.bucket unlinking.word unlinking.small unlinking.chained c (u.among c has)));
+      sealed = unlinked-sealed state layout keep chains unlinked item was before from k left t.between t.unlisted image before left.lies.stands t.unlinked s n l there u.among sealed;
+      among = u.among;
+      once = u.once;
+    }
 
 pub unlinked-find : UnlinkedItemsFindDoomed
 unlinked-find state layout keep chains unlinked item was before number object from image k left at others m = by m.moment where

@@ -4,6 +4,7 @@
 mod counters;
 mod counting_laws;
 mod dooming;
+mod dooming_laws;
 mod freeing;
 mod freeing_laws;
 mod listed_parts;
@@ -20,6 +21,7 @@ mod removing_parts;
 pub use counters::count_less;
 pub use counting_laws::{left_items_are_counted, parts_go_until_none_is_left};
 pub use dooming::{doom_plain, doom_record};
+pub use dooming_laws::held_objects_are_doomed;
 pub use freeing::free_places;
 pub use freeing_laws::freed_words_are_gone;
 pub use listed_parts::{ListedPart, next_part};
