@@ -14,6 +14,7 @@ ghost use Rattle.blk_kept.specs.Changes.{Finds, SameSession};
 ghost use Rattle.blk_object.specs.NextItems.{ForEachNext, ForEachPart, IsOutAndCounted};
 ghost use Rattle.blk_object.specs.RemovingNext.{CountsLeft};
 ghost use Rattle.blk_object.specs.Owning.{LoadsWith};
+ghost use Rattle.blk_object.specs.UnlinkedLoads.{KeepsUnlinked};
 
 use crate::counters::count_less;
 use crate::removing_objects::take_away;
@@ -49,6 +50,9 @@ pub fn remove_part<F: Folder>(
 
     // The session is the same then.
     ensures session { OnOk result (ForSome (F.told f.old).files (λ from. ForEachNext node found.now.entry found.now.before from (λ state layout keep chains unlinked item. ForSome (F.told f.new).files (SameSession from)))) }
+
+    // What lay in unlinked places, as its main item, loads yet by itself.
+    ensures keeps { OnOk result (ForSome (F.told f.old).files (λ from. ForEachNext node found.now.entry found.now.before from (λ state layout keep chains unlinked item. ForSome (F.told f.new).files (KeepsUnlinked unlinked from)))) }
 
     // While a part goes after its main item, what is at rest with its object doomed is found.
     ensures part { ForSome (F.told f.old).files (λ from. ForEachPart node found.now.entry found.now.before from (λ state number object. Passes (F.told f.old) (F.told f.new) (Finds (rest (doomed number state (Some object)))))) }
