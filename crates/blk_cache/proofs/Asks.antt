@@ -7,14 +7,13 @@ use Rattle.std.proofs.lemmas.List.{get_or_past}
 use Rattle.blk_image.specs.Image.{AreBytes, Image}
 use Rattle.blk_image.specs.Told.{TellsBytes, Told}
 use Rattle.blk_image.proofs.Runs.{some_inj}
-use Rattle.blk_model.specs.Effects.{new_object, object_of, stream_in, stream_of}
+use Rattle.blk_model.specs.Effects.{new_object, object_of}
 use Rattle.blk_model.specs.Items.{is_sparse}
-use Rattle.blk_model.specs.Refusals.{first_refusal, is_kept_from_streams, names_none, names_one, no_name, no_stream}
+use Rattle.blk_model.specs.Refusals.{first_refusal, is_kept_from_streams, names_none, no_name, no_stream}
 use Rattle.blk_model.specs.State.{Object, State, named_by, object_at}
 use Rattle.blk_model.specs.declared.Refusal.{Refusal}
 use Rattle.blk_model.specs.declared.Refusal.TheVariants as refusal
 use Rattle.blk_format.specs.Sealed.{RecordChecks}
-use Rattle.blk_volume.specs.View.{entry_at}
 use Rattle.blk_disk.specs.declared.tables.BlockFiles.{BlockFiles}
 use Rattle.blk_disk.specs.Tables.{is_node_among, is_record_among}
 use Rattle.blk_handles.specs.declared.open_object.OpenObject.{OpenObject}

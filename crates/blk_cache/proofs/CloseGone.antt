@@ -6,7 +6,6 @@ use Rattle.std.proofs.lemmas.Bool.{cases_Bool}
 use Rattle.blk_image.specs.Image.{Image, Index, byte}
 use Rattle.blk_image.specs.Told.{Passes, TellsBytes, Told}
 use Rattle.blk_image.proofs.Runs.{passes_weaker, some_inj}
-use Rattle.blk_io.specs.declared.fault.Damage.{Damage}
 use Rattle.blk_io.specs.declared.fault.Fault.{Fault}
 use Rattle.blk_io.specs.declared.fault.Fault.TheVariants.{Damaged, Device}
 use Rattle.blk_io.specs.Faults.{IfDamaged}
@@ -30,7 +29,7 @@ use Rattle.blk_kept.specs.Keeping.{Keeps}
 use Rattle.blk_kept.proofs.CommandEnding.{closes-doomed}
 use Rattle.blk_kept.proofs.OneCalls.{closes-of-doomed-unlink}
 use Rattle.blk_kept.proofs.Stopping.{stop-after}
-use Rattle.blk_object.specs.Freeing.{AreFreeable, AreGoing, Removes}
+use Rattle.blk_object.specs.Freeing.{AreGoing, Removes}
 use Rattle.blk_object.specs.Owning.{LoadsWith}
 use Rattle.blk_object.proofs.FreedPlaces.{all-counted, all-gone, freeable, going-finds}
 use Rattle.blk_object.proofs.OwnedPlaces.{kept-load}

@@ -1,5 +1,5 @@
 -- A Read of a cache that keeps a state, from the moments of its touch.
-use Rattle.std.proofs.Common.{◌≡◌, ⊎_elim, ℕ, ◌-◌, Bool, true, false, List, [], ◌∷◌, ◌++◌, length, drop, Option, Some, None, Result, refl, sym, ap, subst, ◌∙◌, arith}
+use Rattle.std.proofs.Common.{◌≡◌, ⊎_elim, ℕ, ◌-◌, Bool, true, false, List, [], length, drop, Option, Some, None, Result, refl, sym, ap, subst, ◌∙◌}
 use Rattle.std.specs.Prelude.{OnOk, if◌then◌else◌, min, not, sum_by}
 use Rattle.std.specs.Option.{ForSome}
 use Rattle.std.proofs.lemmas.Bool.{cases_Bool}
@@ -19,20 +19,17 @@ use Rattle.blk_model.specs.State.{Object, State, named_by}
 use Rattle.blk_model.specs.Step.{reply, step}
 use Rattle.blk_model.specs.declared.Answer.TheVariants as answer
 use Rattle.blk_model.specs.declared.Refusal.{Refusal}
-use Rattle.blk_format.specs.BlockFiles.{is_among}
 use Rattle.blk_format.specs.Headers.{this_id_of}
-use Rattle.blk_volume.specs.Layout.{Layout, is_listed, order}
-use Rattle.blk_volume.specs.ListImages.{HasListAtRest, steps_of_touch, walked}
+use Rattle.blk_volume.specs.Layout.{Layout, is_listed}
+use Rattle.blk_volume.specs.ListImages.{steps_of_touch}
 use Rattle.blk_volume.specs.ListPlans.{touch_writes}
 use Rattle.blk_volume.specs.ListSteps.{IsTouched}
 use Rattle.blk_volume.specs.View.{list_of}
 use Rattle.blk_laws.proofs.states.Settling.{main-listed}
-use Rattle.blk_disk.specs.declared.tables.BlockFiles.{BlockFiles}
 use Rattle.blk_disk.specs.Open.{IsOpen}
 use Rattle.blk_disk.specs.Tables.{Agrees}
 use Rattle.blk_handles.specs.Bindings.{Binding, binding_of}
 use Rattle.blk_lru.specs.Lists.{IsListed}
-use Rattle.blk_lru.specs.Moments.{IsMidTouch}
 use Rattle.blk_kept.specs.Commands.{Does, MayStop, MayStopAtEach}
 use Rattle.blk_kept.specs.CommandStates.{in_order}
 use Rattle.blk_kept.specs.Keeping.{Keeps}

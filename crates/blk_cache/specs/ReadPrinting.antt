@@ -8,7 +8,7 @@ use Rattle.blk_io.specs.Streams.{Appends}
 use Rattle.blk_model.specs.Bytes.{bytes_from}
 use Rattle.blk_model.specs.Effects.{stream_of}
 use Rattle.blk_model.specs.Reply.{gave}
-use Rattle.blk_model.specs.State.{Object, State}
+use Rattle.blk_model.specs.State.{Object}
 use Rattle.blk_volume.specs.Entries.{stream}
 use Rattle.blk_disk.specs.declared.tables.BlockFiles.{BlockFiles}
 use Rattle.blk_script.specs.Reply.{reply_text}

@@ -1,4 +1,4 @@
-use Rattle.std.proofs.Common.{◌≡◌, ℕ, List, None, Err, ◌<◌, subst, arith}
+use Rattle.std.proofs.Common.{◌≡◌, ℕ, List, None, Err, subst}
 use Rattle.hex.specs.Hex.{encode_lower}
 use Rattle.blk_io.proofs.Carried.{carried, untold_where}
 use Rattle.blk_chain.proofs.Heads.{names-parts}

@@ -1,4 +1,4 @@
-use Rattle.std.proofs.Common.{◌≡◌, ◌<◌, false, None, Option, Some, true, refl, sym, ◌∙◌, ap, subst, arith}
+use Rattle.std.proofs.Common.{◌≡◌, None, Option, Some, sym, ◌∙◌, ap, subst}
 use Rattle.std.specs.Option.{ForSome}
 use Rattle.std.specs.Prelude.{slice_index}
 use Rattle.blk_format.specs.Sealed.{RecordChecks}

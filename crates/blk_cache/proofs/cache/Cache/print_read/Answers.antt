@@ -1,10 +1,8 @@
 use Rattle.std.proofs.Common.{◌≡◌, ℕ, List, None, Option, Some, refl, sym, ◌∙◌, ap, subst}
-use Rattle.std.specs.Option.{ForSome}
 use Rattle.std.proofs.lemmas.Result.{on_ok_weaker}
 use Rattle.blk_image.specs.Told.{Told}
 use Rattle.blk_io.proofs.Carried.{if_damaged_weaker}
 use Rattle.blk_model.specs.Reply.{gave}
-use Rattle.blk_model.specs.declared.Refusal.{Refusal}
 use Rattle.blk_script.specs.Reply.{reply_text}
 use Rattle.blk_cache.specs.Asking.{IsAsked, IsNamedStream, StandsAmong}
 use Rattle.blk_cache.specs.ReadPrinting.{PrintsInPart}
