@@ -35,3 +35,4 @@ pub mod RoomMade
 pub mod GroupsOut
 pub mod EvictedGroups
 pub mod PartsPrinted
+pub mod WholeGroups
