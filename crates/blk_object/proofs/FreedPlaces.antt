@@ -45,7 +45,7 @@ place-gone w from image r = by r.removed where
   by (inl blocks) = freed-gone w from image blocks
   by (inr file) = deleted-gone w from image file
 
-place-out : (state : State) (layout : Layout) (keep : Item → Bool) (chains : ℕ → List ℕ) (w : ℕ) (unlinked : List ℕ) (from image : Image) → RemovesPlace w from image → KeepsPartlyOut state layout keep chains (w ∷ unlinked) from → KeepsPartlyOut state layout keep chains unlinked image
+pub place-out : (state : State) (layout : Layout) (keep : Item → Bool) (chains : ℕ → List ℕ) (w : ℕ) (unlinked : List ℕ) (from image : Image) → RemovesPlace w from image → KeepsPartlyOut state layout keep chains (w ∷ unlinked) from → KeepsPartlyOut state layout keep chains unlinked image
 place-out state layout keep chains w unlinked from image r k = by r.removed where
   by : RemovesAllocation from w image ⊎ RemovesExternal from w image → KeepsPartlyOut state layout keep chains unlinked image
   by (inl blocks) = blocks-freed state layout keep chains w unlinked from image k blocks

@@ -1,5 +1,5 @@
 -- The next item of an object goes: what each call adds.
-use Rattle.std.proofs.Common.{◌≡◌, inl, inr, ℕ, ◌%◌, List, [], ◌++◌, refl, ap, sym, ◌∙◌, subst, Bool, true, Option, None, Some}
+use Rattle.std.proofs.Common.{◌≡◌, inl, inr, ℕ, ◌%◌, List, [], ◌++◌, refl, ap, sym, ◌∙◌, subst, Bool, true, Ok, Option, None, Some}
 use Rattle.std.specs.Prelude.{◌^◌}
 use Rattle.std.specs.Option.{ForSome}
 use Rattle.blk_image.specs.Image.{Image}
@@ -11,8 +11,17 @@ use Rattle.blk_model.specs.Items.{Item, main, part}
 use Rattle.blk_model.specs.State.{Object, State, object_at}
 use Rattle.blk_volume.specs.Found.{charge_of}
 use Rattle.blk_volume.specs.Layout.{Layout}
-use Rattle.blk_volume.specs.Loads.{Loaded}
-use Rattle.blk_volume.specs.Sound.{words_of}
+use Rattle.std.proofs.lemmas.Bool.{or_left}
+use Rattle.std.proofs.lemmas.Grind.{flat_map-append}
+use Rattle.blk_format.specs.Claims.{Claim, claims_of, claims_of_all, has_claim}
+use Rattle.blk_format.specs.Records.{entry_normal}
+use Rattle.blk_laws.proofs.claims.Allocations.{words-claims}
+use Rattle.blk_laws.proofs.claims.ClaimLists.{claim-append}
+use Rattle.blk_object.specs.UnlinkedLoads.{KeepsUnlinked, LiesUnlinked}
+use Rattle.blk_object.proofs.UnlinkedLoads.{counted-keeps, freed-keeps}
+use Rattle.blk_volume.specs.Loads.{Loaded, all_claims, load, unchained_rule}
+use Rattle.blk_volume.specs.Sound.{AreSealed, words_of}
+use Rattle.blk_volume.specs.View.{store_of}
 use Rattle.blk_kept.specs.Changes.{Finds, SameCounters, SameSession}
 use Rattle.blk_kept.specs.Keeping.{CountsItems, KeepsUncounted}
 use Rattle.blk_kept.specs.PartlyOut.{KeepsPartlyOut, chains_but, keeps_but}
@@ -34,12 +43,12 @@ use Rattle.blk_object.proofs.FreedPlaces as freed
 use Rattle.blk_object.proofs.Sessions.{counted-session, counted-then, freed-session, taken-session, then-session}
 use Rattle.blk_object.proofs.OwnedPlaces.{left-load}
 use Rattle.blk_object.proofs.TakenItems.{counters-left}
-use Rattle.blk_object.proofs.TakenParts.{going-mains, going-parts, left-may, left-out}
+use Rattle.blk_object.proofs.TakenParts.{going-mains, going-parts, left-keeps, left-loads, left-may, left-out}
 
 some-none : {A : Type 0} {x : A} → ◌≡◌ {A = Option A} (Some x) None → ⊥
 some-none e = cc
 
-then-counters : (from mid image : Image) → SameCounters from mid → SameCounters mid image → SameCounters from image
+pub then-counters : (from mid image : Image) → SameCounters from mid → SameCounters mid image → SameCounters from image
 then-counters from mid image a b = record { sizes = b.sizes ∙ a.sizes; num_entries = b.num_entries ∙ a.num_entries; num_bytes = b.num_bytes ∙ a.num_bytes }
 
 module _ (state : State) (layout : Layout) (keep : Item → Bool) (chains : ℕ → List ℕ) (unlinked : List ℕ) (item : Item) (node entry : ℕ) (before : Option ℕ) (from : Image) (k : KeepsPartlyOut state layout keep chains unlinked from) (p : LiesNext state layout keep chains item node entry before) where
@@ -57,6 +66,24 @@ module _ (state : State) (layout : Layout) (keep : Item → Bool) (chains : ℕ 
   module _ (mid : Image) (t : IsTakenOut node entry before from mid) where
     pub out-there : KeepsPartlyOut state layout (keeps_but keep item) (chains_but chains p.was.contents) (words_of p.was ++ unlinked) mid
     out-there = left-out state layout keep chains unlinked item p.was before from mid k p.lies (subst (λ (n : ℕ). IsTakenOut n p.was.contents before from mid) (sym p.node_is) (subst (λ (e : ℕ). IsTakenOut node e before from mid) (sym p.entry_is) t))
+
+    -- it loads yet
+    pub there-loads : (load (store_of mid) (unchained_rule entry_normal) its ≡ Ok p.was) × AreSealed mid p.was
+    there-loads = left-loads state layout keep chains unlinked item p.was before from mid k p.lies (subst (λ (n : ℕ). IsTakenOut n p.was.contents before from mid) (sym p.node_is) (subst (λ (e : ℕ). IsTakenOut node e before from mid) (sym p.entry_is) t))
+
+    -- and what lies in unlinked places does still
+    mid-keeps : KeepsUnlinked unlinked from mid
+    mid-keeps = left-keeps state layout keep chains unlinked item p.was before from mid k p.lies (subst (λ (n : ℕ). IsTakenOut n p.was.contents before from mid) (sym p.node_is) (subst (λ (e : ℕ). IsTakenOut node e before from mid) (sym p.entry_is) t))
+
+    -- it lies in unlinked places then
+    pub there-lies : LiesUnlinked (words_of p.was ++ unlinked) entry_normal its p.was mid
+    there-lies = record {
+      loads = there-loads.0;
+      sealed = there-loads.1;
+      among = λ c has. ap (λ (cs : List Claim). has_claim cs c) (flat_map-append claims_of (words_of p.was) unlinked ∙ ap (λ (cs : List Claim). cs ++ claims_of_all unlinked) (words-claims p.was))
+          ∙ claim-append (all_claims p.was) (claims_of_all unlinked) c ∙ or_left (has_claim (all_claims p.was) c) (has_claim (claims_of_all unlinked) c) has;
+      once = k.lies.single its p.was p.lies.lies.here;
+    }
 
     out-mid : KeepsPartlyOut state layout (keeps_but keep item) (chains_but chains entry) (words_of p.was ++ unlinked) mid
     out-mid = subst (λ (e : ℕ). KeepsPartlyOut state layout (keeps_but keep item) (chains_but chains e) (words_of p.was ++ unlinked) mid) p.entry_is out-there
@@ -79,6 +106,7 @@ module _ (state : State) (layout : Layout) (keep : Item → Bool) (chains : ℕ 
         out = freed.all-out state layout (keeps_but keep item) (chains_but chains entry) words unlinked mid image r kept-mid;
         counters = then-counters from mid image (counters-left node entry before from mid t) (freed.all-counted words mid image r);
         session = then-session from mid image (taken-session node entry before from mid t) (freed-session words mid image r);
+        loads = λ s n l u. freed-keeps state layout (keeps_but keep item) (chains_but chains entry) words unlinked mid image r kept-mid s n l (mid-keeps s n l u);
         was = p.was;
         here = p.lies.lies.here;
         charge_is = is;
@@ -187,6 +215,9 @@ module _ (a m b : Told) (state : State) (layout : Layout) (keep : Item → Bool)
   pub next-session : ForSome m.files (λ at. ForSome b.files (AreCountedLess (charge % 2 ^ 32) at)) → ForSome b.files (SameSession from)
   next-session less = counted-then a m b from (IsGoingNext state layout keep chains unlinked item node entry before from) (charge % 2 ^ 32) there first (λ image is. (out image is).session) less
 
+  pub next-keeps : ForSome m.files (λ at. ForSome b.files (AreCountedLess (charge % 2 ^ 32) at)) → ForSome b.files (KeepsUnlinked unlinked from)
+  next-keeps less image is = λ s n l u. counted-keeps (charge % 2 ^ 32) unlinked gone-on.image image (less gone-on.image gone-on.is image is) s n l ((out gone-on.image gone-on.is).loads s n l u)
+
   -- so it isn't silent in between
   pub next-told : m.files ≡ None → a.files ≡ None
   next-told none = absurd (some-none (sym gone-on.is ∙ none))
@@ -223,7 +254,7 @@ module _ (a m b : Told) (state : State) (layout : Layout) (unlinked : List ℕ) 
   main-taking = passes_weaker (next-taking a a m refl state layout (λ item. true) layout.chains unlinked (main object.key) node entry before from there begins next stops)
       (λ image going. main-going state layout unlinked number object node entry before from image k at live p going) (λ image going. main-going state layout unlinked number object node entry before from image k at live p going)
 
-  main-on : IsTold m (IsGoingOut node entry before from)
+  pub main-on : IsTold m (IsGoingOut node entry before from)
   main-on = next-on a a m refl state layout (λ item. true) layout.chains unlinked (main object.key) node entry before from there begins next stops
 
   -- so it isn't silent in between
@@ -231,12 +262,20 @@ module _ (a m b : Told) (state : State) (layout : Layout) (unlinked : List ℕ) 
   main-told none = absurd (some-none (sym main-on.is ∙ none))
 
   module _ (taken : ForSome a.files (λ i. MayGoOut node entry before i → ForSome m.files (IsTakenOut node entry before i))) where
-    main-taken : IsTakenOut node entry before from main-on.image
+    pub main-taken : IsTakenOut node entry before from main-on.image
     main-taken = taken from there main-may-go main-on.image main-on.is
 
-    main-out : KeepsPartlyOut state layout (keeps_but (λ item. true) (main object.key)) (chains_but layout.chains p.was.contents) (words_of p.was ++ unlinked) main-on.image
+    pub main-out : KeepsPartlyOut state layout (keeps_but (λ item. true) (main object.key)) (chains_but layout.chains p.was.contents) (words_of p.was ++ unlinked) main-on.image
     unfolding next main-next behind-next
     main-out = out-there state layout (λ item. true) layout.chains unlinked (main object.key) node entry before from begins next main-on.image main-taken
+
+    main-lies : LiesUnlinked (words_of p.was ++ unlinked) entry_normal (layout.place (main object.key)) p.was main-on.image
+    unfolding next main-next behind-next
+    main-lies = there-lies state layout (λ item. true) layout.chains unlinked (main object.key) node entry before from begins next main-on.image main-taken
+
+    pub main-loads : (load (store_of main-on.image) (unchained_rule entry_normal) (layout.place (main object.key)) ≡ Ok p.was) × AreSealed main-on.image p.was
+    unfolding next main-next behind-next
+    main-loads = there-loads state layout (λ item. true) layout.chains unlinked (main object.key) node entry before from begins next main-on.image main-taken
 
     pub main-stops : ForSome m.files (λ i. Passes m b (KeepsOut i)) → Passes a b (FindsEither state (doomed number state (Some object)))
     main-stops keeps = passes_then main-taking (passes_weaker (keeps main-on.image main-on.is) finds finds) where
@@ -251,6 +290,7 @@ module _ (a m b : Told) (state : State) (layout : Layout) (unlinked : List ℕ) 
         counted = next-counted state layout (λ item. true) (main object.key) p.was main-on.image image k.valid p.lies.listed refl p.lies.here
             (still-counted state layout (λ item. true) from main-on.image (counters-left node entry before from main-on.image main-taken) (all-counted state layout unlinked from (record { entries = k; counters = counts })))
             (subst (λ (w : ℕ). AreCountedLess (w % 2 ^ 32) main-on.image image) is (less main-on.image main-on.is image told));
+        lies = counted-keeps (charge % 2 ^ 32) (words_of p.was ++ unlinked) main-on.image image (less main-on.image main-on.is image told) entry_normal (layout.place (main object.key)) p.was main-lies;
       }
 
       pub main-session : ForSome b.files (SameSession from)

@@ -18,6 +18,7 @@ pub mod OwnedCharges
 pub mod PlainObjects
 pub mod RemovedObjects
 pub mod OneMoreTaken
+pub mod UnlinkedLoads
 pub mod TakenParts
 pub mod FoundEntries
 pub mod CountsOut
@@ -26,4 +27,5 @@ pub mod PartNames
 pub mod WalkedParts
 pub mod PartsLeft
 pub mod PartsFound
+pub mod HeldDooms
 pub mod FoundLeft

@@ -1,5 +1,5 @@
 -- One item more is taken out, while others of its object may be out already: what holds as its record goes, and in the end, where the seals of what is left stand.
-use Rattle.std.proofs.Common.{◌≡◌, ℕ, List, ◌∷◌, ◌++◌, refl, ap, sym, ◌∙◌, subst, arith, Bool, true, false, Option, Some, None, Ok, ⊎_elim, append_assoc}
+use Rattle.std.proofs.Common.{◌≡◌, ℕ, List, ◌∷◌, ◌++◌, refl, ap, sym, ◌∙◌, subst, arith, Bool, true, false, Option, Some, None, Ok, inl, inr, ⊎_elim, append_assoc}
 use Rattle.std.specs.Prelude.{◌&&◌, ◌||◌, ◌==◌, filter, if◌then◌else◌, not}
 use Rattle.std.specs.Option.{option_map_or}
 use Rattle.std.specs.List.{AllByRecursion, cons_option, filter_map, flat_map}
@@ -31,7 +31,7 @@ use Rattle.blk_volume.specs.ListView.{IsAtRest, ListView, ListWrite}
 use Rattle.blk_volume.specs.Loads.{Loaded, all_claims, load}
 use Rattle.blk_volume.specs.Sound.{AreSealed, words_of}
 use Rattle.blk_volume.specs.Tidy.{doomed_nodes, loaded_at}
-use Rattle.blk_volume.specs.View.{list_of, stands_as, store_of}
+use Rattle.blk_volume.specs.View.{list_of, store_of}
 use Rattle.blk_laws.proofs.claims.Allocations.{words-claims, words-stand, join}
 use Rattle.blk_laws.proofs.claims.ByteChanges.{stands-some}
 use Rattle.blk_laws.proofs.claims.ClaimLists.{claim-append, contents-claims, repeats-append, some-claim}
@@ -40,10 +40,9 @@ use Rattle.blk_laws.proofs.commands.Removing.{in-filter}
 use Rattle.blk_laws.proofs.lists.ListCompletions.{listed}
 use Rattle.blk_laws.proofs.lists.WordTurns.{removals-can}
 use Rattle.blk_laws.proofs.states.Laid.{IsNodeOf, node-of}
-use Rattle.blk_laws.proofs.states.OthersHold.{chained-only, more-left_out, others-outside, others-unlinked}
+use Rattle.blk_laws.proofs.states.OthersHold.{chained-only, more-left_out, others-outside, others-unlinked, records-outside, records-unlinked}
 use Rattle.blk_laws.proofs.states.Tidying.{counter-same, record-bytes, touch_range, touch_sizes, touch_spares}
-use Rattle.blk_laws.proofs.updates.StillShown.{core-standing, standing-parts}
-use Rattle.blk_laws.proofs.walks.Loads.{load-then}
+use Rattle.blk_laws.proofs.updates.StillShown.{standing-parts}
 use Rattle.blk_kept.specs.Arranging.{LeavesFiles}
 use Rattle.blk_kept.specs.GroupLaws.{gone_nodes, owners_without}
 use Rattle.blk_kept.specs.Keeping.{words_in_use}
@@ -57,7 +56,7 @@ use Rattle.blk_model.specs.Effects.{doomed}
 use Rattle.blk_model.specs.Holding.{rest}
 use Rattle.blk_model.specs.State.{Object, object_at}
 use Rattle.blk_kept.proofs.NextOut as next
-use Rattle.blk_kept.proofs.Free.{session-same, standing-loaded}
+use Rattle.blk_kept.proofs.Free.{AreStanding, session-same, standing-loaded}
 use Rattle.blk_kept.proofs.Groups as groups
 use Rattle.blk_kept.proofs.Headers.{files-same, stand-same}
 use Rattle.blk_kept.proofs.Leaving.{leaves-files, leaves-then}
@@ -174,6 +173,18 @@ module _ (state : State) (layout : Layout) (keep : Item → Bool) (chains : ℕ 
   holds-now = others-unlinked (is_among more) (store_of between) (store_of image) state chained_layout between-holds unlinking.word unlinking.only only-record (chains_but chains was.contents)
       (record { whole = unlinking.whole; chained = λ n l ordered is kept. let p = smaller n kept in in-filtered was.contents (chains (bucket_of_hash (hash l.key))) l.contents (other-record n l is p.1) (k.holds.chained n l ordered is p.0) })
 
+  -- and each node that was left loads as it did, that of the item too
+  pub still-loads : (n : ℕ) (l : Loaded) → layout.at n ≡ Some l → is_among gone n ≡ false → load (store_of image) (rule_of layout n) n ≡ Ok l
+  still-loads n l is kept =
+      let loads : load (store_of between) (rule_of layout n) n ≡ Ok l = records-outside (λ claim. false) (store_of from) (store_of between) (layout.state n) n l (loads-left n l is kept) unlisted.partly.shown.store.store (λ claim has. refl) in
+      records-unlinked (store_of between) (store_of image) (layout.state n) n unlinking.word l loads (k.lies.single n l is) unlinking.only (⊎_elim
+      (λ (e : (l.contents == unlinking.word) ≡ true). inl (eqb-true l.contents unlinking.word e))
+      (λ (e : (l.contents == unlinking.word) ≡ false). inr (λ c has. ⊎_elim
+      (λ (h : has_claim (claims_of unlinking.word) c ≡ true). let p : l.contents ≡ unlinking.word = only-record c n l h (k.lies.own n l c is has) is in absurd (let z : true ≡ false = sym (eq-eqb l.contents unlinking.word p) ∙ e in cc))
+      (λ (h : has_claim (claims_of unlinking.word) c ≡ false). h)
+      (cases_Bool (has_claim (claims_of unlinking.word) c))))
+      (cases_Bool (l.contents == unlinking.word)))
+
   -- so what is at rest with its object doomed is found
   pub out-finds : (number : ℕ) (object : Object) → object_at state number ≡ Some object → LeavesOtherKeys object.key less → Finds (rest (doomed number state (Some object))) image
   out-finds number object at others = out-doomed state (record layout { chains = chains_but chains was.contents }) number object less image k.valid at (record {
@@ -186,15 +197,23 @@ module _ (state : State) (layout : Layout) (keep : Item → Bool) (chains : ℕ 
     list = new-rest;
   })
 
+  -- what the removal from the list touches
+  abbrev writes : List ListWrite
+  writes = writes_of remove node (list_of from)
+
+  outside : SameOutside (touch_range writes node) from between
+  outside = outside_wider (touched_by_writes writes) (touch_range writes node) from between (within_left (touched_by_writes writes) (record_range node)) unlisted.partly.outside
+
+  -- it leaves seals
+  pub between-sealed : (l : Loaded) → AreStanding from l → AreSealed from l → AreSealed between l
+  between-sealed l stands s = record {
+    node = unlisted.sealed l.node (standing-parts from rankings l.node stands.node).1 s.node;
+    entry = ap (λ (g : ℕ → ℕ). entry_is_sealed (entry_in g (place l.contents))) (record-bytes from between writes node outside (removals-can from node prefix suffix old-rest).nodes (listed node (list_of from) prefix suffix old-rest.whole).good l.contents stands.record_) ∙ s.entry;
+  }
+
   -- in the end
   module _ (leaves_files : LeavesFiles between image) (seals : (n : ℕ) (l : Loaded) → layout.at n ≡ Some l → is_among gone n ≡ false → AreSealed between l → AreSealed image l) where
     -- files
-    abbrev writes : List ListWrite
-    writes = writes_of remove node (list_of from)
-
-    outside : SameOutside (touch_range writes node) from between
-    outside = outside_wider (touched_by_writes writes) (touch_range writes node) from between (within_left (touched_by_writes writes) (record_range node)) unlisted.partly.outside
-
     pub leaves : LeavesFiles from image
     leaves = leaves-then from between image (leaves-files (touch_range writes node) from between (touch_spares writes node) (touch_sizes writes node) outside
         (record { crash = counter-same writes node from between outside 32 (omega arith); id = counter-same writes node from between outside 20 (omega arith) }) unlisted.partly.well_formed) leaves_files
@@ -240,17 +259,10 @@ module _ (state : State) (layout : Layout) (keep : Item → Bool) (chains : ℕ 
         let kept = here-stays in
         let z : ◌≡◌ {A = Option ℕ} (Some node) None = rw (mine, kept) at none in cc)
 
-    -- seals
-    sealed : (n : ℕ) (l : Loaded) → layout.at n ≡ Some l → is_among more n ≡ false → AreSealed image l
-    sealed n l is kept =
-        let p = smaller n kept in
-        seals n l is p.0 (load-then (store_of from) (rule_of layout n) n l (loads-left n l is p.0) (λ nf e f.
-        let stands : stands_as from blocks_256 l.contents ≡ true = subst (λ (c : ℕ). stands_as from blocks_256 c ≡ true) (sym f.facts.contents_is) (core-standing from nf.contents e f.entry) in
-        let s = k.sealed n l is p.0 in
-        record {
-          node = unlisted.sealed l.node (standing-parts from rankings l.node (standing-loaded from layout n l (loads-left n l is p.0)).node).1 s.node;
-          entry = ap (λ (g : ℕ → ℕ). entry_is_sealed (entry_in g (place l.contents))) (record-bytes from between writes node outside (removals-can from node prefix suffix old-rest).nodes (listed node (list_of from) prefix suffix old-rest.whole).good l.contents stands) ∙ s.entry;
-        }))
+    -- seals, that of the item's node and its record's too
+    pub still-sealed : (n : ℕ) (l : Loaded) → layout.at n ≡ Some l → is_among gone n ≡ false → AreSealed image l
+    still-sealed n l is kept =
+        seals n l is kept (between-sealed l (standing-loaded from layout n l (loads-left n l is kept)) (k.sealed n l is kept))
 
     pub one-more-out : KeepsPartlyOut state layout less (chains_but chains was.contents) (words_of was ++ unlinked) image
     one-more-out = record {
@@ -274,6 +286,6 @@ module _ (state : State) (layout : Layout) (keep : Item → Bool) (chains : ℕ 
       stand = stand-same from image leaves.headers (words_of was ++ unlinked) stood;
       free = free;
       single = single;
-      sealed = sealed;
+      sealed = λ n l is kept. still-sealed n l is (smaller n kept).0;
       session = session-same from image state layout leaves.session k.session;
     }

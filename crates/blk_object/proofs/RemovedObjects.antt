@@ -37,7 +37,7 @@ some-none : {A : Type 0} {x : A} → ◌≡◌ {A = Option A} (Some x) None → 
 some-none e = cc
 
 -- where the counters stay, they count what they did
-still-counts : (from image : Image) (state : State) (layout : Layout) → SameCounters from image → CountsItems from state layout → CountsItems image state layout
+pub still-counts : (from image : Image) (state : State) (layout : Layout) → SameCounters from image → CountsItems from state layout → CountsItems image state layout
 still-counts from image state layout same c = record { sizes = same.sizes ∙ c.sizes; num_entries = same.num_entries ∙ c.num_entries; num_bytes = same.num_bytes ∙ c.num_bytes }
 
 module _ (state : State) (layout : Layout) (unlinked : List ℕ) (objects : List (Option Object)) (keep : Item → Bool) (item : Item) (node entry : ℕ) (before : Option ℕ) (from : Image) (k : Keeps state layout unlinked from) (p : GoesAlone state layout objects keep item node entry before) where

@@ -13,7 +13,7 @@ use Rattle.blk_model.specs.Items.{Item, part}
 use Rattle.blk_model.specs.State.{Object, State}
 use Rattle.blk_format.specs.Address.{blocks_256, kind_of, rankings}
 use Rattle.blk_format.specs.BlockFiles.{is_among}
-use Rattle.blk_format.specs.Claims.{Claim, claims_of, has_claim}
+use Rattle.blk_format.specs.Claims.{Claim, claims_of, claims_of_all, has_claim, repeats}
 use Rattle.blk_format.specs.Hash.{hash}
 use Rattle.blk_format.specs.Records.{Node, entry_is_sealed, node_is_sealed}
 use Rattle.blk_format.specs.Sealed.{record_range}
@@ -21,14 +21,16 @@ use Rattle.blk_volume.specs.Chains.{IsChain, bucket_at}
 use Rattle.blk_volume.specs.Footprint.{AgreeBut, IsClear}
 use Rattle.blk_volume.specs.Layout.{IsListedRecord, Layout, rule_of}
 use Rattle.blk_volume.specs.ListImages.{HasListAtRest}
-use Rattle.blk_volume.specs.Loads.{Loaded, all_claims, load, record_claims}
+use Rattle.blk_volume.specs.Loads.{Loaded, all_claims, load, record_claims, unchained_rule}
 use Rattle.blk_volume.specs.Searches.{bucket_of_key}
 use Rattle.blk_volume.specs.Sound.{AreSealed}
 use Rattle.blk_volume.specs.View.{entry_at, stands_as, store_of}
 use Rattle.blk_laws.proofs.claims.ByteChanges.{node-same}
 use Rattle.blk_laws.proofs.claims.ClaimLists.{claim-append, contents-claims}
 use Rattle.blk_laws.proofs.claims.Outside.{AreClear, all-clear}
+use Rattle.blk_laws.proofs.states.Laid.{is_among-node}
 use Rattle.blk_laws.proofs.states.Marking.{repeats-apart}
+use Rattle.blk_laws.proofs.states.OthersHold.{records-outside, records-unlinked}
 use Rattle.blk_laws.proofs.updates.StillShown.{standing-parts}
 use Rattle.blk_laws.proofs.walks.Loads.{load-then}
 use Rattle.blk_chain.specs.Unlinking.{IsSealedAgain, IsUnlinked, StandsBehind}
@@ -57,10 +59,23 @@ use Rattle.blk_object.specs.Removing.{IsMidRemoving}
 use Rattle.blk_object.proofs.TakenItems.{going-removing}
 use Rattle.blk_kept.proofs.PartlyOutStops.{next-parts-find, own-items-leave, unlinking-items-find}
 use Rattle.blk_object.specs.Removing.{IsYetLinked}
-use Rattle.blk_object.specs.RemovingParts.{GoingLonePartsFindEither, GoingMainsFindEither, GoingPartsFindDoomed, LeftItemsMayGoOut, LiesLeft, TakenOutItemsAreOut, UnlinkedItemsFindDoomed}
+use Rattle.blk_object.specs.RemovingParts.{GoingLonePartsFindEither, GoingMainsFindEither, GoingPartsFindDoomed, LeftItemsMayGoOut, LiesLeft, TakenOutItemsAreOut, TakenOutItemsLoad, UnlinkedItemsFindDoomed}
 use Rattle.blk_object.proofs.ChainsOut.{among-front, can-go, goes-out, leaves-files, yet-in}
-use Rattle.blk_object.proofs.OneMoreTaken.{one-more-out, out-finds}
+use Rattle.blk_object.proofs.OneMoreTaken.{between-sealed, one-more-out, out-finds, still-loads, still-sealed}
+use Rattle.blk_object.proofs.UnlinkedLoads.{unlinked-stands}
+use Rattle.blk_object.specs.UnlinkedLoads.{TakenOutItemsKeepUnlinked}
 use Rattle.blk_object.proofs.TakenItems.{again-sealed, bucket-is, removal-leaves}
+
+-- a node is clear of its record
+pub node-clear : (l : Loaded) → repeats (all_claims l) ≡ false → IsClear (has_claim (claims_of l.contents)) l.node
+unfolding all_claims record_claims
+node-clear l once c e = ⊎_elim
+    (λ (h : has_claim (claims_of l.contents) c ≡ true).
+    let a : has_claim (record_claims l) c ≡ false = repeats-apart (claims_of l.node) (record_claims l) c once e in
+    let b : has_claim (record_claims l) c ≡ true = claim-append (claims_of l.contents) (flat_map claims_of l.others) c ∙ or_left (has_claim (claims_of l.contents) c) (has_claim (flat_map claims_of l.others) c) h in
+    absurd (let z : true ≡ false = sym b ∙ a in cc))
+    (λ (h : has_claim (claims_of l.contents) c ≡ false). h)
+    (cases_Bool (has_claim (claims_of l.contents) c))
 
 module _ (state : State) (layout : Layout) (keep : Item → Bool) (chains : ℕ → List ℕ) (unlinked : List ℕ) (item : Item) (was : Loaded) (before : Option ℕ) (from : Image) (k : KeepsPartlyOut state layout keep chains unlinked from) (left : LiesLeft state layout keep chains item was before) where
   abbrev node : ℕ
@@ -111,16 +126,6 @@ module _ (state : State) (layout : Layout) (keep : Item → Bool) (chains : ℕ 
           let a = standing-parts between blocks_256 l.contents (standing other l at kept).record_ in
           (updates-change between image l.contents a.0 (inr a.1) same).agree
 
-      node-clear : IsClear touched l.node
-      unfolding all_claims record_claims
-      node-clear c e = ⊎_elim
-          (λ (h : touched c ≡ true).
-          let a : has_claim (record_claims l) c ≡ false = repeats-apart (claims_of l.node) (record_claims l) c (k.lies.single other l at) e in
-          let b : has_claim (record_claims l) c ≡ true = claim-append (claims_of l.contents) (flat_map claims_of l.others) c ∙ or_left (has_claim (claims_of l.contents) c) (has_claim (flat_map claims_of l.others) c) h in
-          absurd (let z : true ≡ false = sym b ∙ a in cc))
-          (λ (h : touched c ≡ false). h)
-          (cases_Bool (touched c))
-
       apart : (n : ℕ) (m : Loaded) → layout.at n ≡ Some m → (other == n) ≡ false → AreClear touched m
       apart n m is differs = all-clear touched m (λ c has. ⊎_elim
           (λ (h : touched c ≡ true).
@@ -135,7 +140,7 @@ module _ (state : State) (layout : Layout) (keep : Item → Bool) (chains : ℕ 
           (λ (e : (other == n) ≡ true).
           let it : l ≡ m = some_inj (sym at ∙ ap layout.at (eqb-true other n e) ∙ is) in
           subst (λ (x : Loaded). AreSealed image x) it (record {
-            node = ap (λ (x : Node). node_is_sealed x) (node-same touched between image agree l.node (standing other l at kept).node node-clear) ∙ (subst (λ (x : Loaded). AreSealed between x) (sym it) sealed).node;
+            node = ap (λ (x : Node). node_is_sealed x) (node-same touched between image agree l.node (standing other l at kept).node (node-clear l (k.lies.single other l at))) ∙ (subst (λ (x : Loaded). AreSealed between x) (sym it) sealed).node;
             entry = done_again;
           }))
           (λ (e : (other == n) ≡ false). let clear = apart n m is e in sealed-same touched between image agree m (standing n m is stays) clear.node clear.contents sealed)
@@ -153,6 +158,30 @@ module _ (state : State) (layout : Layout) (keep : Item → Bool) (chains : ℕ 
         let here : (store_of between).entry v ≡ Some e = sym (done.partly.shown.store.store.entry v (λ claim has. refl)) ∙ ap (store_of from).entry (sym q.record_is ∙ f.facts.contents_is) ∙ f.entry in
         seals-stand image q.node q.loaded q.here kept (subst (λ (x : ℕ). SameOutside (record_range x) between image) (sym q.record_is) u.keeps.outside)
         (subst (λ (x : ℕ). entry_is_sealed (entry_at image x) ≡ true) (sym q.record_is) (again-sealed between image was.contents v e here bytes again)) n m is stays sealed)
+
+    -- what lies in unlinked places is apart from each record of a chain
+    unlinked-apart : (bucket v : ℕ) → bucket < 65536 → is_among (chains bucket) v ≡ true → (c : Claim) → has_claim (claims_of_all unlinked) c ≡ true → has_claim (claims_of v) c ≡ false
+    unlinked-apart bucket v small among c has =
+        let q : IsListedRecord state layout v = k.lies.unchained bucket v small (k.chained bucket v small among) in
+        ⊎_elim
+        (λ (h : has_claim (claims_of v) c ≡ true).
+        let its : layout.owner c ≡ Some q.node = k.lies.own q.node q.loaded c q.here (contents-claims q.loaded c (ap (λ (w : ℕ). has_claim (claims_of w) c) q.record_is ∙ h)) in
+        let z : ◌≡◌ {A = Option ℕ} None (Some q.node) = sym (k.free c has) ∙ groups.still-owned state layout keep k.numbers k.lies k.owners c q.node its (is-left bucket v small among q) in
+        absurd (cc))
+        (λ (h : has_claim (claims_of v) c ≡ false). h)
+        (cases_Bool (has_claim (claims_of v) c))
+
+    -- so its seals stand
+    unlinked-sealed : (image : Image) (o : Option ℕ) → StandsBehind (chains its_bucket) was.contents o left.lies.prefix left.lies.suffix → IsUnlinked between was.contents o image
+        → (s n : ℕ) (l : Loaded) → load (store_of between) (unchained_rule s) n ≡ Ok l → ((c : Claim) → has_claim (all_claims l) c ≡ true → has_claim (claims_of_all unlinked) c ≡ true) → AreSealed between l → AreSealed image l
+    unlinked-sealed image None there u s n l loads_so among_so sealed = table-sealed between image (bucket_at between was.contents) l u.keeps.outside sealed
+    unlinked-sealed image (Some v) there u s n l loads_so among_so sealed =
+        let small : its_bucket < 65536 = mod_below (hash was.key) 65536 (lit< tt) in
+        let among : is_among (chains its_bucket) v ≡ true = ap (λ (words : List ℕ). is_among words v) there ∙ among-front left.lies.prefix v (was.contents ∷ left.lies.suffix) in
+        let q : IsListedRecord state layout v = k.lies.unchained its_bucket v small (k.chained its_bucket v small among) in
+        let stands = standing-parts between blocks_256 v (subst (λ (w : ℕ). stands_as between blocks_256 w ≡ true) q.record_is (standing q.node q.loaded q.here (is-left its_bucket v small among q)).record_) in
+        let clear : AreClear (has_claim (claims_of v)) l = all-clear (has_claim (claims_of v)) l (λ c has. unlinked-apart its_bucket v small among c (among_so c has)) in
+        sealed-same (has_claim (claims_of v)) between image (updates-change between image v stands.0 (inr stands.1) u.keeps.outside).agree l (unlinked-stands between s n l loads_so) clear.node clear.contents sealed
 
 pub left-may : LeftItemsMayGoOut
 left-may state layout keep chains unlinked item was before from k left = record {
@@ -172,6 +201,34 @@ left-out state layout keep chains unlinked item was before from image k left t =
     (goes-out layout chains t.between all was.contents before left.lies.prefix left.lies.suffix behind image t.unlinked)
     (leaves-files layout chains t.between all was.contents before left.lies.prefix left.lies.suffix behind image t.unlinked)
     (seals state layout keep chains unlinked item was before from k left t.between t.unlisted image before left.lies.stands t.unlinked t.sealed t.bytes)
+
+pub left-loads : TakenOutItemsLoad
+left-loads state layout keep chains unlinked item was before from image k left t =
+    let all = whole state layout keep chains unlinked item was before from k left t.between t.unlisted in
+    let behind = stands state layout keep chains unlinked item was before from k left t.between t.unlisted in
+    let unlinking = goes-out layout chains t.between all was.contents before left.lies.prefix left.lies.suffix behind image t.unlinked in
+    let stays = here-stays state layout keep chains unlinked item was before from k left in
+    let normal = k.lies.normal (layout.place item) (is_among-node layout state.uses item left.lies.listed) in (
+      subst (λ (s : ℕ). load (store_of image) (unchained_rule s) (layout.place item) ≡ Ok was) normal (still-loads state layout keep chains unlinked item was from t.between image k left.lies.listed left.stays left.lies.here t.unlisted unlinking (layout.place item) was left.lies.here stays),
+      still-sealed state layout keep chains unlinked item was from t.between image k left.lies.listed left.stays left.lies.here t.unlisted unlinking
+          (leaves-files layout chains t.between all was.contents before left.lies.prefix left.lies.suffix behind image t.unlinked)
+          (seals state layout keep chains unlinked item was before from k left t.between t.unlisted image before left.lies.stands t.unlinked t.sealed t.bytes) (layout.place item) was left.lies.here stays,
+    )
+
+pub left-keeps : TakenOutItemsKeepUnlinked
+left-keeps state layout keep chains unlinked item was before from image k left t s n l u =
+    let all = whole state layout keep chains unlinked item was before from k left t.between t.unlisted in
+    let behind = stands state layout keep chains unlinked item was before from k left t.between t.unlisted in
+    let unlinking = goes-out layout chains t.between all was.contents before left.lies.prefix left.lies.suffix behind image t.unlinked in
+    let there : load (store_of t.between) (unchained_rule s) n ≡ Ok l = records-outside (λ claim. false) (store_of from) (store_of t.between) s n l u.loads t.unlisted.partly.shown.store.store (λ claim has. refl) in
+    let sealed = between-sealed state layout keep chains unlinked item was from t.between image k left.lies.listed left.stays left.lies.here t.unlisted unlinking l (unlinked-stands from s n l u.loads) u.sealed in
+    record {
+      loads = records-unlinked (store_of t.between) (store_of image) s n unlinking.word l there u.once unlinking.only
+          (inr (λ c has. unlinked-apart state layout keep chains unlinked item was before from k left t.between t.unlisted unlinking.bucket unlinking.word unlinking.small unlinking.chained c (u.among c has)));
+      sealed = unlinked-sealed state layout keep chains unlinked item was before from k left t.between t.unlisted image before left.lies.stands t.unlinked s n l there u.among sealed;
+      among = u.among;
+      once = u.once;
+    }
 
 pub unlinked-find : UnlinkedItemsFindDoomed
 unlinked-find state layout keep chains unlinked item was before number object from image k left at others m = by m.moment where

@@ -8,5 +8,7 @@ pub mod NextItems
 pub mod ListedParts
 pub mod RemovingObjects
 pub mod RemovingParts
+pub mod UnlinkedLoads
 pub mod RemovingFound
+pub mod Dooming
 pub mod FindingOut

@@ -3,6 +3,7 @@ use Rattle.std.specs.Prelude.{◌≡◌, ◌⊎◌, ℕ, List, ◌++◌, Bool, O
 use Rattle.blk_image.specs.Image.{Image}
 use Rattle.blk_model.specs.Items.{Item, main, part}
 use Rattle.blk_model.specs.State.{Object, State, object_at}
+use Rattle.blk_format.specs.Records.{entry_normal}
 use Rattle.blk_volume.specs.Found.{charge_of}
 use Rattle.blk_volume.specs.Layout.{Layout}
 use Rattle.blk_volume.specs.Loads.{Loaded}
@@ -16,6 +17,7 @@ use Rattle.blk_object.specs.Removing.{IsGoingOut}
 use Rattle.blk_object.specs.RemovingFound.{LiesAsFound}
 use Rattle.blk_object.specs.RemovingNext.{CountsLeft}
 use Rattle.blk_object.specs.RemovingParts.{LiesLeft}
+use Rattle.blk_object.specs.UnlinkedLoads.{KeepsUnlinked, LiesUnlinked}
 
 -- an item that isn't out lies at this node with this record, which stands in its chain, of the chains as they are, behind this one, or is the first
 pub record LiesNext (state : State) (layout : Layout) (keep : Item → Bool) (chains : ℕ → List ℕ) (item : Item) (node entry : ℕ) (before : Option ℕ) : Type 0 where
@@ -45,11 +47,12 @@ ForEachPart node entry before from P =
     → KeepsPartlyOut state layout keep chains unlinked from → object_at state number ≡ Some object → LeavesOtherKeys object.key keep → LiesNext state layout keep chains (part object.key n) node entry before
     → P state number object
 
--- the item is out, what it had is freed, and the counters of the index and the session are as they were; its charge is this
+-- the item is out, what it had is freed, the counters of the index and the session are as they were, and what lay in unlinked places does still; its charge is this
 pub record IsOutUncounted (state : State) (layout : Layout) (keep : Item → Bool) (chains : ℕ → List ℕ) (unlinked : List ℕ) (item : Item) (entry charge : ℕ) (from image : Image) : Type 0 where
   pub out : KeepsPartlyOut state layout (keeps_but keep item) (chains_but chains entry) unlinked image
   pub counters : SameCounters from image
   pub session : SameSession from image
+  pub loads : KeepsUnlinked unlinked from image
   pub was : Loaded
   pub here : layout.at (layout.place item) ≡ Some was
   pub charge_is : charge ≡ charge_of was
@@ -59,10 +62,11 @@ pub record IsOutAndCounted (state : State) (layout : Layout) (keep : Item → Bo
   pub out : KeepsPartlyOut state layout (keeps_but keep item) (chains_but chains entry) unlinked image
   pub counted : CountsLeft state layout (keeps_but keep item) image
 
--- the main item of a key is out, its words are unlinked, and the items that are left are counted
+-- the main item of a key is out, its words are unlinked, it loads yet by itself, and the items that are left are counted
 pub record IsMainOut (state : State) (layout : Layout) (unlinked : List ℕ) (key : List ℕ) (was : Loaded) (image : Image) : Type 0 where
   pub out : KeepsPartlyOut state layout (keeps_but (λ item. true) (main key)) (chains_but layout.chains was.contents) (words_of was ++ unlinked) image
   pub counted : CountsLeft state layout (keeps_but (λ item. true) (main key)) image
+  pub lies : LiesUnlinked (words_of was ++ unlinked) entry_normal (layout.place (main key)) was image
 
 -- the item is out, and its words, which are unlinked, are being freed
 pub record IsBeingFreed (state : State) (layout : Layout) (keep : Item → Bool) (chains : ℕ → List ℕ) (unlinked : List ℕ) (item : Item) (entry : ℕ) (image : Image) : Type 0 where

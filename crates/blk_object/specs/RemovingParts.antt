@@ -1,14 +1,16 @@
 -- Items of a sparse object are taken out one after another, and freed: what each is to what is kept in between.
-use Rattle.std.specs.Prelude.{◌≡◌, ◌⊎◌, ℕ, List, [], ◌∷◌, ◌++◌, Bool, Option, Some, is_some, true}
+use Rattle.std.specs.Prelude.{◌≡◌, ◌⊎◌, ℕ, List, [], ◌∷◌, ◌++◌, Bool, Ok, Option, Some, is_some, true}
 use Rattle.blk_image.specs.Image.{Image}
 use Rattle.blk_model.specs.Effects.{doomed}
 use Rattle.blk_model.specs.Holding.{rest}
 use Rattle.blk_model.specs.Items.{Item, main, part}
 use Rattle.blk_model.specs.Room.{single, without}
 use Rattle.blk_model.specs.State.{Object, State, object_at, part_at}
+use Rattle.blk_format.specs.Records.{entry_normal}
 use Rattle.blk_volume.specs.Layout.{Layout}
-use Rattle.blk_volume.specs.Loads.{Loaded}
-use Rattle.blk_volume.specs.Sound.{words_of}
+use Rattle.blk_volume.specs.Loads.{Loaded, load, unchained_rule}
+use Rattle.blk_volume.specs.Sound.{AreSealed, words_of}
+use Rattle.blk_volume.specs.View.{store_of}
 use Rattle.blk_kept.specs.Changes.{Finds}
 use Rattle.blk_kept.specs.Keeping.{KeepsUncounted}
 use Rattle.blk_kept.specs.PartlyOut.{KeepsPartlyOut, chains_but, keeps_but}
@@ -33,6 +35,13 @@ TakenOutItemsAreOut =
     (state : State) (layout : Layout) (keep : Item → Bool) (chains : ℕ → List ℕ) (unlinked : List ℕ) (item : Item) (was : Loaded) (before : Option ℕ) (from image : Image)
     → KeepsPartlyOut state layout keep chains unlinked from → LiesLeft state layout keep chains item was before
     → IsTakenOut (layout.place item) was.contents before from image → KeepsPartlyOut state layout (keeps_but keep item) (chains_but chains was.contents) (words_of was ++ unlinked) image
+
+-- and what lay at its node loads yet, by itself, and is sealed
+abbrev pub TakenOutItemsLoad : Type 0
+TakenOutItemsLoad =
+    (state : State) (layout : Layout) (keep : Item → Bool) (chains : ℕ → List ℕ) (unlinked : List ℕ) (item : Item) (was : Loaded) (before : Option ℕ) (from image : Image)
+    → KeepsPartlyOut state layout keep chains unlinked from → LiesLeft state layout keep chains item was before
+    → IsTakenOut (layout.place item) was.contents before from image → (load (store_of image) (unchained_rule entry_normal) (layout.place item) ≡ Ok was) × AreSealed image was
 
 -- while the record of an item of an object is unlinked, and without the item no main item of its key is left, what is at rest with the object doomed is found
 abbrev pub UnlinkedItemsFindDoomed : Type 0

@@ -3,6 +3,8 @@
 
 mod counters;
 mod counting_laws;
+mod dooming;
+mod dooming_laws;
 mod finding_laws;
 mod freeing;
 mod freeing_laws;
@@ -19,6 +21,8 @@ mod removing_parts;
 
 pub use counters::count_less;
 pub use counting_laws::{left_items_are_counted, parts_go_until_none_is_left};
+pub use dooming::{doom_plain, doom_record};
+pub use dooming_laws::held_objects_are_doomed;
 pub use finding_laws::left_items_are_found;
 pub use freeing::free_places;
 pub use freeing_laws::freed_words_are_gone;

@@ -40,6 +40,7 @@ pub fn read_owned<F: Folder>(f: &mut F, files: &BlockFiles, entry: Addr) -> Resu
     // They are all the address words of what lies there with this record, and each is there.
     ensures words { IfOk result (λ owned. ForSome (F.told f.old).files (λ image. (loaded : Loaded) → LoadsWith entry loaded image → words_at owned.places ≡ words_of loaded)) }
     ensures charge { IfOk result (λ owned. ForSome (F.told f.old).files (λ image. (loaded : Loaded) → LoadsWith entry loaded image → owned.charge ≡ charge_of loaded)) }
+    ensures small { IfOk result (λ owned. owned.charge < 2 ^ 34) }
     ensures there { IfOk result (λ owned. All (IsPlaceAmong files.now) owned.places) }
 
     ensures stays { Stays (F.told f.old) (F.told f.new) }
@@ -85,7 +86,8 @@ pub fn free_owned<F: Folder>(f: &mut F, files: &BlockFiles, owned: &Owned) -> Re
 
 // The bytes of the key and the streams of an entry.
 fn charge_of_head(head: &Head) -> u64
-    ensures { result ≡ head.now.key_len + slice_index head.now.sizes 0 + slice_index head.now.sizes 1 + slice_index head.now.sizes 2 }
+    ensures small { result < 2 ^ 34 }
+    ensures charge { result ≡ head.now.key_len + slice_index head.now.sizes 0 + slice_index head.now.sizes 1 + slice_index head.now.sizes 2 }
 {
     u64::from(head.key_len)
         + u64::from(head.sizes[0])

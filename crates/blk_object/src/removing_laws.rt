@@ -2,7 +2,7 @@
 ghost use Rattle.blk_object.specs.Counters.{LessIsCounted};
 ghost use Rattle.blk_object.specs.RemovingFound.{FoundEntriesLieBehind, KeptStatesCanBeSearched};
 ghost use Rattle.blk_object.specs.RemovingObjects.{PlainObjectsGoAlone};
-ghost use Rattle.blk_object.specs.RemovingParts.{GoingLonePartsFindEither, GoingMainsFindEither, GoingPartsFindDoomed, LeftItemsMayGoOut, TakenOutItemsAreOut, UnlinkedItemsFindDoomed};
+ghost use Rattle.blk_object.specs.RemovingParts.{GoingLonePartsFindEither, GoingMainsFindEither, GoingPartsFindDoomed, LeftItemsMayGoOut, TakenOutItemsAreOut, TakenOutItemsLoad, UnlinkedItemsFindDoomed};
 ghost use Rattle.blk_object.specs.Removing.{GoingOutIsRemoving, ListedItemsMayGoOut, TakenOutItemsAreRemoved, TakenOutItemsLeaveCounters, TakenOutItemsLeaveSession};
 
 /// Where a state is kept a listed item may go out. Once it is taken out it is removed, and the counters of the index and the session are as they were; at each word it is being removed.
@@ -24,10 +24,11 @@ pub fn plain_objects_go_alone()
     ensures { PlainObjectsGoAlone }
 {}
 
-/// Where some items of an object are out already, another one may go out. Once it is taken out, one item more is out; while its record is unlinked, and at each word of a part after its main item, what is at rest with the object doomed is found. So is it, or what was at rest, at each word of the main item, which goes first; and of a part that goes alone, what is at rest without it.
+/// Where some items of an object are out already, another one may go out. Once it is taken out, one item more is out, and what lay there loads yet by itself; while its record is unlinked, and at each word of a part after its main item, what is at rest with the object doomed is found. So is it, or what was at rest, at each word of the main item, which goes first; and of a part that goes alone, what is at rest without it.
 pub fn taken_parts_are_out()
     ensures may { LeftItemsMayGoOut }
     ensures out { TakenOutItemsAreOut }
+    ensures loads { TakenOutItemsLoad }
     ensures unlinked { UnlinkedItemsFindDoomed }
     ensures find { GoingPartsFindDoomed }
     ensures first { GoingMainsFindEither }

@@ -1,5 +1,5 @@
 // An item that goes alone is removed.
-ghost use Rattle.std.specs.Prelude.{◌≡◌, ◌≤◌, IfOk, IfSome, IsTrue, None, OnOk};
+ghost use Rattle.std.specs.Prelude.{◌≡◌, ◌≤◌, ◌<◌, ◌^◌, IfOk, IfSome, IsTrue, None, OnOk};
 ghost use Rattle.std.specs.Option.{ForSome};
 ghost use Rattle.blk_image.specs.Told.{Passes, Rises};
 ghost use Rattle.blk_format.specs.Address.{blocks_256, kind_of};
@@ -78,6 +78,7 @@ pub(crate) fn take_away<F: Folder>(
     requires stands_before { IfSome found.now.before (λ before. IsTrue (stands_among files.now before)) }
     requires is_open { ForSome (F.told f.old).files (IsOpen files.now) }
     ensures charge { IfOk result (λ charge. ForSome (F.told f.old).files (λ from. (was : Loaded) → LoadsWith found.now.entry was from → charge ≡ charge_of was)) }
+    ensures small { IfOk result (λ charge. charge < 2 ^ 34) }
     ensures gone { IfOk result (λ charge. ForSome (F.told f.old).files (λ from. ForEachAlone node found.now.entry found.now.before from (λ state after layout unlinked. ForSome (F.told f.new).files (IsGoneUncounted state after layout unlinked node found.now.entry charge)))) }
     ensures stops { ForSome (F.told f.old).files (λ from. ForEachAlone node found.now.entry found.now.before from (λ state after layout unlinked. Passes (F.told f.old) (F.told f.new) (FindsEither state after))) }
     ensures out { IfOk result (λ charge. ForSome (F.told f.old).files (λ from. ForEachNext node found.now.entry found.now.before from (λ state layout keep chains unlinked item. ForSome (F.told f.new).files (IsOutUncounted state layout keep chains unlinked item found.now.entry charge from)))) }

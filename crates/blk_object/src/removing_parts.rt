@@ -1,5 +1,5 @@
 // A part of an object goes with the object.
-ghost use Rattle.std.specs.Prelude.{◌≡◌, ◌≤◌, IfOk, IfSome, IsTrue, None, OnOk, Some};
+ghost use Rattle.std.specs.Prelude.{◌≡◌, ◌≤◌, ◌<◌, ◌^◌, IfOk, IfSome, IsTrue, None, OnOk, Some};
 ghost use Rattle.std.specs.Option.{ForSome};
 ghost use Rattle.blk_image.specs.Told.{Passes, Rises};
 ghost use Rattle.blk_model.specs.Effects.{doomed};
@@ -14,6 +14,7 @@ ghost use Rattle.blk_kept.specs.Changes.{Finds, SameSession};
 ghost use Rattle.blk_object.specs.NextItems.{ForEachNext, ForEachPart, IsOutAndCounted};
 ghost use Rattle.blk_object.specs.RemovingNext.{CountsLeft};
 ghost use Rattle.blk_object.specs.Owning.{LoadsWith};
+ghost use Rattle.blk_object.specs.UnlinkedLoads.{KeepsUnlinked};
 
 use crate::counters::count_less;
 use crate::removing_objects::take_away;
@@ -42,12 +43,16 @@ pub fn remove_part<F: Folder>(
 
     // The charge is that of what lay there with this record.
     ensures charge { IfOk result (λ charge. ForSome (F.told f.old).files (λ from. (was : Loaded) → LoadsWith found.now.entry was from → charge ≡ charge_of was)) }
+    ensures small { IfOk result (λ charge. charge < 2 ^ 34) }
 
     // Where some items are out, or none, and the others are counted, one more is out in the end, and those that are left are counted.
     ensures removed { OnOk result (ForSome (F.told f.old).files (λ from. ForEachNext node found.now.entry found.now.before from (λ state layout keep chains unlinked item. CountsLeft state layout keep from → ForSome (F.told f.new).files (IsOutAndCounted state layout keep chains unlinked item found.now.entry)))) }
 
     // The session is the same then.
     ensures session { OnOk result (ForSome (F.told f.old).files (λ from. ForEachNext node found.now.entry found.now.before from (λ state layout keep chains unlinked item. ForSome (F.told f.new).files (SameSession from)))) }
+
+    // What lay in unlinked places, as its main item, loads yet by itself.
+    ensures keeps { OnOk result (ForSome (F.told f.old).files (λ from. ForEachNext node found.now.entry found.now.before from (λ state layout keep chains unlinked item. ForSome (F.told f.new).files (KeepsUnlinked unlinked from)))) }
 
     // While a part goes after its main item, what is at rest with its object doomed is found.
     ensures part { ForSome (F.told f.old).files (λ from. ForEachPart node found.now.entry found.now.before from (λ state number object. Passes (F.told f.old) (F.told f.new) (Finds (rest (doomed number state (Some object)))))) }

@@ -47,4 +47,4 @@ returns-clause-words g c image there loaded lies =
     c.in_ok-node.ensures.place c.in_ok-long_key.ensures.place c.in_ok-first.ensures.place c.in_ok-second.ensures.place c.in_ok-third.ensures.place
 
 pub returns-clause-charge : goal.returns-clause-charge
-returns-clause-charge g c image there loaded lies = c.charge_of_head.ensures ∙ owned-charge image c.args.entry c.in_ok-head.head loaded (c.in_ok-head.ensures.head image there) lies
+returns-clause-charge g c image there loaded lies = c.charge_of_head.ensures.charge ∙ owned-charge image c.args.entry c.in_ok-head.head loaded (c.in_ok-head.ensures.head image there) lies

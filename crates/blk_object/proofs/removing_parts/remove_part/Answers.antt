@@ -2,7 +2,7 @@ use Rattle.std.proofs.Common.{◌≡◌, None}
 use Rattle.blk_image.proofs.Runs.{passes_weaker}
 use Rattle.blk_io.proofs.Carried.{carried, if_damaged_weaker}
 use Rattle.blk_model.specs.Items.{part}
-use Rattle.blk_object.proofs.GoingNext.{next-counted-out, next-session, next-told, part-going, part-stops}
+use Rattle.blk_object.proofs.GoingNext.{next-counted-out, next-keeps, next-session, next-told, part-going, part-stops}
 use Rattle.blk_object.proofs.removing_parts.remove_part.Goals as goal
 
 pub returns-in_err-charge-clause-untold : goal.returns-in_err-charge-clause-untold
@@ -37,6 +37,11 @@ returns-clause-removed g c from there state layout keep chains unlinked item k p
 pub returns-clause-session : goal.returns-clause-session
 returns-clause-session g c from there state layout keep chains unlinked item k p =
     next-session (g.F.Folder.told c.args.f.now) (g.F.Folder.told c.take_away.new.f) (g.F.Folder.told c.count_less.new.f) state layout keep chains unlinked item c.args.node c.args.found.now.entry c.args.found.now.before from there c.in_ok-charge.charge
+    (c.in_ok-charge.ensures.going from there state layout keep chains unlinked item k p) (c.in_ok-charge.ensures.out from there state layout keep chains unlinked item k p) c.in_ok-count_less.ensures.counted
+
+pub returns-clause-keeps : goal.returns-clause-keeps
+returns-clause-keeps g c from there state layout keep chains unlinked item k p =
+    next-keeps (g.F.Folder.told c.args.f.now) (g.F.Folder.told c.take_away.new.f) (g.F.Folder.told c.count_less.new.f) state layout keep chains unlinked item c.args.node c.args.found.now.entry c.args.found.now.before from there c.in_ok-charge.charge
     (c.in_ok-charge.ensures.going from there state layout keep chains unlinked item k p) (c.in_ok-charge.ensures.out from there state layout keep chains unlinked item k p) c.in_ok-count_less.ensures.counted
 
 pub returns-clause-part : goal.returns-clause-part

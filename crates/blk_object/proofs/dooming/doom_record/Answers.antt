@@ -1,0 +1,41 @@
+use Rattle.std.proofs.Common.{inr, sym, subst, ◌∙◌}
+use Rattle.std.proofs.lemmas.Result.{on_ok_weaker}
+use Rattle.blk_image.proofs.Runs.{passes_weaker, some_inj}
+use Rattle.blk_format.specs.Sealed.{RecordChecks, sealed_steps}
+use Rattle.blk_lru.proofs.Kept.{kept_sealed}
+use Rattle.blk_lru.proofs.Performing.{part_kept}
+use Rattle.blk_object.specs.Dooming.{doomed_change}
+use Rattle.blk_object.proofs.HeldDooms.{doomed-told, mid-finds, out-checks, state-changes}
+use Rattle.blk_object.proofs.dooming.doom_record.Goals as goal
+
+pub update_sealed-requires-clause-begins : goal.update_sealed-requires-clause-begins
+update_sealed-requires-clause-begins g c = inr c.requires.kind
+
+pub update_sealed-requires-clause-changes : goal.update_sealed-requires-clause-changes
+update_sealed-requires-clause-changes g c = state-changes c.args.entry c.requires.kind
+
+pub update_sealed-requires-clause-agrees : goal.update_sealed-requires-clause-agrees
+update_sealed-requires-clause-agrees g c image there = (c.requires.is_open image there).agrees
+
+pub returns-clause-doomed : goal.returns-clause-doomed
+returns-clause-doomed g c = on_ok_weaker c.update_sealed.result
+    (λ steps. doomed-told c.args.files.now (g.F.Folder.told c.args.f.now) (g.F.Folder.told c.update_sealed.new.f) c.args.entry (g.met.F.Folder.are_bytes c.args.f.now) c.requires.is_open steps)
+    c.update_sealed.ensures.steps
+
+pub returns-clause-stops : goal.returns-clause-stops
+returns-clause-stops g c from there state layout number object loaded chains unlinked o =
+    passes_weaker (c.update_sealed.ensures.stops from there (out-checks state layout number object loaded chains unlinked c.args.entry from o (g.met.F.Folder.are_bytes c.args.f.now from there)))
+    (mid-finds state layout number object loaded chains unlinked c.args.entry from o) (mid-finds state layout number object loaded chains unlinked c.args.entry from o)
+
+pub returns-clause-is_open : goal.returns-clause-is_open
+returns-clause-is_open g c image here =
+    (part_kept c.args.files.now (g.F.Folder.told c.args.f.now) (g.F.Folder.told c.update_sealed.new.f) (λ from. sealed_steps from c.args.entry doomed_change)
+    (λ from there. kept_sealed c.args.files.now c.args.entry doomed_change from (c.requires.is_open from there)) c.update_sealed.ensures.prefix.silent c.update_sealed.ensures.prefix.made image here)
+
+pub returns-clause-silent : goal.returns-clause-silent
+returns-clause-silent g c = c.update_sealed.ensures.prefix.silent
+
+pub returns-clause-untold : goal.returns-clause-untold
+returns-clause-untold g c from there state layout number object loaded chains unlinked o =
+    c.update_sealed.ensures.untold (λ image is. subst (RecordChecks c.args.entry) (some_inj (sym there ∙ is))
+    (out-checks state layout number object loaded chains unlinked c.args.entry from o (g.met.F.Folder.are_bytes c.args.f.now from there)))

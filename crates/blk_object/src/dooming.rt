@@ -1,0 +1,122 @@
+// An object that a handle names is doomed.
+ghost use Rattle.std.specs.Prelude.{◌≡◌, ◌≤◌, IfSome, IsTrue, None, OnOk, Some};
+ghost use Rattle.std.specs.Option.{ForSome};
+ghost use Rattle.blk_image.specs.Told.{Passes, Rises};
+ghost use Rattle.blk_model.specs.Effects.{doomed};
+ghost use Rattle.blk_model.specs.Holding.{rest};
+ghost use Rattle.blk_format.specs.Address.{blocks_256, kind_of};
+ghost use Rattle.blk_volume.specs.Found.{charge_of};
+ghost use Rattle.blk_io.specs.Faults.{IfDamaged, IfDevice};
+ghost use Rattle.blk_disk.specs.Open.{IsOpen};
+ghost use Rattle.blk_disk.specs.Tables.{is_node_among, stands_among};
+ghost use Rattle.blk_kept.specs.Changes.{Finds, SameSession};
+ghost use Rattle.blk_kept.specs.Keeping.{CountsItems, Keeps};
+ghost use Rattle.blk_object.specs.Dooming.{ForEachHeld, ForEachOut, IsDoomedOut, IsDoomedUncounted, layout_held};
+ghost use Rattle.blk_object.specs.RemovingObjects.{FindsEither};
+
+use crate::counters::count_less;
+use crate::removing::take_out;
+use blk_addr::Addr;
+use blk_chain::Found;
+use blk_disk::BlockFiles;
+use blk_io::{Fault, Folder};
+
+// The place of the state in a record, in bytes.
+const STATE: u32 = 20;
+
+// The state of the record of a doomed object.
+const DOOMED: u32 = 2;
+
+/// Gives the record of an object that a handle names, all of whose items are out, the state of a doomed one, by a
+/// sealed update: one folder call reads it, and three write.
+///
+/// A damage is a record that has too few bytes or doesn't check, and nothing is written then.
+pub fn doom_record<F: Folder>(f: &mut F, files: &BlockFiles, entry: Addr) -> Result<(), Fault>
+    requires kind { kind_of entry ≡ blocks_256 }
+    requires stands { IsTrue (stands_among files.now entry) }
+    requires is_open { ForSome (F.told f.old).files (IsOpen files.now) }
+
+    // Where it loads yet, by itself, it loads as a doomed object in the end: so the state with it doomed is kept, with its words in it.
+    ensures doomed { OnOk result (ForSome (F.told f.old).files (λ from. ForEachOut entry from (λ state layout number object loaded chains unlinked. ForSome (F.told f.new).files (IsDoomedOut state layout number object loaded chains unlinked from)))) }
+
+    // At each word what is at rest with it doomed is found.
+    ensures stops { ForSome (F.told f.old).files (λ from. ForEachOut entry from (λ state layout number object loaded chains unlinked. Passes (F.told f.old) (F.told f.new) (Finds (rest (doomed number state (Some object)))))) }
+
+    ensures is_open { ForSome (F.told f.new).files (IsOpen files.now) }
+
+    // A folder that tells its files, with such an object, gives no damage.
+    ensures untold { ForSome (F.told f.old).files (λ from. ForEachOut entry from (λ state layout number object loaded chains unlinked. IfDamaged result (λ _. (F.told f.old).files ≡ None))) }
+
+    ensures silent { (F.told f.old).files ≡ None → (F.told f.new).files ≡ None }
+    ensures later { F.faults f.old ≤ F.faults f.new }
+    ensures device { IfDevice result (Rises (F.faults f.old) (F.faults f.new)) }
+{
+    files.update_sealed(f, entry, &[(STATE, DOOMED)])
+}
+
+/// Dooms a live object without parts that a handle names: its main item is taken out of the use list and of its chain,
+/// its record gets the state of a doomed one, and the index counts one entry less, with its charge, in bytes. Nothing
+/// is freed: its places stay its until the last handle is closed.
+///
+/// Its record stands in its chain behind the record before, or is the first; and it names this node. This takes as many
+/// folder calls as `take_out`, four for the record, and six for the counters.
+pub fn doom_plain<F: Folder>(
+    f: &mut F,
+    files: &BlockFiles,
+    found: &Found,
+    node: Addr,
+    charge: u64,
+) -> Result<(), Fault>
+    requires node { IsTrue (is_node_among files.now node) }
+    requires kind { kind_of found.now.entry ≡ blocks_256 }
+    requires stands { IsTrue (stands_among files.now found.now.entry) }
+    requires kind_before { IfSome found.now.before (λ before. kind_of before ≡ blocks_256) }
+    requires stands_before { IfSome found.now.before (λ before. IsTrue (stands_among files.now before)) }
+    requires is_open { ForSome (F.told f.old).files (IsOpen files.now) }
+
+    // Where all items are counted, and this is its charge, the state with it doomed is kept and counted in the end, with the same words unlinked.
+    ensures doomed { OnOk result (ForSome (F.told f.old).files (λ from. ForEachHeld node found.now.entry found.now.before from (λ state layout unlinked number object loaded. CountsItems from state layout → charge ≡ charge_of loaded → ForSome (F.told f.new).files (Keeps (doomed number state (Some object)) (layout_held layout number object loaded) unlinked)))) }
+
+    // At each word what was at rest is found, or what is at rest with it doomed.
+    ensures stops { ForSome (F.told f.old).files (λ from. ForEachHeld node found.now.entry found.now.before from (λ state layout unlinked number object loaded. Passes (F.told f.old) (F.told f.new) (FindsEither state (doomed number state (Some object))))) }
+
+    // The session is the same then.
+    ensures session { OnOk result (ForSome (F.told f.old).files (λ from. ForEachHeld node found.now.entry found.now.before from (λ state layout unlinked number object loaded. ForSome (F.told f.new).files (SameSession from)))) }
+
+    ensures is_open { ForSome (F.told f.new).files (IsOpen files.now) }
+
+    // A folder that tells its files, with such an object, gives no damage.
+    ensures untold { ForSome (F.told f.old).files (λ from. ForEachHeld node found.now.entry found.now.before from (λ state layout unlinked number object loaded. IfDamaged result (λ _. (F.told f.old).files ≡ None))) }
+
+    ensures silent { (F.told f.old).files ≡ None → (F.told f.new).files ≡ None }
+    ensures later { F.faults f.old ≤ F.faults f.new }
+    ensures device { IfDevice result (Rises (F.faults f.old) (F.faults f.new)) }
+{
+    hold_out(f, files, found, node)?;
+    count_less(f, files, charge)
+}
+
+// Takes the main item of an object without parts out, and gives its record the state of a doomed one.
+fn hold_out<F: Folder>(
+    f: &mut F,
+    files: &BlockFiles,
+    found: &Found,
+    node: Addr,
+) -> Result<(), Fault>
+    requires node { IsTrue (is_node_among files.now node) }
+    requires kind { kind_of found.now.entry ≡ blocks_256 }
+    requires stands { IsTrue (stands_among files.now found.now.entry) }
+    requires kind_before { IfSome found.now.before (λ before. kind_of before ≡ blocks_256) }
+    requires stands_before { IfSome found.now.before (λ before. IsTrue (stands_among files.now before)) }
+    requires is_open { ForSome (F.told f.old).files (IsOpen files.now) }
+    ensures held { OnOk result (ForSome (F.told f.old).files (λ from. ForEachHeld node found.now.entry found.now.before from (λ state layout unlinked number object loaded. ForSome (F.told f.new).files (IsDoomedUncounted state layout unlinked number object loaded from)))) }
+    ensures stops { ForSome (F.told f.old).files (λ from. ForEachHeld node found.now.entry found.now.before from (λ state layout unlinked number object loaded. Passes (F.told f.old) (F.told f.new) (FindsEither state (doomed number state (Some object))))) }
+    ensures is_open { ForSome (F.told f.new).files (IsOpen files.now) }
+    ensures untold { ForSome (F.told f.old).files (λ from. ForEachHeld node found.now.entry found.now.before from (λ state layout unlinked number object loaded. IfDamaged result (λ _. (F.told f.old).files ≡ None))) }
+    ensures silent { (F.told f.old).files ≡ None → (F.told f.new).files ≡ None }
+    ensures later { F.faults f.old ≤ F.faults f.new }
+    ensures device { IfDevice result (Rises (F.faults f.old) (F.faults f.new)) }
+{
+    take_out(f, files, found, node)?;
+    doom_record(f, files, found.entry)
+}

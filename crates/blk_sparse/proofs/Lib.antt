@@ -1,0 +1,6 @@
+pub mod Walking
+pub mod PartsOut
+pub mod PartsNext
+pub mod PartsDropped
+pub mod ParentsRead
+pub mod ParentsOut

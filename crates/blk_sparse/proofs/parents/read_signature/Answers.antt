@@ -1,0 +1,30 @@
+use Rattle.std.proofs.Common.{◌≡◌, ◌∙◌, ℤ, sym, arith, None, Err}
+use Rattle.std.specs.Int.{cast_unsigned, w64}
+use Rattle.std.proofs.lemmas.Int.{of_z-to_z}
+use Rattle.blk_entry.proofs.KeyPlaces.{damaged_any}
+use Rattle.blk_io.proofs.Carried.{carried, untold_where}
+use Rattle.blk_object.proofs.OwnedPlaces.{loaded-checks}
+use Rattle.blk_sparse.proofs.PartsNext.{of-some}
+use Rattle.blk_sparse.proofs.ParentsRead.{none-read, signature-read, streams-there}
+use Rattle.blk_sparse.proofs.parents.read_signature.Goals as goal
+
+pub returns-in_err-len-clause-untold : goal.returns-in_err-len-clause-untold
+returns-in_err-len-clause-untold g c agrees lies =
+    carried c.read.result c.from_residual.result c.in_err-len.field-0.0 (λ _. (g.F.Folder.told c.args.f.now).files ≡ None) c.in_err-len.was c.from_residual.ensures.1
+    (c.read.ensures.untold (λ image there.
+    let l = lies image there in
+    record { agrees = agrees image there; checks = loaded-checks image c.args.entry l.loaded (g.met.F.Folder.are_bytes c.args.f.now image there) l.loads; has = record { streams = l.loaded.streams; is = streams-there image c.args.entry l.loaded l.loads } }))
+
+pub returns-in-Some-clause-signature : goal.returns-in-Some-clause-signature
+returns-in-Some-clause-signature g c image there loaded index w role =
+    let valid = of-some c.read-2.result c.in-Some.head _ c.in-Some.is c.read-2.ensures.valid in
+    let small = valid.signature in
+    signature-read image c.args.entry loaded index w role c.args.room.now c.read.new.out c.in_ok-len.len c.requires.room (c.in_ok-len.ensures.piece image there) c.read-2.result c.in-Some.head c.in-Some.is c.read-2.ensures.fields
+    ∙ sym (of_z-to_z w64 (cast_unsigned w64 c.in-Some.head.signature) (omega (arith, small)))
+
+pub returns-in-None-clause-untold : goal.returns-in-None-clause-untold
+returns-in-None-clause-untold g c agrees lies =
+    damaged_any {A = ℤ} (Err c.record_damage.result) ((g.F.Folder.told c.args.f.now).files ≡ None)
+    (untold_where (g.F.Folder.told c.args.f.now).files (λ image there.
+    let l = lies image there in
+    none-read image c.args.entry l.loaded l.index l.loads l.role c.args.room.now c.read.new.out c.in_ok-len.len c.requires.room (c.in_ok-len.ensures.piece image there) c.read-2.result c.in-None.is c.read-2.ensures.fields))

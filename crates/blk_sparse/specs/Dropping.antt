@@ -1,0 +1,122 @@
+-- The parts of an object go after its main item, one after another, in the order of the use list.
+use Rattle.std.specs.Prelude.{◌≡◌, ℕ, List, ◌∷◌, ◌++◌, Bool, Option, None, Some, filter, length, true}
+use Rattle.std.specs.List.{FoldsTo}
+use Rattle.blk_image.specs.Image.{Image}
+use Rattle.blk_model.specs.Items.{Item, main, part}
+use Rattle.blk_model.specs.State.{Object, State, object_at}
+use Rattle.blk_format.specs.SparseIndex.{ParentIndex}
+use Rattle.blk_volume.specs.Entries.{IsParent}
+use Rattle.blk_volume.specs.Found.{charge_of}
+use Rattle.blk_volume.specs.Layout.{Layout, is_listed, nodes_of}
+use Rattle.blk_volume.specs.Loads.{Loaded}
+use Rattle.blk_volume.specs.Removal.{is_of_another}
+use Rattle.blk_lru.specs.Lists.{last_node_of}
+use Rattle.blk_kept.specs.CountsOfParts.{charges_at}
+use Rattle.blk_kept.specs.PartlyOut.{KeepsPartlyOut, keeps_but}
+use Rattle.blk_kept.specs.PartlyOutStops.{LeavesOtherKeys}
+use Rattle.blk_object.specs.ListedParts.{HaveNoPart}
+use Rattle.blk_object.specs.RemovingNext.{CountsLeft}
+use Rattle.blk_sparse.specs.declared.dropping.Dropped.{Dropped}
+use Rattle.blk_sparse.specs.declared.dropping.Gone.{Gone}
+
+-- Where parts go.
+
+-- the main item of a key, out or not, has a parent's index with this signature
+pub record HasSignature (layout : Layout) (key : List ℕ) (signature : ℕ) : Type 0 where
+  pub was : Loaded
+  pub here : layout.at (layout.place (main key)) ≡ Some was
+  pub index : ParentIndex
+  pub role : was.role ≡ IsParent index
+  pub same : index.signature ≡ signature
+
+-- the main item of an object with a key is out, and perhaps parts of it, no item of another key is, and what is left is counted
+pub record AreLeft (state : State) (layout : Layout) (keep : Item → Bool) (chains : ℕ → List ℕ) (unlinked : List ℕ) (key : List ℕ) (number : ℕ) (object : Object) (image : Image) : Type 0 where
+  pub kept : KeepsPartlyOut state layout keep chains unlinked image
+  pub counted : CountsLeft state layout keep image
+  pub here : object_at state number ≡ Some object
+  pub of_key : object.key ≡ key
+  pub others : LeavesOtherKeys key keep
+
+-- what holds wherever that is so, with a signature by which the parts are named
+abbrev pub ForEachLeft : (key : List ℕ) (signature : ℕ) → Image → (State → Layout → (keep : Item → Bool) → List ℕ → ℕ → Object → Type 0) → Type 0
+ForEachLeft key signature from P =
+    (state : State) (layout : Layout) (keep : Item → Bool) (chains : ℕ → List ℕ) (unlinked : List ℕ) (number : ℕ) (object : Object)
+    → AreLeft state layout keep chains unlinked key number object from → HasSignature layout key signature
+    → P state layout keep unlinked number object
+
+-- What is told of them.
+
+-- these items went, with their charges
+pub record AreGone (layout : Layout) (items : List Item) (gone : Gone) : Type 0 where
+  pub many : gone.items ≡ length items
+  pub charged : gone.bytes ≡ charges_at layout (nodes_of layout items)
+
+-- a closure was called with a front of some numbers, one after another
+pub record IsCalledAtFront (E : Type 0) (call : E → ℕ → E → Type 0) (numbers : List ℕ) (old new : E) : Type 0 where
+  pub front : List ℕ
+  pub others : List ℕ
+  pub split : numbers ≡ front ++ others
+  pub called : FoldsTo call old front new
+
+-- In the end.
+
+-- all items of a key are out, and what is left is counted
+pub record IsWholeOut (state : State) (layout : Layout) (unlinked key : List ℕ) (image : Image) : Type 0 where
+  pub chains : ℕ → List ℕ
+  pub kept : KeepsPartlyOut state layout (is_of_another key) chains unlinked image
+  pub counted : CountsLeft state layout (is_of_another key) image
+
+-- One part after another.
+
+-- none of the items of a list up to this node, the first of them or further ones, is a part of a key; these are behind it
+pub record IsBehind (layout : Layout) (key : List ℕ) (all : List Item) (node : Option ℕ) : Type 0 where
+  pub front : List Item
+  pub items : List Item
+  pub split : all ≡ front ++ items
+  pub none : HaveNoPart key front
+  pub last : node ≡ last_node_of (nodes_of layout front)
+
+-- what holds wherever parts are left, and those that are left are behind a node, or none is given and they are anywhere
+abbrev pub ForEachBehind : (key : List ℕ) (signature : ℕ) (node : Option ℕ) → Image → ((state : State) (layout : Layout) (keep : Item → Bool) → List ℕ → ℕ → Object → IsBehind layout key (filter keep state.uses) node → Type 0) → Type 0
+ForEachBehind key signature node from P =
+    (state : State) (layout : Layout) (keep : Item → Bool) (chains : ℕ → List ℕ) (unlinked : List ℕ) (number : ℕ) (object : Object)
+    → AreLeft state layout keep chains unlinked key number object from → HasSignature layout key signature → (is : IsBehind layout key (filter keep state.uses) node)
+    → P state layout keep unlinked number object is
+
+-- the first of the parts behind a node is out too: this number, with its charge, behind this node
+pub record IsNextOut (state : State) (layout : Layout) (keep : Item → Bool) (unlinked key : List ℕ) (number : ℕ) (object : Object) (front items : List Item) (dropped : Dropped) (image : Image) : Type 0 where
+  pub passed : List Item
+  pub behind : List Item
+  pub split : items ≡ passed ++ part key dropped.number ∷ behind
+  pub none : HaveNoPart key passed
+  pub last : dropped.behind ≡ last_node_of (nodes_of layout (front ++ passed))
+  pub was : Loaded
+  pub here : layout.at (layout.place (part key dropped.number)) ≡ Some was
+  pub charge_is : dropped.charge ≡ charge_of was
+  pub chains : ℕ → List ℕ
+  pub left : AreLeft state layout (keeps_but keep (part key dropped.number)) chains unlinked key number object image
+
+-- or none of the items behind the node is a part of the key, and all is as before
+abbrev pub IsDropOfNext : (state : State) (layout : Layout) (keep : Item → Bool) (unlinked key : List ℕ) (number : ℕ) (object : Object) (front items : List Item) (next : Option Dropped) (from image : Image) → Type 0
+IsDropOfNext state layout keep unlinked key number object front items None from image = HaveNoPart key items × (image ≡ from)
+IsDropOfNext state layout keep unlinked key number object front items (Some dropped) from image = IsNextOut state layout keep unlinked key number object front items dropped image
+
+-- a part that isn't out lies at a node
+pub record IsPartLeft (state : State) (layout : Layout) (keep : Item → Bool) (key : List ℕ) (n node : ℕ) : Type 0 where
+  pub listed : is_listed state (part key n) ≡ true
+  pub stays : keep (part key n) ≡ true
+  pub was : Loaded
+  pub here : layout.at (layout.place (part key n)) ≡ Some was
+  pub node_is : layout.place (part key n) ≡ node
+
+-- what holds wherever parts are left, of one of them that lies at a node
+abbrev pub ForEachPartLeft : (key : List ℕ) (signature n node : ℕ) → Image → ((state : State) (layout : Layout) (keep : Item → Bool) → List ℕ → ℕ → Object → Loaded → Type 0) → Type 0
+ForEachPartLeft key signature n node from P =
+    (state : State) (layout : Layout) (keep : Item → Bool) (chains : ℕ → List ℕ) (unlinked : List ℕ) (number : ℕ) (object : Object)
+    → AreLeft state layout keep chains unlinked key number object from → HasSignature layout key signature → (p : IsPartLeft state layout keep key n node)
+    → P state layout keep unlinked number object p.was
+
+-- it is out too, in chains that are some
+pub record IsPartOut (state : State) (layout : Layout) (keep : Item → Bool) (unlinked key : List ℕ) (number : ℕ) (object : Object) (n : ℕ) (image : Image) : Type 0 where
+  pub chains : ℕ → List ℕ
+  pub left : AreLeft state layout (keeps_but keep (part key n)) chains unlinked key number object image

@@ -1,0 +1,189 @@
+// The parts of a key go.
+ghost use Rattle.std.specs.Prelude.{◌≡◌, ◌≤◌, ◌<◌, ◌^◌, ℕ, IfOk, IfSome, IsTrue, List, None, OnOk, Some, filter, length, map};
+ghost use Rattle.std.specs.Int.{cast_unsigned, w64};
+ghost use Rattle.std.specs.List.{FoldsTo};
+ghost use Rattle.std.specs.Option.{ForSome};
+ghost use Rattle.blk_image.specs.Told.{Passes, Rises};
+ghost use Rattle.blk_model.specs.Effects.{doomed};
+ghost use Rattle.blk_model.specs.Holding.{rest};
+ghost use Rattle.blk_model.specs.Items.{part};
+ghost use Rattle.blk_model.specs.Room.{parts_among};
+ghost use Rattle.blk_model.specs.Sizes.{longest_key, part_count, signatures};
+ghost use Rattle.blk_format.specs.Address.{blocks_256, kind_of};
+ghost use Rattle.blk_format.specs.Names.{longest_name};
+ghost use Rattle.blk_volume.specs.Found.{charge_of};
+ghost use Rattle.blk_io.specs.Faults.{IfDamaged, IfDevice};
+ghost use Rattle.blk_disk.specs.Open.{IsOpen};
+ghost use Rattle.blk_disk.specs.Tables.{is_node_among, stands_among};
+ghost use Rattle.blk_kept.specs.Changes.{Finds, SameSession};
+ghost use Rattle.blk_object.specs.UnlinkedLoads.{KeepsUnlinked};
+ghost use Rattle.blk_sparse.specs.Dropping.{AreGone, ForEachBehind, ForEachLeft, ForEachPartLeft, IsCalledAtFront, IsDropOfNext, IsPartOut, IsWholeOut};
+
+use blk_addr::Addr;
+use blk_chain::find;
+use blk_disk::BlockFiles;
+use blk_entry::record_damage;
+use blk_io::{Fault, Folder};
+use blk_lru::before;
+use blk_object::{ListedPart, next_part, remove_part};
+use blk_ranges::child_name;
+use blk_record::EntryView;
+
+// The most nodes of a use list.
+const MOST_NODES: u32 = 131_072;
+
+/// How many items went, and the bytes that they were charged.
+#[derive(Clone, Copy, Debug, PartialEq, Eq)]
+pub struct Gone {
+    pub items: u64,
+    pub bytes: u64,
+}
+
+// A part that went: its number, its charge, and the node that was before its own, if there was one.
+#[derive(Clone, Copy, Debug)]
+struct Dropped {
+    number: u32,
+    charge: u64,
+    behind: Option<Addr>,
+}
+
+/// Drops the parts of a key, after its main item went: each is taken out, its places are freed, and it is counted no
+/// longer; and then `each` is called with its number. They go in the order of the use list, in one walk over it.
+///
+/// The signature is that of the index of the key's main item, and the names of the parts are made in `room`. This takes
+/// three folder calls for each item of the list, two more for a part of any key, and those of `find` and `remove_part`
+/// for each part that goes. A part that its name doesn't find is a damage, of the hash of its record.
+pub fn drop_parts_with<F: Folder, E: FnMut(u32)>(
+    f: &mut F,
+    files: &BlockFiles,
+    key: &[u8],
+    signature: i64,
+    room: &mut [u8],
+    each: &mut E,
+) -> Result<Gone, Fault>
+    requires some { 1 ≤ length key.now }
+    requires short { length key.now ≤ longest_key }
+    requires signature { cast_unsigned w64 signature < signatures }
+    requires room { longest_name ≤ length room.old }
+    requires callable { E.IsAlwaysCallable each.old }
+    requires is_open { ForSome (F.told f.old).files (IsOpen files.now) }
+
+    // Where the main item of an object is out, and perhaps parts of it, and what is left is counted, all its items are out in the end, in the same session. How many went is told, and what they were charged.
+    ensures out { OnOk result (ForSome (F.told f.old).files (λ from. ForEachLeft key.now (cast_unsigned w64 signature) from (λ state layout keep unlinked number object. ForSome (F.told f.new).files (IsWholeOut state layout unlinked key.now)))) }
+    ensures gone { IfOk result (λ gone. ForSome (F.told f.old).files (λ from. ForEachLeft key.now (cast_unsigned w64 signature) from (λ state layout keep unlinked number object. AreGone layout (map (part key.now) (parts_among key.now (filter keep state.uses))) gone))) }
+    ensures session { OnOk result (ForSome (F.told f.old).files (λ from. ForEachLeft key.now (cast_unsigned w64 signature) from (λ state layout keep unlinked number object. ForSome (F.told f.new).files (SameSession from)))) }
+
+    // What lies in places that were unlinked at first, as those of the main item, lies there still.
+    ensures keeps { OnOk result (ForSome (F.told f.old).files (λ from. ForEachLeft key.now (cast_unsigned w64 signature) from (λ state layout keep unlinked number object. ForSome (F.told f.new).files (KeepsUnlinked unlinked from)))) }
+
+    // No more parts go than a list has nodes, each charged less than 2^34 bytes.
+    ensures few { IfOk result (λ gone. gone.items ≤ 131072) }
+    ensures light { IfOk result (λ gone. gone.bytes ≤ 2 ^ 51) }
+
+    // `each` was called with the numbers of the parts that were left, in the order of the list, once each; or with a front of them.
+    ensures each { OnOk result (ForSome (F.told f.old).files (λ from. ForEachLeft key.now (cast_unsigned w64 signature) from (λ state layout keep unlinked number object. FoldsTo (λ p x q. E.step p x tt q) each.old (parts_among key.now (filter keep state.uses)) each.new))) }
+    ensures front { ForSome (F.told f.old).files (λ from. ForEachLeft key.now (cast_unsigned w64 signature) from (λ state layout keep unlinked number object. IsCalledAtFront E (λ p x q. E.step p x tt q) (parts_among key.now (filter keep state.uses)) each.old each.new)) }
+
+    // On every folder it was called with some numbers.
+    ensures calls { (numbers : List ℕ) × FoldsTo (λ p x q. E.step p x tt q) each.old numbers each.new }
+
+    // At each word what is at rest with the object doomed is found.
+    ensures stops { ForSome (F.told f.old).files (λ from. ForEachLeft key.now (cast_unsigned w64 signature) from (λ state layout keep unlinked number object. Passes (F.told f.old) (F.told f.new) (Finds (rest (doomed number state (Some object)))))) }
+
+    ensures is_open { ForSome (F.told f.new).files (IsOpen files.now) }
+
+    // A folder that tells its files, in which parts are left so, gives no damage.
+    ensures untold { ForSome (F.told f.old).files (λ from. ForEachLeft key.now (cast_unsigned w64 signature) from (λ state layout keep unlinked number object. IfDamaged result (λ _. (F.told f.old).files ≡ None))) }
+
+    ensures silent { (F.told f.old).files ≡ None → (F.told f.new).files ≡ None }
+    ensures later { F.faults f.old ≤ F.faults f.new }
+    ensures device { IfDevice result (Rises (F.faults f.old) (F.faults f.new)) }
+{
+    let mut gone = Gone { items: 0, bytes: 0 };
+    let mut behind = None;
+    for _ in 0..MOST_NODES {
+        let Some(dropped) = drop_next(f, files, key, signature, behind, room)? else {
+            return Ok(gone);
+        };
+        gone.items += 1;
+        gone.bytes += dropped.charge;
+        behind = dropped.behind;
+        each(dropped.number);
+    }
+    Ok(gone)
+}
+
+// Drops the first part of a key behind a node, or from the front of the list on, if there is one.
+fn drop_next<F: Folder>(
+    f: &mut F,
+    files: &BlockFiles,
+    key: &[u8],
+    signature: i64,
+    from: Option<Addr>,
+    room: &mut [u8],
+) -> Result<Option<Dropped>, Fault>
+    requires some { 1 ≤ length key.now }
+    requires short { length key.now ≤ longest_key }
+    requires signature { cast_unsigned w64 signature < signatures }
+    requires from { IfSome from (λ node. IsTrue (is_node_among files.now node)) }
+    requires room { longest_name ≤ length room.old }
+    requires is_open { ForSome (F.told f.old).files (IsOpen files.now) }
+    ensures next { IfOk result (λ next. ForSome (F.told f.old).files (λ image. ForEachBehind key.now (cast_unsigned w64 signature) from image (λ state layout keep unlinked number object is. ForSome (F.told f.new).files (IsDropOfNext state layout keep unlinked key.now number object is.front is.items next image)))) }
+    ensures small { IfOk result (λ next. IfSome next (λ dropped. dropped.charge < 2 ^ 34)) }
+    ensures stands { IfOk result (λ next. IfSome next (λ dropped. IfSome dropped.behind (λ node. IsTrue (is_node_among files.now node)))) }
+    ensures session { OnOk result (ForSome (F.told f.old).files (λ image. ForEachBehind key.now (cast_unsigned w64 signature) from image (λ state layout keep unlinked number object is. ForSome (F.told f.new).files (SameSession image)))) }
+    ensures keeps { OnOk result (ForSome (F.told f.old).files (λ image. ForEachBehind key.now (cast_unsigned w64 signature) from image (λ state layout keep unlinked number object is. ForSome (F.told f.new).files (KeepsUnlinked unlinked image)))) }
+    ensures stops { ForSome (F.told f.old).files (λ image. ForEachBehind key.now (cast_unsigned w64 signature) from image (λ state layout keep unlinked number object is. Passes (F.told f.old) (F.told f.new) (Finds (rest (doomed number state (Some object)))))) }
+    ensures is_open { ForSome (F.told f.new).files (IsOpen files.now) }
+    ensures untold { ForSome (F.told f.old).files (λ image. ForEachBehind key.now (cast_unsigned w64 signature) from image (λ state layout keep unlinked number object is. IfDamaged result (λ _. (F.told f.old).files ≡ None))) }
+    ensures silent { (F.told f.old).files ≡ None → (F.told f.new).files ≡ None }
+    ensures later { F.faults f.old ≤ F.faults f.new }
+    ensures device { IfDevice result (Rises (F.faults f.old) (F.faults f.new)) }
+{
+    let Some(part) = next_part(f, files, key, from, room)? else {
+        return Ok(None);
+    };
+    let behind = before(f, files, part.node)?;
+    let charge = drop_part(f, files, key, signature, &part, room)?;
+    Ok(Some(Dropped {
+        number: part.number,
+        charge,
+        behind,
+    }))
+}
+
+// Drops a part, which its name finds in its chain. Its charge is given.
+fn drop_part<F: Folder>(
+    f: &mut F,
+    files: &BlockFiles,
+    key: &[u8],
+    signature: i64,
+    part: &ListedPart,
+    room: &mut [u8],
+) -> Result<u64, Fault>
+    requires some { 1 ≤ length key.now }
+    requires short { length key.now ≤ longest_key }
+    requires signature { cast_unsigned w64 signature < signatures }
+    requires number { part.now.number < part_count }
+    requires node { IsTrue (is_node_among files.now part.now.node) }
+    requires kind { kind_of part.now.entry ≡ blocks_256 }
+    requires room { longest_name ≤ length room.old }
+    requires is_open { ForSome (F.told f.old).files (IsOpen files.now) }
+    ensures out { OnOk result (ForSome (F.told f.old).files (λ from. ForEachPartLeft key.now (cast_unsigned w64 signature) part.now.number part.now.node from (λ state layout keep unlinked number object was. ForSome (F.told f.new).files (IsPartOut state layout keep unlinked key.now number object part.now.number)))) }
+    ensures charge { IfOk result (λ charge. ForSome (F.told f.old).files (λ from. ForEachPartLeft key.now (cast_unsigned w64 signature) part.now.number part.now.node from (λ state layout keep unlinked number object was. charge ≡ charge_of was))) }
+    ensures small { IfOk result (λ charge. charge < 2 ^ 34) }
+    ensures session { OnOk result (ForSome (F.told f.old).files (λ from. ForEachPartLeft key.now (cast_unsigned w64 signature) part.now.number part.now.node from (λ state layout keep unlinked number object was. ForSome (F.told f.new).files (SameSession from)))) }
+    ensures keeps { OnOk result (ForSome (F.told f.old).files (λ from. ForEachPartLeft key.now (cast_unsigned w64 signature) part.now.number part.now.node from (λ state layout keep unlinked number object was. ForSome (F.told f.new).files (KeepsUnlinked unlinked from)))) }
+    ensures stops { ForSome (F.told f.old).files (λ from. ForEachPartLeft key.now (cast_unsigned w64 signature) part.now.number part.now.node from (λ state layout keep unlinked number object was. Passes (F.told f.old) (F.told f.new) (Finds (rest (doomed number state (Some object)))))) }
+    ensures is_open { ForSome (F.told f.new).files (IsOpen files.now) }
+    ensures untold { ForSome (F.told f.old).files (λ from. ForEachPartLeft key.now (cast_unsigned w64 signature) part.now.number part.now.node from (λ state layout keep unlinked number object was. IfDamaged result (λ _. (F.told f.old).files ≡ None))) }
+    ensures silent { (F.told f.old).files ≡ None → (F.told f.new).files ≡ None }
+    ensures later { F.faults f.old ≤ F.faults f.new }
+    ensures device { IfDevice result (Rises (F.faults f.old) (F.faults f.new)) }
+{
+    let len = child_name(key, signature, part.number, room);
+    let Some(found) = find(f, files, &room[..len], true)? else {
+        return Err(record_damage(part.entry, EntryView::HASH, 0));
+    };
+    remove_part(f, files, &found, part.node)
+}

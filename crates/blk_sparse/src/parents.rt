@@ -1,0 +1,163 @@
+// An object with an index goes with its parts.
+ghost use Rattle.std.specs.Prelude.{◌≡◌, ◌≤◌, ◌<◌, ◌^◌, ℕ, All, IfOk, IfSome, IsTrue, List, None, OnOk, Some, filter, length, map};
+ghost use Rattle.std.specs.Int.{cast_unsigned, w64};
+ghost use Rattle.std.specs.List.{FoldsTo};
+ghost use Rattle.std.specs.Option.{ForSome};
+ghost use Rattle.blk_image.specs.Told.{Passes, Rises, Stays};
+ghost use Rattle.blk_model.specs.Effects.{doomed};
+ghost use Rattle.blk_model.specs.Holding.{rest};
+ghost use Rattle.blk_model.specs.Items.{part};
+ghost use Rattle.blk_model.specs.Room.{parts_among};
+ghost use Rattle.blk_model.specs.Sizes.{longest_key, signatures};
+ghost use Rattle.blk_format.specs.Address.{blocks_256, kind_of};
+ghost use Rattle.blk_format.specs.Names.{longest_name};
+ghost use Rattle.blk_format.specs.SparseIndex.{ParentIndex};
+ghost use Rattle.blk_volume.specs.Entries.{IsParent};
+ghost use Rattle.blk_volume.specs.Loads.{Loaded};
+ghost use Rattle.blk_io.specs.Faults.{IfDamaged, IfDevice};
+ghost use Rattle.blk_disk.specs.Open.{IsOpen};
+ghost use Rattle.blk_disk.specs.Tables.{Agrees, is_node_among, stands_among};
+ghost use Rattle.blk_kept.specs.Changes.{Finds, SameSession};
+ghost use Rattle.blk_object.specs.Freeing.{IsPlaceAmong, words_at};
+ghost use Rattle.blk_object.specs.Owning.{LoadsWith};
+ghost use Rattle.blk_object.specs.RemovingObjects.{FindsEither};
+ghost use Rattle.blk_sparse.specs.Dropping.{IsCalledAtFront, IsWholeOut};
+ghost use Rattle.blk_sparse.specs.Parents.{AreGoneBeside, ForEachParent, ForEachRest, IsGoneWhole, IsGroupTold, LoadsAsParent};
+
+use crate::dropping::{Gone, drop_parts_with};
+use blk_addr::Addr;
+use blk_chain::Found;
+use blk_disk::BlockFiles;
+use blk_entry::record_damage;
+use blk_io::{Fault, Folder};
+use blk_object::{Owned, free_owned, read_owned, take_main};
+use blk_ranges::ParentHead;
+use blk_record::EntryView;
+use blk_stream::read;
+
+// The stream in which an index is.
+const INDEX: u8 = 2;
+
+// The flags of the record of a parent.
+const PARENT: u32 = 1;
+
+/// Removes an object with an index, a parent, which no handle names, with its parts: its main item is taken out and
+/// counted no longer, then each part goes, as `drop_parts_with` says, and the main item's own places are freed last.
+/// How many items went is given, the main one too, and what they were charged.
+///
+/// Its record stands in its chain behind the record before, or is the first; and it names this node. The index is
+/// read into `room`, and then the names of parts are made there. This takes as many folder calls as `take_main` and
+/// `drop_parts_with`, three more, and seven for each place of the main item.
+pub fn remove_parent_with<F: Folder, E: FnMut(u32)>(
+    f: &mut F,
+    files: &BlockFiles,
+    found: &Found,
+    node: Addr,
+    key: &[u8],
+    room: &mut [u8],
+    each: &mut E,
+) -> Result<Gone, Fault>
+    requires node { IsTrue (is_node_among files.now node) }
+    requires kind { kind_of found.now.entry ≡ blocks_256 }
+    requires stands { IsTrue (stands_among files.now found.now.entry) }
+    requires kind_before { IfSome found.now.before (λ before. kind_of before ≡ blocks_256) }
+    requires stands_before { IfSome found.now.before (λ before. IsTrue (stands_among files.now before)) }
+    requires some { 1 ≤ length key.now }
+    requires short { length key.now ≤ longest_key }
+    requires room { longest_name ≤ length room.old }
+    requires callable { E.IsAlwaysCallable each.old }
+    requires is_open { ForSome (F.told f.old).files (IsOpen files.now) }
+
+    // Where there is such an object in a state that is kept, the state with it doomed is kept in the end, in the same session. How many items went is told, and what they were charged.
+    ensures removed { OnOk result (ForSome (F.told f.old).files (λ from. ForEachParent key.now node found.now.entry found.now.before from (λ state layout unlinked number object. ForSome (F.told f.new).files (IsGoneWhole state layout unlinked number object)))) }
+    ensures gone { IfOk result (λ gone. ForSome (F.told f.old).files (λ from. ForEachParent key.now node found.now.entry found.now.before from (λ state layout unlinked number object. IsGroupTold state layout key.now gone))) }
+    ensures session { OnOk result (ForSome (F.told f.old).files (λ from. ForEachParent key.now node found.now.entry found.now.before from (λ state layout unlinked number object. ForSome (F.told f.new).files (SameSession from)))) }
+
+    // `each` was called with the numbers of its parts, in the order of the use list, once each; or with a front of them.
+    ensures each { OnOk result (ForSome (F.told f.old).files (λ from. ForEachParent key.now node found.now.entry found.now.before from (λ state layout unlinked number object. FoldsTo (λ p x q. E.step p x tt q) each.old (parts_among key.now state.uses) each.new))) }
+    ensures front { ForSome (F.told f.old).files (λ from. ForEachParent key.now node found.now.entry found.now.before from (λ state layout unlinked number object. IsCalledAtFront E (λ p x q. E.step p x tt q) (parts_among key.now state.uses) each.old each.new)) }
+
+    // On every folder it was called with some numbers.
+    ensures calls { (numbers : List ℕ) × FoldsTo (λ p x q. E.step p x tt q) each.old numbers each.new }
+
+    // At each word what was at rest is found, or what is at rest with the object doomed.
+    ensures stops { ForSome (F.told f.old).files (λ from. ForEachParent key.now node found.now.entry found.now.before from (λ state layout unlinked number object. Passes (F.told f.old) (F.told f.new) (FindsEither state (doomed number state (Some object))))) }
+
+    ensures is_open { ForSome (F.told f.new).files (IsOpen files.now) }
+
+    // A folder that tells its files, with such an object, gives no damage.
+    ensures untold { ForSome (F.told f.old).files (λ from. ForEachParent key.now node found.now.entry found.now.before from (λ state layout unlinked number object. IfDamaged result (λ _. (F.told f.old).files ≡ None))) }
+
+    ensures silent { (F.told f.old).files ≡ None → (F.told f.new).files ≡ None }
+    ensures later { F.faults f.old ≤ F.faults f.new }
+    ensures device { IfDevice result (Rises (F.faults f.old) (F.faults f.new)) }
+{
+    let owned = read_owned(f, files, found.entry)?;
+    let signature = read_signature(f, files, found.entry, room)?;
+    take_main(f, files, found, node, owned.charge)?;
+    drop_and_free(f, files, key, signature, &owned, room, each)
+}
+
+// Reads the signature of the index of a parent, by two folder calls. The index is read into `room`.
+fn read_signature<F: Folder>(
+    f: &mut F,
+    files: &BlockFiles,
+    entry: Addr,
+    room: &mut [u8],
+) -> Result<i64, Fault>
+    requires kind { kind_of entry ≡ blocks_256 }
+    requires stands { IsTrue (stands_among files.now entry) }
+    requires room { longest_name ≤ length room.old }
+    ensures signature { IfOk result (λ signature. ForSome (F.told f.old).files (λ image. (loaded : Loaded) (index : ParentIndex) → LoadsWith entry loaded image → loaded.role ≡ IsParent index → index.signature ≡ cast_unsigned w64 signature)) }
+    ensures small { IfOk result (λ signature. cast_unsigned w64 signature < signatures) }
+    ensures stays { Stays (F.told f.old) (F.told f.new) }
+    ensures untold { ForSome (F.told f.old).files (Agrees files.now) → ForSome (F.told f.old).files (LoadsAsParent entry) → IfDamaged result (λ _. (F.told f.old).files ≡ None) }
+    ensures later { F.faults f.old ≤ F.faults f.new }
+    ensures device { IfDevice result (Rises (F.faults f.old) (F.faults f.new)) }
+{
+    let len = read(f, files, entry, INDEX, 0, room)?;
+    match ParentHead::read(&room[..len]) {
+        Some(head) => Ok(head.signature),
+        None => Err(record_damage(entry, EntryView::FLAGS, PARENT)),
+    }
+}
+
+// Drops the parts of an object whose main item is out, and then frees the main item's places. How many items went is
+// given, the main one too, and what they were charged.
+fn drop_and_free<F: Folder, E: FnMut(u32)>(
+    f: &mut F,
+    files: &BlockFiles,
+    key: &[u8],
+    signature: i64,
+    owned: &Owned,
+    room: &mut [u8],
+    each: &mut E,
+) -> Result<Gone, Fault>
+    requires some { 1 ≤ length key.now }
+    requires short { length key.now ≤ longest_key }
+    requires signature { cast_unsigned w64 signature < signatures }
+    requires places { All (IsPlaceAmong files.now) owned.now.places }
+    requires light { owned.now.charge < 2 ^ 34 }
+    requires room { longest_name ≤ length room.old }
+    requires callable { E.IsAlwaysCallable each.old }
+    requires is_open { ForSome (F.told f.old).files (IsOpen files.now) }
+    ensures out { OnOk result (ForSome (F.told f.old).files (λ from. ForEachRest (words_at owned.now.places) key.now (cast_unsigned w64 signature) from (λ state layout keep unlinked number object. ForSome (F.told f.new).files (IsWholeOut state layout unlinked key.now)))) }
+    ensures gone { IfOk result (λ gone. ForSome (F.told f.old).files (λ from. ForEachRest (words_at owned.now.places) key.now (cast_unsigned w64 signature) from (λ state layout keep unlinked number object. AreGoneBeside layout (map (part key.now) (parts_among key.now (filter keep state.uses))) owned.now.charge gone))) }
+    ensures session { OnOk result (ForSome (F.told f.old).files (λ from. ForEachRest (words_at owned.now.places) key.now (cast_unsigned w64 signature) from (λ state layout keep unlinked number object. ForSome (F.told f.new).files (SameSession from)))) }
+    ensures each { OnOk result (ForSome (F.told f.old).files (λ from. ForEachRest (words_at owned.now.places) key.now (cast_unsigned w64 signature) from (λ state layout keep unlinked number object. FoldsTo (λ p x q. E.step p x tt q) each.old (parts_among key.now (filter keep state.uses)) each.new))) }
+    ensures front { ForSome (F.told f.old).files (λ from. ForEachRest (words_at owned.now.places) key.now (cast_unsigned w64 signature) from (λ state layout keep unlinked number object. IsCalledAtFront E (λ p x q. E.step p x tt q) (parts_among key.now (filter keep state.uses)) each.old each.new)) }
+    ensures calls { (numbers : List ℕ) × FoldsTo (λ p x q. E.step p x tt q) each.old numbers each.new }
+    ensures stops { ForSome (F.told f.old).files (λ from. ForEachRest (words_at owned.now.places) key.now (cast_unsigned w64 signature) from (λ state layout keep unlinked number object. Passes (F.told f.old) (F.told f.new) (Finds (rest (doomed number state (Some object)))))) }
+    ensures is_open { ForSome (F.told f.new).files (IsOpen files.now) }
+    ensures untold { ForSome (F.told f.old).files (λ from. ForEachRest (words_at owned.now.places) key.now (cast_unsigned w64 signature) from (λ state layout keep unlinked number object. IfDamaged result (λ _. (F.told f.old).files ≡ None))) }
+    ensures silent { (F.told f.old).files ≡ None → (F.told f.new).files ≡ None }
+    ensures later { F.faults f.old ≤ F.faults f.new }
+    ensures device { IfDevice result (Rises (F.faults f.old) (F.faults f.new)) }
+{
+    let parts = drop_parts_with(f, files, key, signature, room, each)?;
+    free_owned(f, files, owned)?;
+    Ok(Gone {
+        items: parts.items + 1,
+        bytes: parts.bytes + owned.charge,
+    })
+}
