@@ -53,7 +53,7 @@ use Rattle.blk_object.proofs.FoundLeft.{listed-found}
 use Rattle.blk_object.proofs.OwnedPlaces.{kept-load}
 use Rattle.blk_object.proofs.PartNames.{all-piece, head-flags, key-short, key-there}
 use Rattle.blk_object.proofs.PlainObjects.{no-listed, plain-alone}
-use Rattle.blk_cache.specs.declared.sparse_stub.Gone.{Gone}
+use Rattle.blk_sparse.specs.declared.dropping.Gone.{Gone}
 use Rattle.blk_cache.specs.declared.item_names.EntryKind.{EntryKind}
 use Rattle.blk_cache.specs.declared.item_names.EntryKind.TheVariants as kinds
 use Rattle.blk_cache.specs.declared.item_names.Named.{Named}

@@ -29,13 +29,13 @@ use Rattle.blk_kept.specs.Keeping.{Keeps, KeepsUncounted}
 use Rattle.blk_kept.proofs.GroupsGone.{whole-groups-go}
 use Rattle.blk_object.specs.FindingOut.{is_child_item}
 use Rattle.blk_object.specs.Removing.{LiesBehind}
-use Rattle.blk_cache.specs.declared.sparse_stub.Gone.{Gone}
+use Rattle.blk_sparse.specs.declared.dropping.Gone.{Gone}
 use Rattle.blk_cache.specs.declared.item_names.EntryKind.TheVariants as kinds
 use Rattle.blk_cache.specs.declared.room_search.Unpinned.{Unpinned}
 use Rattle.blk_cache.specs.EvictingGroups.{GoesAs, IsGroupOut, kind_of_role, text_of_parts}
 use Rattle.blk_cache.specs.RoomKept.{NamedObjectsStay}
 use Rattle.blk_cache.specs.RoomLaws.{IsLastUnpinned, group_for, item_charge}
-use Rattle.blk_cache.specs.SparseStub.{IsGoneWhole, IsGroupTold, MayGoWhole}
+use Rattle.blk_sparse.specs.Parents.{IsGoneWhole, IsGroupTold, MayGoWhole}
 use Rattle.blk_cache.proofs.GroupsOut.{charged-is, last-listed, main-is, owner-is, owner-unnamed}
 use Rattle.blk_cache.proofs.RoomApart.{key-apart}
 use Rattle.blk_cache.proofs.RoomGroups.{parts-front}

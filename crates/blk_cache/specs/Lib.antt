@@ -15,4 +15,3 @@ pub mod RoomKept
 pub mod Evicting
 pub mod MakingRoom
 pub mod EvictingGroups
-pub mod SparseStub

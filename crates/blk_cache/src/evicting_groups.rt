@@ -20,12 +20,12 @@ ghost use Rattle.blk_object.specs.RemovingObjects.{FindsEither};
 ghost use Rattle.blk_cache.specs.EvictingGroups.{ForEachGoing, ForEachListed, ForEachOfKind, IsGroupOut, alone_kind, text_of_parts};
 ghost use Rattle.blk_cache.specs.NameRoom.{name_room};
 ghost use Rattle.blk_cache.specs.RoomPrinting.{FailsWhereItRose, Prints};
-ghost use Rattle.blk_cache.specs.SparseStub.{ForEachParent, IsGoneWhole, IsGroupTold};
+ghost use Rattle.blk_sparse.specs.Parents.{ForEachParent, IsGoneWhole, IsGroupTold};
 
 use crate::item_names::{EntryKind, read_name};
 use crate::room_printing::{say_evicted, say_evicted_part};
 use crate::room_search::Unpinned;
-use crate::sparse_stub::{Gone, remove_parent_with};
+
 use blk_addr::Addr;
 use blk_chain::{Found, find};
 use blk_disk::BlockFiles;
@@ -34,6 +34,7 @@ use blk_io::{Fault, Folder, Sink};
 use blk_object::remove_item;
 use blk_ranges::{ChildName, LONGEST_KEY, read_child_name};
 use blk_record::EntryView;
+use blk_sparse::{Gone, remove_parent_with};
 
 // The flags of the record of a part.
 const CHILD: u32 = 2;

@@ -21,7 +21,6 @@ mod room;
 mod room_laws;
 mod room_printing;
 mod room_search;
-mod sparse_stub;
 mod starting;
 mod stepping;
 mod total;

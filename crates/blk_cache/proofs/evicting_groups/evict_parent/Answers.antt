@@ -15,7 +15,7 @@ use Rattle.blk_chain.proofs.Heads.{names-parts}
 use Rattle.blk_entry.proofs.KeyPlaces.{err_damaged}
 use Rattle.blk_lru.proofs.Conditions.{told_now}
 use Rattle.blk_object.specs.RemovingObjects.{FindsEither}
-use Rattle.blk_cache.specs.declared.sparse_stub.Gone.{Gone}
+use Rattle.blk_sparse.specs.declared.dropping.Gone.{Gone}
 use Rattle.blk_cache.specs.EvictingGroups.{text_of_parts}
 use Rattle.blk_cache.specs.RoomLaws.{group_for}
 use Rattle.blk_cache.specs.RoomPrinting.{Prints}
