@@ -1,4 +1,4 @@
-use Rattle.std.proofs.Common.{[], ◌≡◌, ◌∙◌, ◌++◌, inr, ap, sym, subst, arith, ℕ, List, None, Some, map}
+use Rattle.std.proofs.Common.{[], ◌≡◌, ◌∙◌, ◌++◌, inr, refl, ap, sym, subst, arith, ℕ, List, None, Some, map}
 use Rattle.std.specs.List.{FoldsTo}
 use Rattle.std.specs.Int.{cast_unsigned, w64}
 use Rattle.std.proofs.lemmas.Int.{of_z-to_z}
