@@ -127,6 +127,10 @@ module _ (state : State) (layout : Layout) (image : Image) (found : Unpinned) (k
   pub whole-no-key : no_key key ≡ false
   whole-no-key = let some = whole-key.some in let short = whole-key.short in grind (arith, nat_tests)
 
+  unnamed-is : is_named state whole-owner.number ≡ false
+  unfolding whole-owner main-listed main-here
+  unnamed-is = owner-unnamed state layout [] image is.kept.entries (main key) is.last.loaded main-listed main-here key refl whole-last.unpinned
+
   module _ (entry : ℕ) (before : Option ℕ) (entry_is : is.last.loaded.contents ≡ entry) (lies : LiesBehind state layout is.last.item is.last.loaded before) where
     pub may-go : MayGoWhole state layout [] whole-owner.number whole-owner.object key found.node entry before image
     may-go = record {
@@ -134,7 +138,7 @@ module _ (state : State) (layout : Layout) (image : Image) (found : Unpinned) (k
       here = whole-owner.here;
       of_key = sym own-key;
       live = owner_live whole-owner.object (main key) whole-owner.has;
-      unnamed = owner-unnamed state layout [] image is.kept.entries (main key) is.last.loaded main-listed main-here key refl whole-last.unpinned;
+      unnamed = unnamed-is;
       lies = record {
         was = is.last.loaded;
         lies = subst (λ (i : Item). LiesBehind state layout i is.last.loaded before) whole-item lies;
@@ -144,9 +148,6 @@ module _ (state : State) (layout : Layout) (image : Image) (found : Unpinned) (k
       index = (parent-role is.last.loaded.role is.kind_is).0;
       role = (parent-role is.last.loaded.role is.kind_is).1;
     }
-
-  unnamed-is : is_named state whole-owner.number ≡ false
-  unnamed-is = owner-unnamed state layout [] image is.kept.entries (main key) is.last.loaded main-listed main-here key refl whole-last.unpinned
 
   pub doomed-is : doomed whole-owner.number state (Some whole-owner.object) ≡ without (group_for is.last.item is.last.front ∷ []) state
   doomed-is =
