@@ -7,7 +7,7 @@ use Rattle.blk_model.specs.State.{State}
 use Rattle.blk_volume.specs.Layout.{Layout}
 use Rattle.blk_disk.specs.Tables.{Agrees}
 use Rattle.blk_cache.specs.declared.cache.Cache.{Cache}
-use Rattle.blk_cache.specs.declared.sparse_stub.Gone.{Gone}
+use Rattle.blk_sparse.specs.declared.dropping.Gone.{Gone}
 use Rattle.blk_cache.specs.declared.room_search.Unpinned.{Unpinned}
 use Rattle.blk_cache.specs.CacheKeeping.{KeepsState}
 use Rattle.blk_cache.specs.Evicting.{KeepsInPlaces, OnlyItemsChange}

@@ -126,6 +126,21 @@ both-written : (a b : List ℕ) (w : Option (List ℕ)) → option_map (λ (v : 
 both-written a b None = refl
 both-written a b (Some v) = ap Some (append_assoc v a b)
 
+-- a text was printed, and then a front of another one, or nothing where the sink failed
+pub appends-after : (failed_before failed : Bool) (w0 w1 w2 : Option (List ℕ)) (a b : List ℕ) → Prints failed_before failed w0 w1 a → (failed ≡ true → w2 ≡ w1) → Appends w1 w2 b → Appends w0 w2 (a ++ b)
+appends-after failed_before failed w0 w1 w2 a b one quiet more = go failed refl where
+  went-on : failed ≡ false → Appends w0 w2 (a ++ b)
+  went-on e = record {
+    front = a ++ more.front;
+    rest = more.rest;
+    split = ap (λ (l : List ℕ). a ++ l) more.split ∙ sym (append_assoc a more.front more.rest);
+    written = more.written ∙ ap (option_map (λ (w : List ℕ). w ++ more.front)) (one.whole e) ∙ both-written a more.front w0;
+  }
+
+  go : (c : Bool) → failed ≡ c → Appends w0 w2 (a ++ b)
+  go true e = subst (λ (w : Option (List ℕ)). Appends w0 w (a ++ b)) (sym (quiet e)) (appends-longer w0 w1 a b one.front)
+  go false e = went-on e
+
 -- a sink that is found to fail no more than before
 pub same-fails : (failed : Bool) (before now : ℕ) → FailsWhereItRose failed failed before now
 same-fails failed before now was is = absurd (clash (sym is ∙ was))
@@ -150,7 +165,7 @@ pub record HasEvicted (enough : State → Bool) (state : State) (old new : Cache
   pub prints : Prints failed_before failed w0 w1 (evicted_text first)
   pub passes : Passes told now (IsEvicting (evicted_until enough state []) state)
 
-none-finds : (cache : Cache) (state : State) (image : Image) → KeepsState cache state image → Finds (rest state) image
+pub none-finds : (cache : Cache) (state : State) (image : Image) → KeepsState cache state image → Finds (rest state) image
 none-finds cache state image k = (k.kept.entries.well_formed, kept-found state k.layout [] image k.kept.entries)
 
 pub none-yet : (enough : State → Bool) (state : State) (cache : Cache) (told : Told) (failed : Bool) (w : Option (List ℕ)) (image : Image) → told.files ≡ Some image → KeepsState cache state image → HasEvicted enough state cache cache None 0 told told failed failed w w
@@ -245,20 +260,8 @@ module _ (enough : State → Bool) (state : State) (valid : IsValidState state) 
     -- where it is being evicted, a front of the text
     pub next-front : (w2 : Option (List ℕ)) → (failed ≡ true → w2 ≡ w1) → Appends w1 w2 (evicted_text (group ∷ [])) → Appends w0 w2 (evicted_text (evicted_until enough state []))
     next-front w2 quiet more =
-        let so : Appends w0 w2 (evicted_text h.first ++ evicted_text (group ∷ [])) = go failed refl in
+        let so : Appends w0 w2 (evicted_text h.first ++ evicted_text (group ∷ [])) = appends-after failed_before failed w0 w1 w2 (evicted_text h.first) (evicted_text (group ∷ [])) h.prints quiet more in
         subst (Appends w0 w2) (sym (ap evicted_text split-is ∙ text-both (h.first ++ group ∷ []) later)) (appends-longer w0 w2 (evicted_text (h.first ++ group ∷ [])) (evicted_text later) (subst (Appends w0 w2) (sym (text-both h.first (group ∷ []))) so))
-      where
-        went-on : failed ≡ false → Appends w0 w2 (evicted_text h.first ++ evicted_text (group ∷ []))
-        went-on e = record {
-          front = evicted_text h.first ++ more.front;
-          rest = more.rest;
-          split = ap (λ (l : List ℕ). evicted_text h.first ++ l) more.split ∙ sym (append_assoc (evicted_text h.first) more.front more.rest);
-          written = more.written ∙ ap (option_map (λ (w : List ℕ). w ++ more.front)) (h.prints.whole e) ∙ both-written (evicted_text h.first) more.front w0;
-        }
-
-        go : (c : Bool) → failed ≡ c → Appends w0 w2 (evicted_text h.first ++ evicted_text (group ∷ []))
-        go true e = subst (λ (w : Option (List ℕ)). Appends w0 w (evicted_text h.first ++ evicted_text (group ∷ []))) (sym (quiet e)) (appends-longer w0 w1 (evicted_text h.first) (evicted_text (group ∷ [])) h.prints.front)
-        go false e = went-on e
 
     -- once it is out
     pub next-out : (mid later_now : Told) (left : Cache) (failed_now : Bool) (w2 : Option (List ℕ)) → mid ≡ now → Passes mid later_now (FindsEither between (without (group ∷ []) between)) → ForSome later_now.files (KeepsInPlaces left (without (group ∷ []) between) h.at.kept.layout) → Prints failed failed_now w1 w2 (evicted_text (group ∷ []))

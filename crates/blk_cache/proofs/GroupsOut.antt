@@ -1,6 +1,6 @@
 -- The last item that isn't pinned, by its record, and what is left once its group is out.
 use Rattle.std.proofs.Common.{◌≡◌, ℕ, ◌+◌, ◌≤◌, Bool, true, false, List, [], ◌∷◌, ◌++◌, length, map, take, Option, Some, None, Result, Ok, Err, inl, refl, sym, ap, subst, ◌∙◌, arith, append-nil, ⊎_elim}
-use Rattle.std.specs.Prelude.{◌&&◌, ◌==◌, IfSome, OnOk, if◌then◌else◌, is_some, not, slice_set}
+use Rattle.std.specs.Prelude.{◌&&◌, ◌==◌, IfOk, IfSome, OnOk, if◌then◌else◌, is_some, not, slice_set}
 use Rattle.std.specs.List.{cons_option, filter_map, flat_map, sum_by}
 use Rattle.std.specs.Option.{option_and_then, option_map, option_map_or}
 use Rattle.std.specs.Str.{bytes_eq}
@@ -53,7 +53,7 @@ use Rattle.blk_object.proofs.FoundLeft.{listed-found}
 use Rattle.blk_object.proofs.OwnedPlaces.{kept-load}
 use Rattle.blk_object.proofs.PartNames.{all-piece, head-flags, key-short, key-there}
 use Rattle.blk_object.proofs.PlainObjects.{no-listed, plain-alone}
-use Rattle.blk_cache.specs.declared.sparse_stub.Gone.{Gone}
+use Rattle.blk_sparse.specs.declared.dropping.Gone.{Gone}
 use Rattle.blk_cache.specs.declared.item_names.EntryKind.{EntryKind}
 use Rattle.blk_cache.specs.declared.item_names.EntryKind.TheVariants as kinds
 use Rattle.blk_cache.specs.declared.item_names.Named.{Named}
@@ -213,7 +213,7 @@ pub record GoesSo (state : State) (layout : Layout) (group : Group) (item : Item
 
 -- the last item that isn't pinned, and what lies there
 module _ (state : State) (layout : Layout) (image : Image) (k : KeepsUncounted state layout [] image) (front behind : List Item) (loaded : Loaded) where
-  last-listed : (item : Item) → IsLastUnpinned state [] front item behind → is_listed state item ≡ true
+  pub last-listed : (item : Item) → IsLastUnpinned state [] front item behind → is_listed state item ≡ true
   last-listed item is = ap (λ (l : List Item). is_in l item) is.listed ∙ in-middle front item behind
 
   main-no-part : (key : List ℕ) (is : IsLastUnpinned state [] front (main key) behind) → layout.at (layout.place (main key)) ≡ Some loaded → kind_of_role loaded.role ≡ kinds.Part → ⊥
@@ -354,6 +354,11 @@ pub on-ok-any : {T E P : Type 0} (r : Result T E) → P → OnOk r P
 on-ok-any (Ok x) p = p
 on-ok-any (Err e) p = tt
 
+-- three facts of an answer that is fine
+pub if-ok-three : {A E : Type 0} {P S : A → Type 0} {Q R : Type 0} (r : Result A E) → ((a : A) → P a → Q → R → S a) → IfOk r P → OnOk r Q → OnOk r R → IfOk r S
+if-ok-three (Ok a) all p q r = all a p q r
+if-ok-three (Err e) all p q r = tt
+
 -- ---- parts
 
 -- the number and the key that the name of a part says are those of the item
@@ -394,6 +399,10 @@ key-read image entry loaded old new len with_record room piece =
 -- the last item that isn't pinned, as its record says
 abbrev pub goes-as : (state : State) (layout : Layout) (image : Image) (found : Unpinned) → Keeps state layout [] image → (last : IsLastAt state layout found) (named : Named) (bytes : List ℕ) → IsNamedAs last.loaded named bytes → (kind : EntryKind) → named.kind ≡ kind → GoesAs state layout found kind (take named.len bytes) image
 goes-as state layout image found k last named bytes is kind kind_is = record { kept = k; last = last; kind_is = sym is.kind ∙ kind_is; key_is = sym is.key }
+
+abbrev pub goes-with : (state : State) (layout : Layout) (image : Image) (found : Unpinned) → Keeps state layout [] image → (last : IsLastAt state layout found) (named : Named) (bytes : List ℕ) → IsNamedAs last.loaded named bytes → (kind : EntryKind) → named.kind ≡ kind
+    → (key : List ℕ) → key ≡ take named.len bytes → GoesAs state layout found kind key image
+goes-with state layout image found k last named bytes is kind kind_is key same = record { kept = k; last = last; kind_is = sym is.kind ∙ kind_is; key_is = sym is.key ∙ sym same }
 
 pub loads-last : (state : State) (layout : Layout) (image : Image) (found : Unpinned) → Keeps state layout [] image → (last : IsLastAt state layout found) → LoadsWith found.entry last.loaded image
 loads-last state layout image found k last =

@@ -43,3 +43,4 @@ pub mod Asks
 pub mod Sizes
 pub mod ReadSteps
 pub mod PrintedReads
+pub mod WholeGroups

@@ -1,13 +1,24 @@
 -- What is evicted where room is made.
-use Rattle.std.proofs.Common.{◌≡◌, ℕ, Bool, true, false, List, [], ◌∷◌, ◌++◌, Option, refl, sym, ap, subst, ◌∙◌}
+use Rattle.std.proofs.Common.{◌≡◌, ℕ, Bool, true, false, List, [], ◌∷◌, ◌++◌, Option, Some, refl, sym, ap, subst, ◌∙◌}
 use Rattle.std.specs.Prelude.{◌+◌, ◌-◌, ◌/◌, ◌&&◌, ◌||◌, ◌==◌, if◌then◌else◌, nat_le, reverse}
 use Rattle.blk_image.specs.Image.{Image}
+use Rattle.blk_image.specs.Told.{Passes, Told}
+use Rattle.blk_image.proofs.Runs.{passes_none, some_inj}
+use Rattle.blk_model.specs.Holding.{rest}
+use Rattle.blk_script.specs.Reply.{evicted_text}
+use Rattle.blk_kept.specs.Changes.{Finds}
 use Rattle.blk_model.specs.Refusals.{evicted_for, is_full}
 use Rattle.blk_model.specs.Room.{Group, Room, after, full, evicted_until, fits, groups_from_back, is_pinned, items, low, room, shortest, total, without}
 use Rattle.blk_model.specs.State.{Bounds, State}
 use Rattle.blk_model.specs.Sizes.{free_share}
 use Rattle.blk_cache.specs.declared.goal.Goal.TheVariants as goal
+use Rattle.blk_cache.specs.declared.cache.Cache.{Cache}
+use Rattle.blk_cache.specs.CacheKeeping.{KeepsState}
 use Rattle.blk_cache.specs.Evicting.{IsEvicting, is_met}
+use Rattle.blk_cache.specs.RoomPrinting.{Prints}
+use Rattle.blk_cache.proofs.Evictions.{none-finds}
+use Rattle.blk_cache.proofs.RoomGroups.{without-none}
+use Rattle.blk_cache.proofs.RoomTexts.{none-printed}
 use Rattle.blk_cache.proofs.RoomPins.{room-made}
 
 limits-left : (groups : List Group) (state : State) → (without groups state).limits ≡ state.limits
@@ -40,3 +51,20 @@ full-none state bytes more is = go (room state [] bytes more) is where
   go (after groups) e = absurd (no e) where
     no : false ≡ true → ⊥
     no e = cc
+
+-- ---- where nothing is evicted
+
+pub none-kept : (cache : Cache) (state : State) (groups : List Group) (image : Image) → groups ≡ [] → KeepsState cache state image → KeepsState cache (without groups state) image
+none-kept cache state groups image none k = subst (λ (gs : List Group). KeepsState cache (without gs state) image) (sym none) (subst (λ (s : State). KeepsState cache s image) (sym (without-none state)) k)
+
+pub none-printed-of : (groups : List Group) (failed : Bool) (w : Option (List ℕ)) → groups ≡ [] → Prints failed failed w w (evicted_text groups)
+none-printed-of groups failed w none = subst (λ (gs : List Group). Prints failed failed w w (evicted_text gs)) (sym none) (none-printed failed w)
+
+pub none-stops : (told : Told) (cache : Cache) (state : State) (groups : List Group) (from : Image) → told.files ≡ Some from → KeepsState cache state from → Passes told told (IsEvicting groups state)
+none-stops told cache state groups from there k = passes_none {a = told} {b = told} (IsEvicting groups state) refl
+    (λ other is. record {
+      first = [];
+      others = groups;
+      split = refl;
+      finds = subst (λ (s : State). Finds (rest s) other) (sym (without-none state)) (subst (Finds (rest state)) (some_inj (sym there ∙ is)) (none-finds cache state from k));
+    })

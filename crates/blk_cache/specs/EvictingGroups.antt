@@ -15,7 +15,7 @@ use Rattle.blk_volume.specs.Loads.{Loaded}
 use Rattle.blk_kept.specs.Changes.{SameSession}
 use Rattle.blk_kept.specs.Keeping.{Keeps, KeepsUncounted}
 use Rattle.blk_object.specs.FindingOut.{is_child_item}
-use Rattle.blk_cache.specs.declared.sparse_stub.Gone.{Gone}
+use Rattle.blk_sparse.specs.declared.dropping.Gone.{Gone}
 use Rattle.blk_cache.specs.declared.item_names.EntryKind.{EntryKind}
 use Rattle.blk_cache.specs.declared.item_names.EntryKind.TheVariants.{Parent, Part, Plain}
 use Rattle.blk_cache.specs.declared.item_names.Named.{Named}

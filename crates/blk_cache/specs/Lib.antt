@@ -17,7 +17,6 @@ pub mod MakingRoom
 pub mod Stepping
 pub mod Listing
 pub mod EvictingGroups
-pub mod SparseStub
 pub mod Closing
 pub mod Asking
 pub mod Reading

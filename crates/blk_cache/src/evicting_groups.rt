@@ -5,6 +5,7 @@ ghost use Rattle.blk_image.specs.Told.{Passes, Rises, Stays};
 ghost use Rattle.blk_io.specs.Faults.{IfDamaged, IfDevice};
 ghost use Rattle.blk_io.specs.Streams.{Appends};
 ghost use Rattle.blk_model.specs.Effects.{doomed};
+ghost use Rattle.blk_model.specs.Refusals.{no_key};
 ghost use Rattle.blk_model.specs.Room.{parts_among, without};
 ghost use Rattle.blk_model.specs.Sizes.{longest_key};
 ghost use Rattle.blk_script.specs.Reply.{evicted_text};
@@ -19,12 +20,12 @@ ghost use Rattle.blk_object.specs.RemovingObjects.{FindsEither};
 ghost use Rattle.blk_cache.specs.EvictingGroups.{ForEachGoing, ForEachListed, ForEachOfKind, IsGroupOut, alone_kind, text_of_parts};
 ghost use Rattle.blk_cache.specs.NameRoom.{name_room};
 ghost use Rattle.blk_cache.specs.RoomPrinting.{FailsWhereItRose, Prints};
-ghost use Rattle.blk_cache.specs.SparseStub.{ForEachParent, IsGoneWhole, IsGroupTold};
+ghost use Rattle.blk_sparse.specs.Parents.{ForEachParent, IsGoneWhole, IsGroupTold};
 
 use crate::item_names::{EntryKind, read_name};
 use crate::room_printing::{say_evicted, say_evicted_part};
 use crate::room_search::Unpinned;
-use crate::sparse_stub::{Gone, remove_parent_with};
+
 use blk_addr::Addr;
 use blk_chain::{Found, find};
 use blk_disk::BlockFiles;
@@ -33,6 +34,7 @@ use blk_io::{Fault, Folder, Sink};
 use blk_object::remove_item;
 use blk_ranges::{ChildName, LONGEST_KEY, read_child_name};
 use blk_record::EntryView;
+use blk_sparse::{Gone, remove_parent_with};
 
 // The flags of the record of a part.
 const CHILD: u32 = 2;
@@ -169,13 +171,20 @@ fn evict_parent<F: Folder, K: Sink>(
     ensures sink_later { K.faults out.old ≤ K.faults out.new }
     ensures device { IfDevice result (Rises (F.faults f.old) (F.faults f.new)) }
 {
-    if key.is_empty() || key.len() > LONGEST_KEY as usize {
+    if is_no_key(key) {
         let len = key.len() as u32;
         return Err(record_damage(found.entry, EntryView::KEY_LEN, len));
     }
     say_evicted(out, failed, key);
     let at = find_listed(f, files, key, false, found.entry)?;
     remove_parent(f, files, &at, found.node, key, room, out, failed)
+}
+
+// Whether bytes are no key: none, or too many.
+fn is_no_key(key: &[u8]) -> bool
+    ensures { result ≡ no_key key.now }
+{
+    key.is_empty() || key.len() > LONGEST_KEY as usize
 }
 
 // Removes an object with an index, and then its parts, and prints each of these.

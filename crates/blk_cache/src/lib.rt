@@ -25,7 +25,6 @@ mod room;
 mod room_laws;
 mod room_printing;
 mod room_search;
-mod sparse_stub;
 mod size;
 mod starting;
 mod stepping;

@@ -87,6 +87,16 @@ impl Cache {
     fn wants_none(&self, bytes: u64, items: u64) -> bool
         ensures none { (state : State) (image : Image) → KeepsState self.now state image → result ≡ ((bytes == 0 && items == 0) || fits state.limits.max_bytes bytes items state) }
     {
-        (bytes == 0 && items == 0) || self.fits(bytes, items)
+        if asks_nothing(bytes, items) {
+            return true;
+        }
+        self.fits(bytes, items)
     }
+}
+
+// Whether nothing is asked for.
+fn asks_nothing(bytes: u64, items: u64) -> bool
+    ensures { result ≡ (bytes == 0 && items == 0) }
+{
+    bytes == 0 && items == 0
 }

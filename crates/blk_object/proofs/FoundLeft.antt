@@ -18,8 +18,8 @@ use Rattle.blk_format.specs.Records.{child}
 use Rattle.blk_format.specs.SparseIndex.{PartIndex}
 use Rattle.blk_volume.specs.Chains.{Chain, IsChain, file_and_block}
 use Rattle.blk_volume.specs.Entries.{IsParent, IsPart, IsPlain, Role, is_key_length, stored_key}
-use Rattle.blk_volume.specs.Found.{row_of_loaded, row_with}
-use Rattle.blk_volume.specs.Layout.{IsListedRecord, IsPlacedAt, Layout, is_listed, nodes_of, rule_of}
+use Rattle.blk_volume.specs.Found.{row_with}
+use Rattle.blk_volume.specs.Layout.{IsListedRecord, Layout, is_listed, nodes_of, rule_of}
 use Rattle.blk_volume.specs.Loads.{Loaded, is_part, is_part_role, load}
 use Rattle.blk_volume.specs.Searches.{HasKey, bucket_of_key, chained_for}
 use Rattle.blk_volume.specs.View.{RecordFields, store_of}

@@ -27,6 +27,8 @@ use Rattle.blk_kept.proofs.ChangedStates.{same-state, unheld-less}
 use Rattle.blk_object.specs.Freeing.{AreFreeable, AreGoing, Removes}
 use Rattle.blk_object.specs.NextItems.{IsMainOut}
 use Rattle.blk_object.specs.Owning.{LoadsWith}
+use Rattle.blk_object.specs.Removing.{LiesBehind}
+use Rattle.blk_object.specs.RemovingFound.{LiesAsFound}
 use Rattle.blk_object.specs.RemovingObjects.{FindsEither}
 use Rattle.blk_object.proofs.CountsOut.{counted-out-ends, still-counted}
 use Rattle.blk_object.proofs.FreedPlaces.{all-counted, all-out, going-finds-doomed}
@@ -80,19 +82,28 @@ pub all-among : (key other : List ℕ) (items : List Item) → parts_among key (
 all-among key other items = among-kept key (keeps_but (λ i. true) (main other)) (main-unnumbered key other) items
 
 module _ (state : State) (layout : Layout) (unlinked : List ℕ) (number : ℕ) (object : Object) (key : List ℕ) (node entry : ℕ) (before : Option ℕ) (from : Image) (m : MayGoWhole state layout unlinked number object key node entry before from) where
+  -- it lies there by the key of the object
+  abbrev pub own-lies : LiesAsFound state layout object.key node entry before
+  own-lies = record {
+    was = m.lies.was;
+    lies = subst (λ (k : List ℕ). LiesBehind state layout (main k) m.lies.was before) (sym m.of_key) m.lies.lies;
+    node_is = ap (λ (k : List ℕ). layout.place (main k)) m.of_key ∙ m.lies.node_is;
+    entry_is = m.lies.entry_is;
+  }
+
   -- what is at rest is found
   pub at-rest : FindsEither state (doomed number state (Some object)) from
-  at-rest = main-going state layout unlinked number object node entry before from from m.kept.entries m.here m.live m.lies (inl refl)
+  at-rest = main-going state layout unlinked number object node entry before from from m.kept.entries m.here m.live own-lies (inl refl)
 
   -- its record loads
   pub main-loads : LoadsWith entry m.lies.was from
-  main-loads = subst (λ (w : ℕ). LoadsWith w m.lies.was from) m.lies.entry_is (kept-load state layout unlinked from (layout.place (main object.key)) m.lies.was m.kept.entries m.lies.lies.here)
+  main-loads = subst (λ (w : ℕ). LoadsWith w m.lies.was from) m.lies.entry_is (kept-load state layout unlinked from (layout.place (main key)) m.lies.was m.kept.entries m.lies.lies.here)
 
   pub as-parent : LoadsAsParent entry from
   as-parent = record { loaded = m.lies.was; loads = main-loads; index = m.index; role = m.role }
 
   pub has-signature : (signature : ℕ) → m.index.signature ≡ signature → HasSignature layout key signature
-  has-signature signature same = record { was = m.lies.was; here = ap (λ (k : List ℕ). layout.at (layout.place (main k))) (sym m.of_key) ∙ m.lies.lies.here; index = m.index; role = m.role; same = same }
+  has-signature signature same = record { was = m.lies.was; here = m.lies.lies.here; index = m.index; role = m.role; same = same }
 
   -- once the main item is out, its parts are left
   pub parts-left : (words : List ℕ) (image : Image) → words ++ unlinked ≡ words_of m.lies.was ++ unlinked → IsMainOut state layout unlinked object.key m.lies.was image
@@ -119,7 +130,7 @@ module _ (state : State) (layout : Layout) (unlinked : List ℕ) (number : ℕ) 
   pub group-told : (charge : ℕ) (gone : Gone) → charge ≡ charge_of m.lies.was → AreGoneBeside layout (map (part key) (parts_among key state.uses)) charge gone → IsGroupTold state layout key gone
   group-told charge gone is beside_is =
       let parts : List Item = map (part key) (parts_among key state.uses) in
-      let here : layout.at (layout.place (main key)) ≡ Some m.lies.was = ap (λ (k : List ℕ). layout.at (layout.place (main k))) (sym m.of_key) ∙ m.lies.lies.here in
+      let here : layout.at (layout.place (main key)) ≡ Some m.lies.was = m.lies.lies.here in
       let first : charges_at layout (nodes_of layout (main key ∷ parts)) ≡ charge_of m.lies.was + charges_at layout (nodes_of layout parts) =
       ap (λ (o : Option Loaded). sum_by charge_of (cons_option o (filter_map layout.at (nodes_of layout parts)))) here ∙ sum_by-cons charge_of m.lies.was (filter_map layout.at (nodes_of layout parts)) in
       let many = beside_is.many in

@@ -17,13 +17,14 @@ use Rattle.blk_stream.proofs.Joined.{told_then}
 use Rattle.blk_kept.specs.Changes.{Finds, SameSession}
 use Rattle.blk_kept.specs.PartlyOut.{keeps_but}
 use Rattle.blk_object.specs.ListedParts.{HaveNoPart}
+use Rattle.blk_object.specs.UnlinkedLoads.{KeepsUnlinked}
 use Rattle.blk_object.proofs.PartsLeft.{none-left}
 use Rattle.blk_object.proofs.Sessions.{then-session}
 use Rattle.blk_sparse.specs.Dropping.{AreGone, AreLeft, ForEachLeft, HasSignature, IsCalledAtFront, IsDropOfNext, IsNextOut, IsWholeOut}
 use Rattle.blk_sparse.specs.declared.dropping.Dropped.{Dropped}
 use Rattle.blk_sparse.specs.declared.dropping.Gone.{Gone}
 use Rattle.blk_sparse.proofs.PartsOut.{stays-passes}
-use Rattle.blk_sparse.proofs.PartsNext.{same-session}
+use Rattle.blk_sparse.proofs.PartsNext.{same-session, same-unlinked}
 use Rattle.blk_sparse.proofs.Walking.{IsWalked, walked-begin, walked-end, walked-next, without-one}
 
 -- where the loop stands: what was left at first is left but for the parts that went, in the folder as it is now
@@ -34,6 +35,7 @@ pub record IsDropping (E : Type 0) (call : E → ℕ → E → Type 0) (old now 
   pub chains : ℕ → List ℕ
   pub left : AreLeft state layout keeps chains unlinked key number object image
   pub session : SameSession from image
+  pub unlinked_keeps : KeepsUnlinked unlinked from image
   pub passes : Passes old now (Finds (rest (doomed number state (Some object))))
   pub walked : IsWalked E call layout key (filter keep state.uses) (filter keeps state.uses) at gone.items gone.bytes each last
   pub turns : turn + length (filter keeps state.uses) ≤ 131072
@@ -54,6 +56,7 @@ dropping-begins E call old key signature each from there finds state layout keep
   chains = chains;
   left = left;
   session = same-session from from refl;
+  unlinked_keeps = same-unlinked unlinked from from refl;
   passes = stays-passes old old from (Finds (rest (doomed number state (Some object)))) there refl (finds state layout keep chains unlinked number object left);
   walked = walked-begin E call layout key (filter keep state.uses) each;
   turns = let few = left.kept.list.whole.few in let many = length-map (filter keep state.uses) layout.place in omega (arith, few, many);
@@ -66,9 +69,9 @@ module _ (E : Type 0) (call : E → ℕ → E → Type 0) (old now : Told) (stat
 
   -- one part more
   pub dropping-next : (new : Told) (signature : ℕ) (dropped : Dropped) (more : Gone) (then_is : E) → HasSignature layout key signature → more.items ≡ gone.items + 1 → more.bytes ≡ gone.bytes + dropped.charge → call last dropped.number then_is
-      → Passes now new (Finds (rest (doomed number state (Some object)))) → ForSome new.files (SameSession d.image) → ForSome new.files (IsDropOfNext state layout d.keeps unlinked key number object d.walked.is.front d.walked.is.items (Some dropped) d.image)
+      → Passes now new (Finds (rest (doomed number state (Some object)))) → ForSome new.files (SameSession d.image) → ForSome new.files (KeepsUnlinked unlinked d.image) → ForSome new.files (IsDropOfNext state layout d.keeps unlinked key number object d.walked.is.front d.walked.is.items (Some dropped) d.image)
       → IsDropping E call old new state layout keep unlinked key number object from dropped.behind (turn + 1) more each then_is
-  dropping-next new signature dropped more then_is sig items bytes step passes session out =
+  dropping-next new signature dropped more then_is sig items bytes step passes session keeps out =
       let mid = told_then now new d.image (Finds (rest (doomed number state (Some object)))) d.told passes in
       let o : IsNextOut state layout d.keeps unlinked key number object d.walked.is.front d.walked.is.items dropped mid.image = out mid.image mid.is in
       let item : Item = part key dropped.number in
@@ -80,6 +83,7 @@ module _ (E : Type 0) (call : E → ℕ → E → Type 0) (old now : Told) (stat
         chains = o.chains;
         left = o.left;
         session = then-session from d.image mid.image d.session (session mid.image mid.is);
+        unlinked_keeps = λ s n l lies. keeps mid.image mid.is s n l (d.unlinked_keeps s n l lies);
         passes = passes_then d.passes passes;
         walked = subst (λ (n : ℕ). IsWalked E call layout key (filter keep state.uses) (filter (keeps_but d.keeps item) state.uses) dropped.behind n more.bytes each then_is) (sym items)
             (subst (λ (n : ℕ). IsWalked E call layout key (filter keep state.uses) (filter (keeps_but d.keeps item) state.uses) dropped.behind (gone.items + 1) n each then_is) (sym bytes) w);
@@ -131,6 +135,7 @@ module _ (E : Type 0) (call : E → ℕ → E → Type 0) (old now : Told) (stat
   pub record IsEnd (new : Told) : Type 0 where
     pub out : ForSome new.files (IsWholeOut state layout unlinked key)
     pub session : ForSome new.files (SameSession from)
+    pub keeps : ForSome new.files (KeepsUnlinked unlinked from)
     pub called : FoldsTo call each (parts_among key (filter keep state.uses)) last
     pub gone_is : AreGone layout (map (part key) (parts_among key (filter keep state.uses))) gone
     pub passes : Passes old new (Finds (rest (doomed number state (Some object))))
@@ -141,6 +146,7 @@ module _ (E : Type 0) (call : E → ℕ → E → Type 0) (old now : Told) (stat
       record {
         out = λ image is. subst (IsWholeOut state layout unlinked key) (sym (same image is)) all.out;
         session = λ image is. subst (SameSession from) (sym (same image is)) d.session;
+        keeps = λ image is. subst (KeepsUnlinked unlinked from) (sym (same image is)) d.unlinked_keeps;
         called = all.called;
         gone_is = all.gone_is;
         passes = passes;

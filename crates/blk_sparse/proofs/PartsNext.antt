@@ -15,6 +15,7 @@ use Rattle.blk_lru.specs.Lists.{IsListed, last_node_of}
 use Rattle.blk_kept.specs.Changes.{SameSession}
 use Rattle.blk_object.specs.ListedParts.{ForEachSearch, HaveNoPart, IsFirstPart, IsFoundPart}
 use Rattle.blk_object.specs.declared.listed_parts.ListedPart.{ListedPart}
+use Rattle.blk_object.specs.UnlinkedLoads.{KeepsUnlinked}
 use Rattle.blk_object.proofs.WalkedParts.{listed-amid, rests-amid}
 use Rattle.blk_sparse.specs.Dropping.{AreLeft, IsBehind, IsDropOfNext, IsPartLeft, IsPartOut}
 use Rattle.blk_sparse.proofs.Walking.{searched}
@@ -26,6 +27,10 @@ or-true false = refl
 -- the session of an image that is the same
 pub same-session : (from image : Image) → image ≡ from → SameSession from image
 same-session from image same = subst (SameSession from) (sym same) (record { crash = refl; id = refl })
+
+-- and what lies in its unlinked places
+pub same-unlinked : (unlinked : List ℕ) (from image : Image) → image ≡ from → KeepsUnlinked unlinked from image
+same-unlinked unlinked from image same = subst (KeepsUnlinked unlinked from) (sym same) (λ state node loaded lies. lies)
 
 -- what lies at a place of an option is so
 pub of-some : {A : Type 0} (o : Option A) (a : A) (P : A → Type 0) → o ≡ Some a → IfSome o P → P a

@@ -25,7 +25,7 @@ pub record MayGoWhole (state : State) (layout : Layout) (unlinked : List ℕ) (n
   pub of_key : object.key ≡ key
   pub live : object.live ≡ true
   pub unnamed : is_named state number ≡ false
-  pub lies : LiesAsFound state layout object.key node entry before
+  pub lies : LiesAsFound state layout key node entry before
   pub index : ParentIndex
   pub role : lies.was.role ≡ IsParent index
 

@@ -1,5 +1,5 @@
 // The parts of a key go.
-ghost use Rattle.std.specs.Prelude.{◌≡◌, ◌≤◌, ◌<◌, ◌^◌, IfOk, IfSome, IsTrue, None, OnOk, Some, filter, length, map};
+ghost use Rattle.std.specs.Prelude.{◌≡◌, ◌≤◌, ◌<◌, ◌^◌, ℕ, IfOk, IfSome, IsTrue, List, None, OnOk, Some, filter, length, map};
 ghost use Rattle.std.specs.Int.{cast_unsigned, w64};
 ghost use Rattle.std.specs.List.{FoldsTo};
 ghost use Rattle.std.specs.Option.{ForSome};
@@ -16,6 +16,7 @@ ghost use Rattle.blk_io.specs.Faults.{IfDamaged, IfDevice};
 ghost use Rattle.blk_disk.specs.Open.{IsOpen};
 ghost use Rattle.blk_disk.specs.Tables.{is_node_among, stands_among};
 ghost use Rattle.blk_kept.specs.Changes.{Finds, SameSession};
+ghost use Rattle.blk_object.specs.UnlinkedLoads.{KeepsUnlinked};
 ghost use Rattle.blk_sparse.specs.Dropping.{AreGone, ForEachBehind, ForEachLeft, ForEachPartLeft, IsCalledAtFront, IsDropOfNext, IsPartOut, IsWholeOut};
 
 use blk_addr::Addr;
@@ -72,6 +73,9 @@ pub fn drop_parts_with<F: Folder, E: FnMut(u32)>(
     ensures gone { IfOk result (λ gone. ForSome (F.told f.old).files (λ from. ForEachLeft key.now (cast_unsigned w64 signature) from (λ state layout keep unlinked number object. AreGone layout (map (part key.now) (parts_among key.now (filter keep state.uses))) gone))) }
     ensures session { OnOk result (ForSome (F.told f.old).files (λ from. ForEachLeft key.now (cast_unsigned w64 signature) from (λ state layout keep unlinked number object. ForSome (F.told f.new).files (SameSession from)))) }
 
+    // What lies in places that were unlinked at first, as those of the main item, lies there still.
+    ensures keeps { OnOk result (ForSome (F.told f.old).files (λ from. ForEachLeft key.now (cast_unsigned w64 signature) from (λ state layout keep unlinked number object. ForSome (F.told f.new).files (KeepsUnlinked unlinked from)))) }
+
     // No more parts go than a list has nodes, each charged less than 2^34 bytes.
     ensures few { IfOk result (λ gone. gone.items ≤ 131072) }
     ensures light { IfOk result (λ gone. gone.bytes ≤ 2 ^ 51) }
@@ -79,6 +83,9 @@ pub fn drop_parts_with<F: Folder, E: FnMut(u32)>(
     // `each` was called with the numbers of the parts that were left, in the order of the list, once each; or with a front of them.
     ensures each { OnOk result (ForSome (F.told f.old).files (λ from. ForEachLeft key.now (cast_unsigned w64 signature) from (λ state layout keep unlinked number object. FoldsTo (λ p x q. E.step p x tt q) each.old (parts_among key.now (filter keep state.uses)) each.new))) }
     ensures front { ForSome (F.told f.old).files (λ from. ForEachLeft key.now (cast_unsigned w64 signature) from (λ state layout keep unlinked number object. IsCalledAtFront E (λ p x q. E.step p x tt q) (parts_among key.now (filter keep state.uses)) each.old each.new)) }
+
+    // On every folder it was called with some numbers.
+    ensures calls { (numbers : List ℕ) × FoldsTo (λ p x q. E.step p x tt q) each.old numbers each.new }
 
     // At each word what is at rest with the object doomed is found.
     ensures stops { ForSome (F.told f.old).files (λ from. ForEachLeft key.now (cast_unsigned w64 signature) from (λ state layout keep unlinked number object. Passes (F.told f.old) (F.told f.new) (Finds (rest (doomed number state (Some object)))))) }
@@ -125,6 +132,7 @@ fn drop_next<F: Folder>(
     ensures small { IfOk result (λ next. IfSome next (λ dropped. dropped.charge < 2 ^ 34)) }
     ensures stands { IfOk result (λ next. IfSome next (λ dropped. IfSome dropped.behind (λ node. IsTrue (is_node_among files.now node)))) }
     ensures session { OnOk result (ForSome (F.told f.old).files (λ image. ForEachBehind key.now (cast_unsigned w64 signature) from image (λ state layout keep unlinked number object is. ForSome (F.told f.new).files (SameSession image)))) }
+    ensures keeps { OnOk result (ForSome (F.told f.old).files (λ image. ForEachBehind key.now (cast_unsigned w64 signature) from image (λ state layout keep unlinked number object is. ForSome (F.told f.new).files (KeepsUnlinked unlinked image)))) }
     ensures stops { ForSome (F.told f.old).files (λ image. ForEachBehind key.now (cast_unsigned w64 signature) from image (λ state layout keep unlinked number object is. Passes (F.told f.old) (F.told f.new) (Finds (rest (doomed number state (Some object)))))) }
     ensures is_open { ForSome (F.told f.new).files (IsOpen files.now) }
     ensures untold { ForSome (F.told f.old).files (λ image. ForEachBehind key.now (cast_unsigned w64 signature) from image (λ state layout keep unlinked number object is. IfDamaged result (λ _. (F.told f.old).files ≡ None))) }
@@ -165,6 +173,7 @@ fn drop_part<F: Folder>(
     ensures charge { IfOk result (λ charge. ForSome (F.told f.old).files (λ from. ForEachPartLeft key.now (cast_unsigned w64 signature) part.now.number part.now.node from (λ state layout keep unlinked number object was. charge ≡ charge_of was))) }
     ensures small { IfOk result (λ charge. charge < 2 ^ 34) }
     ensures session { OnOk result (ForSome (F.told f.old).files (λ from. ForEachPartLeft key.now (cast_unsigned w64 signature) part.now.number part.now.node from (λ state layout keep unlinked number object was. ForSome (F.told f.new).files (SameSession from)))) }
+    ensures keeps { OnOk result (ForSome (F.told f.old).files (λ from. ForEachPartLeft key.now (cast_unsigned w64 signature) part.now.number part.now.node from (λ state layout keep unlinked number object was. ForSome (F.told f.new).files (KeepsUnlinked unlinked from)))) }
     ensures stops { ForSome (F.told f.old).files (λ from. ForEachPartLeft key.now (cast_unsigned w64 signature) part.now.number part.now.node from (λ state layout keep unlinked number object was. Passes (F.told f.old) (F.told f.new) (Finds (rest (doomed number state (Some object)))))) }
     ensures is_open { ForSome (F.told f.new).files (IsOpen files.now) }
     ensures untold { ForSome (F.told f.old).files (λ from. ForEachPartLeft key.now (cast_unsigned w64 signature) part.now.number part.now.node from (λ state layout keep unlinked number object was. IfDamaged result (λ _. (F.told f.old).files ≡ None))) }

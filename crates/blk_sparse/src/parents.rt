@@ -1,5 +1,5 @@
 // An object with an index goes with its parts.
-ghost use Rattle.std.specs.Prelude.{◌≡◌, ◌≤◌, ◌<◌, ◌^◌, All, IfOk, IfSome, IsTrue, None, OnOk, Some, filter, length, map};
+ghost use Rattle.std.specs.Prelude.{◌≡◌, ◌≤◌, ◌<◌, ◌^◌, ℕ, All, IfOk, IfSome, IsTrue, List, None, OnOk, Some, filter, length, map};
 ghost use Rattle.std.specs.Int.{cast_unsigned, w64};
 ghost use Rattle.std.specs.List.{FoldsTo};
 ghost use Rattle.std.specs.Option.{ForSome};
@@ -77,6 +77,9 @@ pub fn remove_parent_with<F: Folder, E: FnMut(u32)>(
     ensures each { OnOk result (ForSome (F.told f.old).files (λ from. ForEachParent key.now node found.now.entry found.now.before from (λ state layout unlinked number object. FoldsTo (λ p x q. E.step p x tt q) each.old (parts_among key.now state.uses) each.new))) }
     ensures front { ForSome (F.told f.old).files (λ from. ForEachParent key.now node found.now.entry found.now.before from (λ state layout unlinked number object. IsCalledAtFront E (λ p x q. E.step p x tt q) (parts_among key.now state.uses) each.old each.new)) }
 
+    // On every folder it was called with some numbers.
+    ensures calls { (numbers : List ℕ) × FoldsTo (λ p x q. E.step p x tt q) each.old numbers each.new }
+
     // At each word what was at rest is found, or what is at rest with the object doomed.
     ensures stops { ForSome (F.told f.old).files (λ from. ForEachParent key.now node found.now.entry found.now.before from (λ state layout unlinked number object. Passes (F.told f.old) (F.told f.new) (FindsEither state (doomed number state (Some object))))) }
 
@@ -143,6 +146,7 @@ fn drop_and_free<F: Folder, E: FnMut(u32)>(
     ensures session { OnOk result (ForSome (F.told f.old).files (λ from. ForEachRest (words_at owned.now.places) key.now (cast_unsigned w64 signature) from (λ state layout keep unlinked number object. ForSome (F.told f.new).files (SameSession from)))) }
     ensures each { OnOk result (ForSome (F.told f.old).files (λ from. ForEachRest (words_at owned.now.places) key.now (cast_unsigned w64 signature) from (λ state layout keep unlinked number object. FoldsTo (λ p x q. E.step p x tt q) each.old (parts_among key.now (filter keep state.uses)) each.new))) }
     ensures front { ForSome (F.told f.old).files (λ from. ForEachRest (words_at owned.now.places) key.now (cast_unsigned w64 signature) from (λ state layout keep unlinked number object. IsCalledAtFront E (λ p x q. E.step p x tt q) (parts_among key.now (filter keep state.uses)) each.old each.new)) }
+    ensures calls { (numbers : List ℕ) × FoldsTo (λ p x q. E.step p x tt q) each.old numbers each.new }
     ensures stops { ForSome (F.told f.old).files (λ from. ForEachRest (words_at owned.now.places) key.now (cast_unsigned w64 signature) from (λ state layout keep unlinked number object. Passes (F.told f.old) (F.told f.new) (Finds (rest (doomed number state (Some object)))))) }
     ensures is_open { ForSome (F.told f.new).files (IsOpen files.now) }
     ensures untold { ForSome (F.told f.old).files (λ from. ForEachRest (words_at owned.now.places) key.now (cast_unsigned w64 signature) from (λ state layout keep unlinked number object. IfDamaged result (λ _. (F.told f.old).files ≡ None))) }

@@ -9,7 +9,7 @@ use Rattle.blk_ranges.specs.ChildNames.{name_within}
 use Rattle.blk_ranges.specs.declared.names.ChildName.{ChildName}
 use Rattle.blk_chain.proofs.Heads.{names-parts}
 use Rattle.blk_entry.proofs.KeyPlaces.{err_damaged}
-use Rattle.blk_cache.specs.declared.sparse_stub.Gone.{Gone}
+use Rattle.blk_sparse.specs.declared.dropping.Gone.{Gone}
 use Rattle.blk_cache.specs.RoomLaws.{group_for}
 use Rattle.blk_cache.specs.RoomPrinting.{Prints}
 use Rattle.blk_cache.proofs.GroupsOut.{as-text, not-unsaid, on-ok-any, part-said, stayed-stops}

@@ -11,7 +11,7 @@ use Rattle.blk_kept.specs.Changes.{Finds}
 use Rattle.blk_lru.specs.Lists.{IsListed}
 use Rattle.blk_sparse.specs.Dropping.{HasSignature}
 use Rattle.blk_sparse.proofs.PartsOut.{left-finds, stays-passes, stays-there}
-use Rattle.blk_sparse.proofs.PartsNext.{first-behind, first-left, first-listed, next-out, none-behind, of-some, same-session}
+use Rattle.blk_sparse.proofs.PartsNext.{first-behind, first-left, first-listed, next-out, none-behind, of-some, same-session, same-unlinked}
 use Rattle.blk_sparse.proofs.Walking.{searched}
 use Rattle.blk_sparse.proofs.dropping.drop_next.Goals as goal
 
@@ -35,6 +35,10 @@ returns-in_default-clause-next g c from there state layout keep chains unlinked 
 pub returns-in_default-clause-session : goal.returns-in_default-clause-session
 returns-in_default-clause-session g c from there state layout keep chains unlinked number object left sig is image now =
     same-session from image (some_inj (sym now ∙ stays-there (g.F.Folder.told c.args.f.now) (g.F.Folder.told c.next_part.new.f) from there c.in_ok-part.ensures.stays))
+
+pub returns-in_default-clause-keeps : goal.returns-in_default-clause-keeps
+returns-in_default-clause-keeps g c from there state layout keep chains unlinked number object left sig is image now =
+    same-unlinked unlinked from image (some_inj (sym now ∙ stays-there (g.F.Folder.told c.args.f.now) (g.F.Folder.told c.next_part.new.f) from there c.in_ok-part.ensures.stays))
 
 pub returns-in_default-clause-stops : goal.returns-in_default-clause-stops
 returns-in_default-clause-stops g c from there state layout keep chains unlinked number object left sig is =
@@ -109,6 +113,14 @@ returns-clause-session g c from there state layout keep chains unlinked number o
     let first = first-behind state layout keep chains unlinked c.args.key.now number object c.args.from from left is c.in_ok-part.field-0 c.in-Some.part c.in-Some.is (c.in_ok-part.ensures.part from there) in
     let same : HasSignature layout c.args.key.now _ = subst (HasSignature layout c.args.key.now) (sym (of_z-to_z w64 (cast_unsigned w64 c.args.signature) (let small = c.requires.signature in omega (arith, small)))) sig in
     c.in_ok-charge.ensures.session from at state layout keep chains unlinked number object left same (first-left state layout keep chains unlinked c.args.key.now number object c.args.from from left is c.in-Some.part first)
+
+pub returns-clause-keeps : goal.returns-clause-keeps
+returns-clause-keeps g c from there state layout keep chains unlinked number object left sig is =
+    let stays = c.in_ok-behind.ensures.stays ∙ c.in_ok-part.ensures.stays in
+    let at = stays-there (g.F.Folder.told c.args.f.now) (g.F.Folder.told c.before-2.new.f) from there stays in
+    let first = first-behind state layout keep chains unlinked c.args.key.now number object c.args.from from left is c.in_ok-part.field-0 c.in-Some.part c.in-Some.is (c.in_ok-part.ensures.part from there) in
+    let same : HasSignature layout c.args.key.now _ = subst (HasSignature layout c.args.key.now) (sym (of_z-to_z w64 (cast_unsigned w64 c.args.signature) (let small = c.requires.signature in omega (arith, small)))) sig in
+    c.in_ok-charge.ensures.keeps from at state layout keep chains unlinked number object left same (first-left state layout keep chains unlinked c.args.key.now number object c.args.from from left is c.in-Some.part first)
 
 pub returns-clause-stops : goal.returns-clause-stops
 returns-clause-stops g c from there state layout keep chains unlinked number object left sig is =

@@ -70,6 +70,15 @@ returns-clause-session g c =
     session from at state layout keep chains unlinked (part c.args.key.now c.args.part.now.number) left.kept f.next)
     c.remove_part.ensures.session
 
+pub returns-clause-keeps : goal.returns-clause-keeps
+returns-clause-keeps g c =
+    on_ok_weaker c.remove_part.result
+    (λ keeps from there state layout keep chains unlinked number object left sig p.
+    let at = stays-there (g.F.Folder.told c.args.f.now) (g.F.Folder.told c.find.new.f) from there c.in_ok-found.ensures.stays in
+    let f = some-found (cast_unsigned w64 c.args.signature) c.args.part.now.number c.args.part.now.node state layout keep chains unlinked c.args.key.now number object from left sig p (take c.child_name-len.result c.child_name-len.new.out) c.in_ok-found.field-0 c.in-Some.found c.in-Some.is (c.child_name-len.ensures.name ∙ ap (λ (s : ℕ). child_name c.args.key.now s c.args.part.now.number) (of_z-to_z w64 (cast_unsigned w64 c.args.signature) (let small = c.requires.signature in omega (arith, small)))) (c.in_ok-found.ensures.found from there) in
+    keeps from at state layout keep chains unlinked (part c.args.key.now c.args.part.now.number) left.kept f.next)
+    c.remove_part.ensures.keeps
+
 pub returns-clause-stops : goal.returns-clause-stops
 returns-clause-stops g c from there state layout keep chains unlinked number object left sig p =
     let at = stays-there (g.F.Folder.told c.args.f.now) (g.F.Folder.told c.find.new.f) from there c.in_ok-found.ensures.stays in

@@ -1,5 +1,6 @@
-use Rattle.std.proofs.Common.{rules, of_calls, Option, ◌≡◌, ◌∙◌, refl, sym, subst, arith, None}
+use Rattle.std.proofs.Common.{rules, of_calls, Option, ◌≡◌, [], ◌∷◌, ◌++◌, ◌∙◌, refl, sym, subst, arith, None}
 use Rattle.std.specs.Int.{cast_unsigned, w64}
+use Rattle.std.proofs.lemmas.Fn.{FoldsTo-push}
 use Rattle.std.proofs.lemmas.Int.{of_z-to_z}
 use Rattle.blk_image.proofs.Runs.{passes_then}
 use Rattle.blk_io.proofs.Carried.{carried, if_damaged_weaker}
@@ -13,6 +14,7 @@ use Rattle.blk_sparse.proofs.dropping.drop_parts_with.Goals as goal
 pub loop-init : goal.loop-init
 loop-init g c = record {
   dropping = λ from there. dropping-begins _ (λ p x q. goal.E-step g p x tt q) (g.F.Folder.told c.args.f.now) c.args.key.now _ c.args.each.now from there (λ state layout keep chains unlinked number object left. left-finds state layout keep chains unlinked c.args.key.now number object from left);
+  calls = ([], refl);
   stands = tt;
   few = omega arith;
   light = omega arith;
@@ -22,6 +24,15 @@ loop-init g c = record {
   silent = λ none. none;
   later = omega arith;
 }
+
+pub returns-in_err-dropped-clause-calls : goal.returns-in_err-dropped-clause-calls
+returns-in_err-dropped-clause-calls g c = c.loop.invariant.calls
+
+pub returns-in_default-clause-calls : goal.returns-in_default-clause-calls
+returns-in_default-clause-calls g c = c.loop.invariant.calls
+
+pub returns-clause-calls : goal.returns-clause-calls
+returns-clause-calls g c = c.loop.invariant.calls
 
 pub returns-in_err-dropped-clause-front : goal.returns-in_err-dropped-clause-front
 returns-in_err-dropped-clause-front g c from there state layout keep chains unlinked number object left sig =
@@ -63,6 +74,13 @@ returns-in_default-clause-session g c from there state layout keep chains unlink
     let none : c.in_ok-dropped.field-0 ≡ None = search rules in
     (ends-none _ _ _ _ _ _ _ _ _ _ _ _ _ _ _ _ _ d (g.F.Folder.told c.drop_next.new.f) c.in_ok-dropped.field-0 none (c.in_ok-dropped.ensures.stops d.image d.told state layout d.keeps d.chains unlinked number object d.left same d.walked.is) (c.in_ok-dropped.ensures.next d.image d.told state layout d.keeps d.chains unlinked number object d.left same d.walked.is)).session
 
+pub returns-in_default-clause-keeps : goal.returns-in_default-clause-keeps
+returns-in_default-clause-keeps g c from there state layout keep chains unlinked number object left sig =
+    let same : HasSignature layout c.args.key.now _ = subst (HasSignature layout c.args.key.now) (sym (of_z-to_z w64 (cast_unsigned w64 c.args.signature) (let small = c.requires.signature in omega (arith, small)))) sig in
+    let d = c.loop.invariant.dropping from there state layout keep chains unlinked number object left same in
+    let none : c.in_ok-dropped.field-0 ≡ None = search rules in
+    (ends-none _ _ _ _ _ _ _ _ _ _ _ _ _ _ _ _ _ d (g.F.Folder.told c.drop_next.new.f) c.in_ok-dropped.field-0 none (c.in_ok-dropped.ensures.stops d.image d.told state layout d.keeps d.chains unlinked number object d.left same d.walked.is) (c.in_ok-dropped.ensures.next d.image d.told state layout d.keeps d.chains unlinked number object d.left same d.walked.is)).keeps
+
 pub returns-in_default-clause-each : goal.returns-in_default-clause-each
 returns-in_default-clause-each g c from there state layout keep chains unlinked number object left sig =
     let same : HasSignature layout c.args.key.now _ = subst (HasSignature layout c.args.key.now) (sym (of_z-to_z w64 (cast_unsigned w64 c.args.signature) (let small = c.requires.signature in omega (arith, small)))) sig in
@@ -101,6 +119,12 @@ returns-clause-session g c from there state layout keep chains unlinked number o
     let d = c.loop.invariant.dropping from there state layout keep chains unlinked number object left same in
     (ends-over _ _ _ _ _ _ _ _ _ _ _ _ _ _ _ _ _ d (search rules)).session
 
+pub returns-clause-keeps : goal.returns-clause-keeps
+returns-clause-keeps g c from there state layout keep chains unlinked number object left sig =
+    let same : HasSignature layout c.args.key.now _ = subst (HasSignature layout c.args.key.now) (sym (of_z-to_z w64 (cast_unsigned w64 c.args.signature) (let small = c.requires.signature in omega (arith, small)))) sig in
+    let d = c.loop.invariant.dropping from there state layout keep chains unlinked number object left same in
+    (ends-over _ _ _ _ _ _ _ _ _ _ _ _ _ _ _ _ _ d (search rules)).keeps
+
 pub returns-clause-each : goal.returns-clause-each
 returns-clause-each g c from there state layout keep chains unlinked number object left sig =
     let same : HasSignature layout c.args.key.now _ = subst (HasSignature layout c.args.key.now) (sym (of_z-to_z w64 (cast_unsigned w64 c.args.signature) (let small = c.requires.signature in omega (arith, small)))) sig in
@@ -126,8 +150,10 @@ loop-preserved g c = record {
       dropping-next _ _ _ _ _ _ _ _ _ _ _ _ _ _ _ _ _ d (g.F.Folder.told c.drop_next.new.f) _ c.in-Some.dropped _ _ sig refl refl c.each.ensures
       (c.in_ok-dropped.ensures.stops d.image d.told state layout d.keeps d.chains unlinked number object d.left sig d.walked.is)
       (c.in_ok-dropped.ensures.session d.image d.told state layout d.keeps d.chains unlinked number object d.left sig d.walked.is)
+      (c.in_ok-dropped.ensures.keeps d.image d.told state layout d.keeps d.chains unlinked number object d.left sig d.walked.is)
       (λ image is. subst (λ (o : Option Dropped). IsDropOfNext state layout d.keeps unlinked c.args.key.now number object d.walked.is.front d.walked.is.items o d.image image) c.in-Some.is
       (c.in_ok-dropped.ensures.next d.image d.told state layout d.keeps d.chains unlinked number object d.left sig d.walked.is image is));
+  calls = let before = c.loop.invariant.calls in (before.0 ++ c.in-Some.dropped.number ∷ [], FoldsTo-push (λ p x q. goal.E-step g p x tt q) c.args.each.now before.0 c.loop.each c.in-Some.dropped.number c.each.new.self before.1 c.each.ensures);
   stands = of-some c.in_ok-dropped.field-0 c.in-Some.dropped _ c.in-Some.is c.in_ok-dropped.ensures.stands;
   few = let few = c.loop.invariant.few in omega (arith, few);
   light = let light = c.loop.invariant.light in let small = of-some c.in_ok-dropped.field-0 c.in-Some.dropped _ c.in-Some.is c.in_ok-dropped.ensures.small in omega (arith, light, small);

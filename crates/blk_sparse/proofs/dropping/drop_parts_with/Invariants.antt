@@ -1,5 +1,6 @@
-use Rattle.std.proofs.Common.{◌≡◌, ◌≤◌, ◌*◌, ◌^◌, IsTrue, length, IfSome, None}
+use Rattle.std.proofs.Common.{◌≡◌, ◌≤◌, ◌*◌, ◌^◌, ℕ, List, IsTrue, length, IfSome, None}
 use Rattle.std.specs.Int.{cast_unsigned, w64}
+use Rattle.std.specs.List.{FoldsTo}
 use Rattle.std.specs.Option.{ForSome}
 use Rattle.blk_format.specs.Names.{longest_name}
 use Rattle.blk_disk.specs.Open.{IsOpen}
@@ -10,6 +11,7 @@ use Rattle.blk_sparse.proofs.dropping.drop_parts_with.Given as goal
 abbrev pub invariant-loop : goal.invariant-loop
 invariant-loop g l = record {
   dropping : ForSome (g.F.Folder.told l.fn.f).files (AreDropping _ (λ p x q. goal.E-step g p x tt q) (g.F.Folder.told l.fn.f) (g.F.Folder.told l.f) l.key (cast_unsigned w64 l.signature) l.behind l.counter l.gone l.fn.each l.each);
+  calls : (numbers : List ℕ) × FoldsTo (λ p x q. goal.E-step g p x tt q) l.fn.each numbers l.each;
   stands : IfSome l.behind (λ n. IsTrue (is_node_among l.files n));
   few : l.gone.items ≤ l.counter;
   light : l.gone.bytes ≤ l.counter * 2 ^ 34;

@@ -90,3 +90,12 @@ returns-clause-stops g c from there state layout keep chains unlinked number obj
     let out = c.in_ok-parts.ensures.out from there state layout keep chains (words_at c.args.owned.now.places ++ unlinked) number object left same mid.image mid.is in
     passes_then (c.in_ok-parts.ensures.stops from there state layout keep chains (words_at c.args.owned.now.places ++ unlinked) number object left same)
     (passes_weaker (c.in_ok-free_owned.ensures.stops mid.image mid.is (may-free (words_at c.args.owned.now.places) state layout unlinked c.args.key.now number object mid.image out)) (freeing-finds (words_at c.args.owned.now.places) state layout unlinked c.args.key.now number object mid.image out keep chains from left) (freeing-finds (words_at c.args.owned.now.places) state layout unlinked c.args.key.now number object mid.image out keep chains from left))
+
+pub returns-in_err-parts-clause-calls : goal.returns-in_err-parts-clause-calls
+returns-in_err-parts-clause-calls g c = c.in_err-parts.ensures.calls
+
+pub returns-in_err-free_owned-clause-calls : goal.returns-in_err-free_owned-clause-calls
+returns-in_err-free_owned-clause-calls g c = c.in_ok-parts.ensures.calls
+
+pub returns-clause-calls : goal.returns-clause-calls
+returns-clause-calls g c = c.in_ok-parts.ensures.calls

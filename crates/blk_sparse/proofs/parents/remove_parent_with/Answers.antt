@@ -1,4 +1,4 @@
-use Rattle.std.proofs.Common.{◌≡◌, ◌∙◌, ◌++◌, inr, ap, sym, subst, arith, ℕ, List, None, Some, map}
+use Rattle.std.proofs.Common.{[], ◌≡◌, ◌∙◌, ◌++◌, inr, refl, ap, sym, subst, arith, ℕ, List, None, Some, map}
 use Rattle.std.specs.List.{FoldsTo}
 use Rattle.std.specs.Int.{cast_unsigned, w64}
 use Rattle.std.proofs.lemmas.Int.{of_z-to_z}
@@ -18,7 +18,7 @@ use Rattle.blk_object.proofs.Sessions.{then-session}
 use Rattle.blk_sparse.specs.Dropping.{IsCalledAtFront}
 use Rattle.blk_sparse.specs.Parents.{AreGoneBeside, LoadsAsParent}
 use Rattle.blk_sparse.proofs.PartsOut.{if_ok_weaker, none-some, stays-passes, stays-there}
-use Rattle.blk_sparse.proofs.ParentsOut.{all-among, as-parent, at-rest, gone-whole, group-told, has-signature, main-loads, not-yet, parts-left}
+use Rattle.blk_sparse.proofs.ParentsOut.{all-among, as-parent, at-rest, gone-whole, group-told, has-signature, main-loads, not-yet, own-lies, parts-left}
 use Rattle.blk_sparse.proofs.parents.remove_parent_with.Goals as goal
 
 pub returns-in_err-owned-clause-front : goal.returns-in_err-owned-clause-front
@@ -68,7 +68,7 @@ pub returns-in_err-take_main-clause-stops : goal.returns-in_err-take_main-clause
 returns-in_err-take_main-clause-stops g c from there state layout unlinked number object m =
     let stays = (c.in_ok-signature.ensures.stays ∙ c.in_ok-owned.ensures.stays) in
     let at = stays-there (g.F.Folder.told c.args.f.now) (g.F.Folder.told c.read_signature.new.f) from there stays in
-    passes_stayed stays (c.in_err-take_main.ensures.stops from at state layout unlinked number object m.kept.entries m.here m.live m.lies)
+    passes_stayed stays (c.in_err-take_main.ensures.stops from at state layout unlinked number object m.kept.entries m.here m.live (own-lies state layout unlinked number object c.args.key.now c.args.node c.args.found.now.entry c.args.found.now.before from m))
 
 pub returns-in_err-take_main-clause-untold : goal.returns-in_err-take_main-clause-untold
 returns-in_err-take_main-clause-untold g c from there state layout unlinked number object m =
@@ -76,7 +76,7 @@ returns-in_err-take_main-clause-untold g c from there state layout unlinked numb
     let at = stays-there (g.F.Folder.told c.args.f.now) (g.F.Folder.told c.read_signature.new.f) from there stays in
     subst (λ (t : Told). IfDamaged c.from_residual-in_err-take_main.result (λ _. t.files ≡ None)) stays
     (carried c.take_main.result c.from_residual-in_err-take_main.result c.in_err-take_main.field-0.0 (λ _. (g.F.Folder.told c.read_signature.new.f).files ≡ None) c.in_err-take_main.was c.from_residual-in_err-take_main.ensures.1
-    (c.take_main.ensures.untold from at state layout unlinked number object m.kept.entries m.here m.live m.lies))
+    (c.take_main.ensures.untold from at state layout unlinked number object m.kept.entries m.here m.live (own-lies state layout unlinked number object c.args.key.now c.args.node c.args.found.now.entry c.args.found.now.before from m)))
 
 pub returns-clause-removed : goal.returns-clause-removed
 returns-clause-removed g c =
@@ -87,8 +87,8 @@ returns-clause-removed g c =
     let main-at1 = stays-there (g.F.Folder.told c.args.f.now) (g.F.Folder.told c.read_owned.new.f) from there c.in_ok-owned.ensures.stays in
     let charge = c.in_ok-owned.ensures.charge from there m.lies.was (main-loads state layout unlinked number object c.args.key.now c.args.node c.args.found.now.entry c.args.found.now.before from m) in
     let words = c.in_ok-owned.ensures.words from there m.lies.was (main-loads state layout unlinked number object c.args.key.now c.args.node c.args.found.now.entry c.args.found.now.before from m) in
-    let mid = told_then (g.F.Folder.told c.read_signature.new.f) (g.F.Folder.told c.take_main.new.f) from (FindsEither state (doomed number state (Some object))) at (c.in_ok-take_main.ensures.stops from at state layout unlinked number object m.kept.entries m.here m.live m.lies) in
-    let left = parts-left state layout unlinked number object c.args.key.now c.args.node c.args.found.now.entry c.args.found.now.before from m (words_at c.in_ok-owned.owned.places) mid.image (ap (λ (ws : List ℕ). ws ++ unlinked) words) (c.in_ok-take_main.ensures.out from at state layout unlinked number object m.kept.entries m.here m.live m.lies m.kept.counters charge mid.image mid.is) in
+    let mid = told_then (g.F.Folder.told c.read_signature.new.f) (g.F.Folder.told c.take_main.new.f) from (FindsEither state (doomed number state (Some object))) at (c.in_ok-take_main.ensures.stops from at state layout unlinked number object m.kept.entries m.here m.live (own-lies state layout unlinked number object c.args.key.now c.args.node c.args.found.now.entry c.args.found.now.before from m)) in
+    let left = parts-left state layout unlinked number object c.args.key.now c.args.node c.args.found.now.entry c.args.found.now.before from m (words_at c.in_ok-owned.owned.places) mid.image (ap (λ (ws : List ℕ). ws ++ unlinked) words) (c.in_ok-take_main.ensures.out from at state layout unlinked number object m.kept.entries m.here m.live (own-lies state layout unlinked number object c.args.key.now c.args.node c.args.found.now.entry c.args.found.now.before from m) m.kept.counters charge mid.image mid.is) in
     let sig = has-signature state layout unlinked number object c.args.key.now c.args.node c.args.found.now.entry c.args.found.now.before from m _ (c.in_ok-signature.ensures.signature from main-at1 m.lies.was m.index (main-loads state layout unlinked number object c.args.key.now c.args.node c.args.found.now.entry c.args.found.now.before from m) m.role ∙ sym (of_z-to_z w64 (cast_unsigned w64 c.in_ok-signature.signature) (let small = c.in_ok-signature.ensures.small in omega (arith, small)))) in
     gone-whole state layout unlinked number object c.args.key.now c.args.node c.args.found.now.entry c.args.found.now.before from m image (ends mid.image mid.is state layout _ _ unlinked number object left sig image is))
     c.drop_and_free.ensures.out
@@ -102,10 +102,10 @@ returns-clause-session g c =
     let main-at1 = stays-there (g.F.Folder.told c.args.f.now) (g.F.Folder.told c.read_owned.new.f) from there c.in_ok-owned.ensures.stays in
     let charge = c.in_ok-owned.ensures.charge from there m.lies.was (main-loads state layout unlinked number object c.args.key.now c.args.node c.args.found.now.entry c.args.found.now.before from m) in
     let words = c.in_ok-owned.ensures.words from there m.lies.was (main-loads state layout unlinked number object c.args.key.now c.args.node c.args.found.now.entry c.args.found.now.before from m) in
-    let mid = told_then (g.F.Folder.told c.read_signature.new.f) (g.F.Folder.told c.take_main.new.f) from (FindsEither state (doomed number state (Some object))) at (c.in_ok-take_main.ensures.stops from at state layout unlinked number object m.kept.entries m.here m.live m.lies) in
-    let left = parts-left state layout unlinked number object c.args.key.now c.args.node c.args.found.now.entry c.args.found.now.before from m (words_at c.in_ok-owned.owned.places) mid.image (ap (λ (ws : List ℕ). ws ++ unlinked) words) (c.in_ok-take_main.ensures.out from at state layout unlinked number object m.kept.entries m.here m.live m.lies m.kept.counters charge mid.image mid.is) in
+    let mid = told_then (g.F.Folder.told c.read_signature.new.f) (g.F.Folder.told c.take_main.new.f) from (FindsEither state (doomed number state (Some object))) at (c.in_ok-take_main.ensures.stops from at state layout unlinked number object m.kept.entries m.here m.live (own-lies state layout unlinked number object c.args.key.now c.args.node c.args.found.now.entry c.args.found.now.before from m)) in
+    let left = parts-left state layout unlinked number object c.args.key.now c.args.node c.args.found.now.entry c.args.found.now.before from m (words_at c.in_ok-owned.owned.places) mid.image (ap (λ (ws : List ℕ). ws ++ unlinked) words) (c.in_ok-take_main.ensures.out from at state layout unlinked number object m.kept.entries m.here m.live (own-lies state layout unlinked number object c.args.key.now c.args.node c.args.found.now.entry c.args.found.now.before from m) m.kept.counters charge mid.image mid.is) in
     let sig = has-signature state layout unlinked number object c.args.key.now c.args.node c.args.found.now.entry c.args.found.now.before from m _ (c.in_ok-signature.ensures.signature from main-at1 m.lies.was m.index (main-loads state layout unlinked number object c.args.key.now c.args.node c.args.found.now.entry c.args.found.now.before from m) m.role ∙ sym (of_z-to_z w64 (cast_unsigned w64 c.in_ok-signature.signature) (let small = c.in_ok-signature.ensures.small in omega (arith, small)))) in
-    then-session from mid.image image (c.in_ok-take_main.ensures.session from at state layout unlinked number object m.kept.entries m.here m.live m.lies mid.image mid.is) (ends mid.image mid.is state layout _ _ unlinked number object left sig image is))
+    then-session from mid.image image (c.in_ok-take_main.ensures.session from at state layout unlinked number object m.kept.entries m.here m.live (own-lies state layout unlinked number object c.args.key.now c.args.node c.args.found.now.entry c.args.found.now.before from m) mid.image mid.is) (ends mid.image mid.is state layout _ _ unlinked number object left sig image is))
     c.drop_and_free.ensures.session
 
 pub returns-clause-each : goal.returns-clause-each
@@ -117,8 +117,8 @@ returns-clause-each g c =
     let main-at1 = stays-there (g.F.Folder.told c.args.f.now) (g.F.Folder.told c.read_owned.new.f) from there c.in_ok-owned.ensures.stays in
     let charge = c.in_ok-owned.ensures.charge from there m.lies.was (main-loads state layout unlinked number object c.args.key.now c.args.node c.args.found.now.entry c.args.found.now.before from m) in
     let words = c.in_ok-owned.ensures.words from there m.lies.was (main-loads state layout unlinked number object c.args.key.now c.args.node c.args.found.now.entry c.args.found.now.before from m) in
-    let mid = told_then (g.F.Folder.told c.read_signature.new.f) (g.F.Folder.told c.take_main.new.f) from (FindsEither state (doomed number state (Some object))) at (c.in_ok-take_main.ensures.stops from at state layout unlinked number object m.kept.entries m.here m.live m.lies) in
-    let left = parts-left state layout unlinked number object c.args.key.now c.args.node c.args.found.now.entry c.args.found.now.before from m (words_at c.in_ok-owned.owned.places) mid.image (ap (λ (ws : List ℕ). ws ++ unlinked) words) (c.in_ok-take_main.ensures.out from at state layout unlinked number object m.kept.entries m.here m.live m.lies m.kept.counters charge mid.image mid.is) in
+    let mid = told_then (g.F.Folder.told c.read_signature.new.f) (g.F.Folder.told c.take_main.new.f) from (FindsEither state (doomed number state (Some object))) at (c.in_ok-take_main.ensures.stops from at state layout unlinked number object m.kept.entries m.here m.live (own-lies state layout unlinked number object c.args.key.now c.args.node c.args.found.now.entry c.args.found.now.before from m)) in
+    let left = parts-left state layout unlinked number object c.args.key.now c.args.node c.args.found.now.entry c.args.found.now.before from m (words_at c.in_ok-owned.owned.places) mid.image (ap (λ (ws : List ℕ). ws ++ unlinked) words) (c.in_ok-take_main.ensures.out from at state layout unlinked number object m.kept.entries m.here m.live (own-lies state layout unlinked number object c.args.key.now c.args.node c.args.found.now.entry c.args.found.now.before from m) m.kept.counters charge mid.image mid.is) in
     let sig = has-signature state layout unlinked number object c.args.key.now c.args.node c.args.found.now.entry c.args.found.now.before from m _ (c.in_ok-signature.ensures.signature from main-at1 m.lies.was m.index (main-loads state layout unlinked number object c.args.key.now c.args.node c.args.found.now.entry c.args.found.now.before from m) m.role ∙ sym (of_z-to_z w64 (cast_unsigned w64 c.in_ok-signature.signature) (let small = c.in_ok-signature.ensures.small in omega (arith, small)))) in
     subst (λ (ns : List ℕ). FoldsTo (λ p x q. goal.E-step g p x tt q) c.args.each.now ns c.drop_and_free.new.each) (all-among c.args.key.now object.key state.uses) (ends mid.image mid.is state layout _ _ unlinked number object left sig))
     c.drop_and_free.ensures.each
@@ -132,8 +132,8 @@ returns-clause-gone g c =
     let main-at1 = stays-there (g.F.Folder.told c.args.f.now) (g.F.Folder.told c.read_owned.new.f) from there c.in_ok-owned.ensures.stays in
     let charge = c.in_ok-owned.ensures.charge from there m.lies.was (main-loads state layout unlinked number object c.args.key.now c.args.node c.args.found.now.entry c.args.found.now.before from m) in
     let words = c.in_ok-owned.ensures.words from there m.lies.was (main-loads state layout unlinked number object c.args.key.now c.args.node c.args.found.now.entry c.args.found.now.before from m) in
-    let mid = told_then (g.F.Folder.told c.read_signature.new.f) (g.F.Folder.told c.take_main.new.f) from (FindsEither state (doomed number state (Some object))) at (c.in_ok-take_main.ensures.stops from at state layout unlinked number object m.kept.entries m.here m.live m.lies) in
-    let left = parts-left state layout unlinked number object c.args.key.now c.args.node c.args.found.now.entry c.args.found.now.before from m (words_at c.in_ok-owned.owned.places) mid.image (ap (λ (ws : List ℕ). ws ++ unlinked) words) (c.in_ok-take_main.ensures.out from at state layout unlinked number object m.kept.entries m.here m.live m.lies m.kept.counters charge mid.image mid.is) in
+    let mid = told_then (g.F.Folder.told c.read_signature.new.f) (g.F.Folder.told c.take_main.new.f) from (FindsEither state (doomed number state (Some object))) at (c.in_ok-take_main.ensures.stops from at state layout unlinked number object m.kept.entries m.here m.live (own-lies state layout unlinked number object c.args.key.now c.args.node c.args.found.now.entry c.args.found.now.before from m)) in
+    let left = parts-left state layout unlinked number object c.args.key.now c.args.node c.args.found.now.entry c.args.found.now.before from m (words_at c.in_ok-owned.owned.places) mid.image (ap (λ (ws : List ℕ). ws ++ unlinked) words) (c.in_ok-take_main.ensures.out from at state layout unlinked number object m.kept.entries m.here m.live (own-lies state layout unlinked number object c.args.key.now c.args.node c.args.found.now.entry c.args.found.now.before from m) m.kept.counters charge mid.image mid.is) in
     let sig = has-signature state layout unlinked number object c.args.key.now c.args.node c.args.found.now.entry c.args.found.now.before from m _ (c.in_ok-signature.ensures.signature from main-at1 m.lies.was m.index (main-loads state layout unlinked number object c.args.key.now c.args.node c.args.found.now.entry c.args.found.now.before from m) m.role ∙ sym (of_z-to_z w64 (cast_unsigned w64 c.in_ok-signature.signature) (let small = c.in_ok-signature.ensures.small in omega (arith, small)))) in
     group-told state layout unlinked number object c.args.key.now c.args.node c.args.found.now.entry c.args.found.now.before from m c.in_ok-owned.owned.charge gone charge (subst (λ (ns : List ℕ). AreGoneBeside layout (map (part c.args.key.now) ns) c.in_ok-owned.owned.charge gone) (all-among c.args.key.now object.key state.uses) (ends mid.image mid.is state layout _ _ unlinked number object left sig)))
     c.drop_and_free.ensures.gone
@@ -145,8 +145,8 @@ returns-clause-front g c from there state layout unlinked number object m =
     let main-at1 = stays-there (g.F.Folder.told c.args.f.now) (g.F.Folder.told c.read_owned.new.f) from there c.in_ok-owned.ensures.stays in
     let charge = c.in_ok-owned.ensures.charge from there m.lies.was (main-loads state layout unlinked number object c.args.key.now c.args.node c.args.found.now.entry c.args.found.now.before from m) in
     let words = c.in_ok-owned.ensures.words from there m.lies.was (main-loads state layout unlinked number object c.args.key.now c.args.node c.args.found.now.entry c.args.found.now.before from m) in
-    let mid = told_then (g.F.Folder.told c.read_signature.new.f) (g.F.Folder.told c.take_main.new.f) from (FindsEither state (doomed number state (Some object))) at (c.in_ok-take_main.ensures.stops from at state layout unlinked number object m.kept.entries m.here m.live m.lies) in
-    let left = parts-left state layout unlinked number object c.args.key.now c.args.node c.args.found.now.entry c.args.found.now.before from m (words_at c.in_ok-owned.owned.places) mid.image (ap (λ (ws : List ℕ). ws ++ unlinked) words) (c.in_ok-take_main.ensures.out from at state layout unlinked number object m.kept.entries m.here m.live m.lies m.kept.counters charge mid.image mid.is) in
+    let mid = told_then (g.F.Folder.told c.read_signature.new.f) (g.F.Folder.told c.take_main.new.f) from (FindsEither state (doomed number state (Some object))) at (c.in_ok-take_main.ensures.stops from at state layout unlinked number object m.kept.entries m.here m.live (own-lies state layout unlinked number object c.args.key.now c.args.node c.args.found.now.entry c.args.found.now.before from m)) in
+    let left = parts-left state layout unlinked number object c.args.key.now c.args.node c.args.found.now.entry c.args.found.now.before from m (words_at c.in_ok-owned.owned.places) mid.image (ap (λ (ws : List ℕ). ws ++ unlinked) words) (c.in_ok-take_main.ensures.out from at state layout unlinked number object m.kept.entries m.here m.live (own-lies state layout unlinked number object c.args.key.now c.args.node c.args.found.now.entry c.args.found.now.before from m) m.kept.counters charge mid.image mid.is) in
     let sig = has-signature state layout unlinked number object c.args.key.now c.args.node c.args.found.now.entry c.args.found.now.before from m _ (c.in_ok-signature.ensures.signature from main-at1 m.lies.was m.index (main-loads state layout unlinked number object c.args.key.now c.args.node c.args.found.now.entry c.args.found.now.before from m) m.role ∙ sym (of_z-to_z w64 (cast_unsigned w64 c.in_ok-signature.signature) (let small = c.in_ok-signature.ensures.small in omega (arith, small)))) in
     subst (λ (ns : List ℕ). IsCalledAtFront _ (λ p x q. goal.E-step g p x tt q) ns c.args.each.now c.drop_and_free.new.each) (all-among c.args.key.now object.key state.uses) (c.drop_and_free.ensures.front mid.image mid.is state layout _ _ unlinked number object left sig)
 
@@ -157,10 +157,10 @@ returns-clause-stops g c from there state layout unlinked number object m =
     let main-at1 = stays-there (g.F.Folder.told c.args.f.now) (g.F.Folder.told c.read_owned.new.f) from there c.in_ok-owned.ensures.stays in
     let charge = c.in_ok-owned.ensures.charge from there m.lies.was (main-loads state layout unlinked number object c.args.key.now c.args.node c.args.found.now.entry c.args.found.now.before from m) in
     let words = c.in_ok-owned.ensures.words from there m.lies.was (main-loads state layout unlinked number object c.args.key.now c.args.node c.args.found.now.entry c.args.found.now.before from m) in
-    let mid = told_then (g.F.Folder.told c.read_signature.new.f) (g.F.Folder.told c.take_main.new.f) from (FindsEither state (doomed number state (Some object))) at (c.in_ok-take_main.ensures.stops from at state layout unlinked number object m.kept.entries m.here m.live m.lies) in
-    let left = parts-left state layout unlinked number object c.args.key.now c.args.node c.args.found.now.entry c.args.found.now.before from m (words_at c.in_ok-owned.owned.places) mid.image (ap (λ (ws : List ℕ). ws ++ unlinked) words) (c.in_ok-take_main.ensures.out from at state layout unlinked number object m.kept.entries m.here m.live m.lies m.kept.counters charge mid.image mid.is) in
+    let mid = told_then (g.F.Folder.told c.read_signature.new.f) (g.F.Folder.told c.take_main.new.f) from (FindsEither state (doomed number state (Some object))) at (c.in_ok-take_main.ensures.stops from at state layout unlinked number object m.kept.entries m.here m.live (own-lies state layout unlinked number object c.args.key.now c.args.node c.args.found.now.entry c.args.found.now.before from m)) in
+    let left = parts-left state layout unlinked number object c.args.key.now c.args.node c.args.found.now.entry c.args.found.now.before from m (words_at c.in_ok-owned.owned.places) mid.image (ap (λ (ws : List ℕ). ws ++ unlinked) words) (c.in_ok-take_main.ensures.out from at state layout unlinked number object m.kept.entries m.here m.live (own-lies state layout unlinked number object c.args.key.now c.args.node c.args.found.now.entry c.args.found.now.before from m) m.kept.counters charge mid.image mid.is) in
     let sig = has-signature state layout unlinked number object c.args.key.now c.args.node c.args.found.now.entry c.args.found.now.before from m _ (c.in_ok-signature.ensures.signature from main-at1 m.lies.was m.index (main-loads state layout unlinked number object c.args.key.now c.args.node c.args.found.now.entry c.args.found.now.before from m) m.role ∙ sym (of_z-to_z w64 (cast_unsigned w64 c.in_ok-signature.signature) (let small = c.in_ok-signature.ensures.small in omega (arith, small)))) in
-    passes_stayed stays (passes_then (c.in_ok-take_main.ensures.stops from at state layout unlinked number object m.kept.entries m.here m.live m.lies) (passes_weaker (c.drop_and_free.ensures.stops mid.image mid.is state layout _ _ unlinked number object left sig) (λ image found. inr found) (λ image found. inr found)))
+    passes_stayed stays (passes_then (c.in_ok-take_main.ensures.stops from at state layout unlinked number object m.kept.entries m.here m.live (own-lies state layout unlinked number object c.args.key.now c.args.node c.args.found.now.entry c.args.found.now.before from m)) (passes_weaker (c.drop_and_free.ensures.stops mid.image mid.is state layout _ _ unlinked number object left sig) (λ image found. inr found) (λ image found. inr found)))
 
 pub returns-clause-untold : goal.returns-clause-untold
 returns-clause-untold g c from there state layout unlinked number object m =
@@ -169,7 +169,19 @@ returns-clause-untold g c from there state layout unlinked number object m =
     let main-at1 = stays-there (g.F.Folder.told c.args.f.now) (g.F.Folder.told c.read_owned.new.f) from there c.in_ok-owned.ensures.stays in
     let charge = c.in_ok-owned.ensures.charge from there m.lies.was (main-loads state layout unlinked number object c.args.key.now c.args.node c.args.found.now.entry c.args.found.now.before from m) in
     let words = c.in_ok-owned.ensures.words from there m.lies.was (main-loads state layout unlinked number object c.args.key.now c.args.node c.args.found.now.entry c.args.found.now.before from m) in
-    let mid = told_then (g.F.Folder.told c.read_signature.new.f) (g.F.Folder.told c.take_main.new.f) from (FindsEither state (doomed number state (Some object))) at (c.in_ok-take_main.ensures.stops from at state layout unlinked number object m.kept.entries m.here m.live m.lies) in
-    let left = parts-left state layout unlinked number object c.args.key.now c.args.node c.args.found.now.entry c.args.found.now.before from m (words_at c.in_ok-owned.owned.places) mid.image (ap (λ (ws : List ℕ). ws ++ unlinked) words) (c.in_ok-take_main.ensures.out from at state layout unlinked number object m.kept.entries m.here m.live m.lies m.kept.counters charge mid.image mid.is) in
+    let mid = told_then (g.F.Folder.told c.read_signature.new.f) (g.F.Folder.told c.take_main.new.f) from (FindsEither state (doomed number state (Some object))) at (c.in_ok-take_main.ensures.stops from at state layout unlinked number object m.kept.entries m.here m.live (own-lies state layout unlinked number object c.args.key.now c.args.node c.args.found.now.entry c.args.found.now.before from m)) in
+    let left = parts-left state layout unlinked number object c.args.key.now c.args.node c.args.found.now.entry c.args.found.now.before from m (words_at c.in_ok-owned.owned.places) mid.image (ap (λ (ws : List ℕ). ws ++ unlinked) words) (c.in_ok-take_main.ensures.out from at state layout unlinked number object m.kept.entries m.here m.live (own-lies state layout unlinked number object c.args.key.now c.args.node c.args.found.now.entry c.args.found.now.before from m) m.kept.counters charge mid.image mid.is) in
     let sig = has-signature state layout unlinked number object c.args.key.now c.args.node c.args.found.now.entry c.args.found.now.before from m _ (c.in_ok-signature.ensures.signature from main-at1 m.lies.was m.index (main-loads state layout unlinked number object c.args.key.now c.args.node c.args.found.now.entry c.args.found.now.before from m) m.role ∙ sym (of_z-to_z w64 (cast_unsigned w64 c.in_ok-signature.signature) (let small = c.in_ok-signature.ensures.small in omega (arith, small)))) in
     if_damaged_weaker c.drop_and_free.result _ _ (λ damage none. absurd (none-some (sym none ∙ mid.is))) (c.drop_and_free.ensures.untold mid.image mid.is state layout _ _ unlinked number object left sig)
+
+pub returns-in_err-owned-clause-calls : goal.returns-in_err-owned-clause-calls
+returns-in_err-owned-clause-calls g c = ([], refl)
+
+pub returns-in_err-signature-clause-calls : goal.returns-in_err-signature-clause-calls
+returns-in_err-signature-clause-calls g c = ([], refl)
+
+pub returns-in_err-take_main-clause-calls : goal.returns-in_err-take_main-clause-calls
+returns-in_err-take_main-clause-calls g c = ([], refl)
+
+pub returns-clause-calls : goal.returns-clause-calls
+returns-clause-calls g c = c.drop_and_free.ensures.calls
