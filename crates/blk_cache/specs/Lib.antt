@@ -15,7 +15,6 @@ pub mod RoomKept
 pub mod Evicting
 pub mod MakingRoom
 pub mod Stepping
-pub mod Listing
 pub mod EvictingGroups
 pub mod Closing
 pub mod Asking

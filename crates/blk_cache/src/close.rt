@@ -15,6 +15,7 @@ ghost use Rattle.blk_kept.specs.Commands.{Does, MayStopAtEach};
 ghost use Rattle.blk_cache.specs.CacheKeeping.{KeepsState};
 ghost use Rattle.blk_cache.specs.Closing.{Cleans, CountsClosed, FreesAll, HasFreeable, IsCloseDamage, IsEndDamage, MayEnd};
 ghost use Rattle.blk_cache.specs.CommandClauses.{IsRefused, KeepsAny, OnlyNamesChange};
+ghost use Rattle.blk_cache.specs.Stepping.{HasLine};
 
 use crate::cache::Cache;
 use crate::looking::read_charge;
@@ -45,6 +46,7 @@ impl Cache {
         ensures unchanged { IfOk result (λ answer. IsRefused answer → self.new ≡ self.old) }
 
         ensures is_open { ForSome (F.told f.new).files (IsOpen self.new.files) }
+        ensures has_line { IfOk result HasLine }
         ensures notes { self.new.notes ≡ self.old.notes }
 
         // A folder that tells its files gives no damage where the cache keeps a state.

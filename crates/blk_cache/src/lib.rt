@@ -13,7 +13,6 @@ mod fault;
 mod goal;
 mod item_names;
 mod laws;
-mod list;
 mod looking;
 mod making_room;
 mod names;

@@ -89,7 +89,7 @@ impl Cache {
         ensures bound { IfOk result (λ closed. closed ≡ is_some (position is_some self.old.handles)) }
 
         // Where a name is bound its Close is done, and noted.
-        ensures does { IfOk result (λ _. IfSome (position is_some self.old.handles) (λ handle. Does (KeepsState self.old) (KeepsState self.new) (F.told f.old) (F.told f.new) moment (to_close handle) Answer.Done)) }
+        ensures kept { OnOk result (IfSome (position is_some self.old.handles) (λ handle. ForKept (KeepsState self.old) (F.told f.old) (λ state. ForSome (F.told f.new).files (KeepsState self.new (step state moment (to_close handle)).state)))) }
         ensures stepped { IfSome (position is_some self.old.handles) (λ handle. ForKept (KeepsState self.old) (F.told f.old) (IsStepped (F.told f.old) (F.told f.new) moment (to_close handle) (note_number (self.old.notes + 1)))) }
         ensures noted { OnOk result (IfSome (position is_some self.old.handles) (λ handle. ForKept (KeepsState self.old) (F.told f.old) (IsNoted (F.told f.old) (F.told f.new) moment (to_close handle) (note_number (self.old.notes + 1))))) }
         ensures counts { OnOk result (IfSome (position is_some self.old.handles) (λ _. self.new.notes ≡ note_number (self.old.notes + 1))) }

@@ -1,81 +1,90 @@
-use Rattle.std.proofs.Common.{rules, ◌≡◌, ◌≢◌, ◌≤◌, ◌+◌, ◌∷◌, ◌++◌, [], IfOk, IfSome, None, OnErr, OnOk, Some, is_some, position, true, ℕ, ◌-◌, ◌*◌, ◌<◌, length, ◌/◌, ◌%◌, Bool, false, nat_eq, nat_lt, List, slice_index_or, slice_set, bit_and, bit_or, Fits, w8, w32, w64, Bor, MutBor}
-use Rattle.std.specs.Option.{ForSome, option_map}
+use Rattle.std.proofs.Common.{◌≡◌, ℕ, ◌+◌, [], ◌∷◌, Bool, false, refl, ap, subst}
 use Rattle.blk_image.specs.Steps.{Note}
-use Rattle.blk_image.specs.Told.{Applies, Rises, Stays}
-use Rattle.blk_io.specs.Faults.{IfDamaged, IfDevice}
-use Rattle.blk_io.specs.Streams.{Appends}
-use Rattle.blk_model.specs.Reply.{answer_of, answered}
-use Rattle.blk_model.specs.Request.{request_of, to_close}
-use Rattle.blk_model.specs.Step.{step}
-use Rattle.blk_disk.specs.Open.{IsOpen}
-use Rattle.blk_kept.specs.Commands.{Does, ForKept, IsNoted, IsStepped, MayStopAtEach, note_number}
-use Rattle.blk_script.specs.Reply.{reply_text}
-use Rattle.blk_cache.specs.CacheKeeping.{KeepsState}
-use Rattle.blk_cache.specs.CommandClauses.{IsRefused, KeepsAny, OnlyNotesChange}
-use Rattle.blk_cache.specs.RoomPrinting.{FailsWhereItRose, Prints}
-use Rattle.blk_cache.specs.Stepping.{HasLine, IfDone, IfSink, IfStepDamaged, IfStepDevice, IsBuilt, SaysEvicted, SaysFront, evicted_first, outcome_text}
+use Rattle.blk_image.specs.Told.{Applies, Told}
+use Rattle.blk_model.specs.Request.{request_of}
+use Rattle.blk_kept.specs.Commands.{note_number}
+use Rattle.blk_cache.proofs.Notes.{not-noted, noted-does, noted-ends, noted-steps, open-on, same-files}
+use Rattle.blk_cache.proofs.StepTexts.{front-of-whole, front-printed, whole-printed}
 use Rattle.blk_cache.proofs.cache.Cache.step.Goals as goal
 
--- src/stepping.rt:71:22
+-- It isn't done.
+
 pub returns-in_err-answer-clause-stepped : goal.returns-in_err-answer-clause-stepped
-returns-in_err-answer-clause-stepped g c = ?
+returns-in_err-answer-clause-stepped g c =
+    not-noted c.args.self.now c.perform.new.self c.perform.new.self (g.F.Folder.told c.args.f.now) (g.F.Folder.told c.perform.new.f) (g.F.Folder.told c.perform.new.f) c.args.moment (request_of c.args.command.now) (note_number (c.args.self.now.notes + 1)) c.in_err-answer.ensures.stops refl
 
--- src/stepping.rt:71:22
 pub returns-in_err-answer-clause-front : goal.returns-in_err-answer-clause-front
-returns-in_err-answer-clause-front g c = ?
+returns-in_err-answer-clause-front g c = front-of-whole c.args.self.now (g.F.Folder.told c.args.f.now) c.args.moment (request_of c.args.command.now) (g.K.Sink.written c.args.out.now) (g.K.Sink.written c.perform.new.out) c.in_err-answer.ensures.front
 
--- src/stepping.rt:72:9
+-- The note isn't made.
+
 pub returns-in_err-note-clause-stepped : goal.returns-in_err-note-clause-stepped
-returns-in_err-note-clause-stepped g c = ?
+returns-in_err-note-clause-stepped g c =
+    not-noted c.args.self.now c.perform.new.self c.note.new.self (g.F.Folder.told c.args.f.now) (g.F.Folder.told c.perform.new.f) (g.F.Folder.told c.note.new.f) c.args.moment (request_of c.args.command.now) (note_number (c.args.self.now.notes + 1)) c.in_ok-answer.ensures.stops c.in_err-note.ensures.undone
 
--- src/stepping.rt:72:9
 pub returns-in_err-note-clause-front : goal.returns-in_err-note-clause-front
-returns-in_err-note-clause-front g c = ?
+returns-in_err-note-clause-front g c = front-of-whole c.args.self.now (g.F.Folder.told c.args.f.now) c.args.moment (request_of c.args.command.now) (g.K.Sink.written c.args.out.now) (g.K.Sink.written c.perform.new.out) c.in_ok-answer.ensures.front
 
--- src/stepping.rt:36:5
+-- the note that is made
+made : (old mid : ℕ) (told now : Told) → mid ≡ old → Applies told now (Note (note_number (mid + 1)) ∷ []) → Applies told now (Note (note_number (old + 1)) ∷ [])
+made old mid told now same note = subst (λ (n : ℕ). Applies told now (Note (note_number (n + 1)) ∷ [])) same note
+
+-- It is done, and the sink failed.
+
 pub returns-then-failed-clause-kept : goal.returns-then-failed-clause-kept
-returns-then-failed-clause-kept g c = ?
+returns-then-failed-clause-kept g c image there state k =
+    (noted-does c.args.self.now c.perform.new.self c.note.new.self (g.F.Folder.told c.args.f.now) (g.F.Folder.told c.perform.new.f) (g.F.Folder.told c.note.new.f) c.args.moment (request_of c.args.command.now) (note_number (c.args.self.now.notes + 1)) c.in_ok-answer.ensures.stops c.in_ok-answer.answer c.in_ok-answer.ensures.does
+    (made c.args.self.now.notes c.perform.new.self.notes (g.F.Folder.told c.perform.new.f) (g.F.Folder.told c.note.new.f) c.in_ok-answer.ensures.notes c.in_ok-note.ensures.done) c.in_ok-note.ensures.others image there state k).kept
 
--- src/stepping.rt:36:5
 pub returns-then-failed-clause-stepped : goal.returns-then-failed-clause-stepped
-returns-then-failed-clause-stepped g c = ?
+returns-then-failed-clause-stepped g c =
+    noted-steps c.args.self.now c.perform.new.self c.note.new.self (g.F.Folder.told c.args.f.now) (g.F.Folder.told c.perform.new.f) (g.F.Folder.told c.note.new.f) c.args.moment (request_of c.args.command.now) (note_number (c.args.self.now.notes + 1)) c.in_ok-answer.ensures.stops c.in_ok-answer.answer c.in_ok-answer.ensures.does
+    (made c.args.self.now.notes c.perform.new.self.notes (g.F.Folder.told c.perform.new.f) (g.F.Folder.told c.note.new.f) c.in_ok-answer.ensures.notes c.in_ok-note.ensures.done) c.in_ok-note.ensures.others
 
--- src/stepping.rt:36:5
 pub returns-then-failed-clause-noted : goal.returns-then-failed-clause-noted
-returns-then-failed-clause-noted g c = ?
+returns-then-failed-clause-noted g c =
+    noted-ends c.args.self.now c.perform.new.self c.note.new.self (g.F.Folder.told c.args.f.now) (g.F.Folder.told c.perform.new.f) (g.F.Folder.told c.note.new.f) c.args.moment (request_of c.args.command.now) (note_number (c.args.self.now.notes + 1)) c.in_ok-answer.ensures.stops c.in_ok-answer.answer c.in_ok-answer.ensures.does
+    (made c.args.self.now.notes c.perform.new.self.notes (g.F.Folder.told c.perform.new.f) (g.F.Folder.told c.note.new.f) c.in_ok-answer.ensures.notes c.in_ok-note.ensures.done) c.in_ok-note.ensures.others
 
--- src/stepping.rt:36:5
 pub returns-then-failed-clause-front : goal.returns-then-failed-clause-front
-returns-then-failed-clause-front g c = ?
+returns-then-failed-clause-front g c =
+    front-printed c.args.self.now c.perform.new.self (g.F.Folder.told c.args.f.now) (g.F.Folder.told c.perform.new.f) c.args.moment (request_of c.args.command.now) c.requires.built c.in_ok-answer.answer c.in_ok-answer.ensures.does
+    c.perform.new.failed c.reply.new.failed (g.K.Sink.written c.args.out.now) (g.K.Sink.written c.perform.new.out) (g.K.Sink.written c.reply.new.out) c.in_ok-answer.ensures.says c.reply.ensures.prints
 
--- src/stepping.rt:36:5
 pub returns-then-failed-clause-is_open : goal.returns-then-failed-clause-is_open
-returns-then-failed-clause-is_open g c = ?
+returns-then-failed-clause-is_open g c =
+    open-on c.perform.new.self c.note.new.self (g.F.Folder.told c.perform.new.f) (g.F.Folder.told c.note.new.f) (same-files (g.F.Folder.told c.perform.new.f) (g.F.Folder.told c.note.new.f) _ c.in_ok-note.ensures.done) c.in_ok-note.ensures.others c.in_ok-answer.ensures.is_open
 
--- src/stepping.rt:36:5
+-- It is done, and answered.
+
 pub returns-else-failed-clause-answered : goal.returns-else-failed-clause-answered
-returns-else-failed-clause-answered g c = ?
+returns-else-failed-clause-answered g c image there state k = (c.in_ok-answer.ensures.does image there state k).answered
 
--- src/stepping.rt:36:5
 pub returns-else-failed-clause-kept : goal.returns-else-failed-clause-kept
-returns-else-failed-clause-kept g c = ?
+returns-else-failed-clause-kept g c image there state k =
+    (noted-does c.args.self.now c.perform.new.self c.note.new.self (g.F.Folder.told c.args.f.now) (g.F.Folder.told c.perform.new.f) (g.F.Folder.told c.note.new.f) c.args.moment (request_of c.args.command.now) (note_number (c.args.self.now.notes + 1)) c.in_ok-answer.ensures.stops c.in_ok-answer.answer c.in_ok-answer.ensures.does
+    (made c.args.self.now.notes c.perform.new.self.notes (g.F.Folder.told c.perform.new.f) (g.F.Folder.told c.note.new.f) c.in_ok-answer.ensures.notes c.in_ok-note.ensures.done) c.in_ok-note.ensures.others image there state k).kept
 
--- src/stepping.rt:36:5
 pub returns-else-failed-clause-stepped : goal.returns-else-failed-clause-stepped
-returns-else-failed-clause-stepped g c = ?
+returns-else-failed-clause-stepped g c =
+    noted-steps c.args.self.now c.perform.new.self c.note.new.self (g.F.Folder.told c.args.f.now) (g.F.Folder.told c.perform.new.f) (g.F.Folder.told c.note.new.f) c.args.moment (request_of c.args.command.now) (note_number (c.args.self.now.notes + 1)) c.in_ok-answer.ensures.stops c.in_ok-answer.answer c.in_ok-answer.ensures.does
+    (made c.args.self.now.notes c.perform.new.self.notes (g.F.Folder.told c.perform.new.f) (g.F.Folder.told c.note.new.f) c.in_ok-answer.ensures.notes c.in_ok-note.ensures.done) c.in_ok-note.ensures.others
 
--- src/stepping.rt:36:5
 pub returns-else-failed-clause-noted : goal.returns-else-failed-clause-noted
-returns-else-failed-clause-noted g c = ?
+returns-else-failed-clause-noted g c =
+    noted-ends c.args.self.now c.perform.new.self c.note.new.self (g.F.Folder.told c.args.f.now) (g.F.Folder.told c.perform.new.f) (g.F.Folder.told c.note.new.f) c.args.moment (request_of c.args.command.now) (note_number (c.args.self.now.notes + 1)) c.in_ok-answer.ensures.stops c.in_ok-answer.answer c.in_ok-answer.ensures.does
+    (made c.args.self.now.notes c.perform.new.self.notes (g.F.Folder.told c.perform.new.f) (g.F.Folder.told c.note.new.f) c.in_ok-answer.ensures.notes c.in_ok-note.ensures.done) c.in_ok-note.ensures.others
 
--- src/stepping.rt:36:5
 pub returns-else-failed-clause-printed : goal.returns-else-failed-clause-printed
-returns-else-failed-clause-printed g c = ?
+returns-else-failed-clause-printed g c =
+    whole-printed c.args.self.now c.perform.new.self (g.F.Folder.told c.args.f.now) (g.F.Folder.told c.perform.new.f) c.args.moment (request_of c.args.command.now) c.requires.built c.in_ok-answer.answer c.in_ok-answer.ensures.does
+    c.perform.new.failed c.reply.new.failed (g.K.Sink.written c.args.out.now) (g.K.Sink.written c.perform.new.out) (g.K.Sink.written c.reply.new.out) c.in_ok-answer.ensures.says c.reply.ensures.prints c.if-failed.false
 
--- src/stepping.rt:36:5
 pub returns-else-failed-clause-front : goal.returns-else-failed-clause-front
-returns-else-failed-clause-front g c = ?
+returns-else-failed-clause-front g c =
+    front-printed c.args.self.now c.perform.new.self (g.F.Folder.told c.args.f.now) (g.F.Folder.told c.perform.new.f) c.args.moment (request_of c.args.command.now) c.requires.built c.in_ok-answer.answer c.in_ok-answer.ensures.does
+    c.perform.new.failed c.reply.new.failed (g.K.Sink.written c.args.out.now) (g.K.Sink.written c.perform.new.out) (g.K.Sink.written c.reply.new.out) c.in_ok-answer.ensures.says c.reply.ensures.prints
 
--- src/stepping.rt:36:5
 pub returns-else-failed-clause-is_open : goal.returns-else-failed-clause-is_open
-returns-else-failed-clause-is_open g c = ?
+returns-else-failed-clause-is_open g c =
+    open-on c.perform.new.self c.note.new.self (g.F.Folder.told c.perform.new.f) (g.F.Folder.told c.note.new.f) (same-files (g.F.Folder.told c.perform.new.f) (g.F.Folder.told c.note.new.f) _ c.in_ok-note.ensures.done) c.in_ok-note.ensures.others c.in_ok-answer.ensures.is_open

@@ -1,0 +1,59 @@
+use Rattle.std.proofs.Common.{◌≡◌, refl, sym, subst}
+use Rattle.std.specs.Prelude.{OnOk}
+use Rattle.blk_model.specs.Request.{request_of, to_close, to_open, to_total}
+use Rattle.blk_model.specs.declared.Command.{Command}
+use Rattle.blk_kept.specs.Commands.{Does, MayStopAtEach}
+use Rattle.blk_kept.proofs.Stopping.{nothing-stops}
+use Rattle.blk_cache.specs.CacheKeeping.{KeepsState}
+use Rattle.blk_cache.specs.Stepping.{SaysEvicted, SaysFront}
+use Rattle.blk_cache.proofs.CreateWhole.{on-ok}
+use Rattle.blk_cache.proofs.Refusing.{says-kept}
+use Rattle.blk_cache.proofs.StepTexts.{front-nothing, says-nothing}
+use Rattle.blk_cache.proofs.cache.Cache.perform.Goals as goal
+
+pub returns-in-Create-clause-stops : goal.returns-in-Create-clause-stops
+returns-in-Create-clause-stops g c = subst (λ (cmd : Command). MayStopAtEach (KeepsState c.args.self.now) (g.F.Folder.told c.args.f.now) (g.F.Folder.told c.create.new.f) c.args.moment (request_of cmd)) (sym c.in-Create.is) c.create.ensures.stops
+
+pub returns-in-Create-clause-says : goal.returns-in-Create-clause-says
+returns-in-Create-clause-says g c = subst (λ (cmd : Command). OnOk c.create.result (SaysEvicted c.args.self.now (g.F.Folder.told c.args.f.now) c.args.moment (request_of cmd) c.args.failed.now c.create.new.failed (g.K.Sink.written c.args.out.now) (g.K.Sink.written c.create.new.out))) (sym c.in-Create.is) c.create.ensures.says
+
+pub returns-in-Create-clause-front : goal.returns-in-Create-clause-front
+returns-in-Create-clause-front g c = subst (λ (cmd : Command). SaysFront c.args.self.now (g.F.Folder.told c.args.f.now) c.args.moment (request_of cmd) (g.K.Sink.written c.args.out.now) (g.K.Sink.written c.create.new.out)) (sym c.in-Create.is) c.create.ensures.front
+
+pub returns-in-Open-clause-stops : goal.returns-in-Open-clause-stops
+returns-in-Open-clause-stops g c = subst (λ (cmd : Command). MayStopAtEach (KeepsState c.args.self.now) (g.F.Folder.told c.args.f.now) (g.F.Folder.told c.open.new.f) c.args.moment (request_of cmd)) (sym c.in-Open.is) c.open.ensures.stops
+
+pub returns-in-Open-clause-says : goal.returns-in-Open-clause-says
+returns-in-Open-clause-says g c = subst (λ (cmd : Command). OnOk c.open.result (SaysEvicted c.args.self.now (g.F.Folder.told c.args.f.now) c.args.moment (request_of cmd) c.args.failed.now c.args.failed.now (g.K.Sink.written c.args.out.now) (g.K.Sink.written c.args.out.now))) (sym c.in-Open.is)
+    (on-ok c.open.result (SaysEvicted c.args.self.now (g.F.Folder.told c.args.f.now) c.args.moment (to_open c.in-Open.handle c.in-Open.key.now) c.args.failed.now c.args.failed.now (g.K.Sink.written c.args.out.now) (g.K.Sink.written c.args.out.now))
+    (says-nothing c.args.self.now (g.F.Folder.told c.args.f.now) c.args.moment (to_open c.in-Open.handle c.in-Open.key.now) tt c.args.failed.now (g.K.Sink.written c.args.out.now)))
+
+pub returns-in-Open-clause-front : goal.returns-in-Open-clause-front
+returns-in-Open-clause-front g c = subst (λ (cmd : Command). SaysFront c.args.self.now (g.F.Folder.told c.args.f.now) c.args.moment (request_of cmd) (g.K.Sink.written c.args.out.now) (g.K.Sink.written c.args.out.now)) (sym c.in-Open.is)
+    (front-nothing c.args.self.now (g.F.Folder.told c.args.f.now) c.args.moment (to_open c.in-Open.handle c.in-Open.key.now) tt c.args.failed.now (g.K.Sink.written c.args.out.now))
+
+pub returns-in-Close-clause-stops : goal.returns-in-Close-clause-stops
+returns-in-Close-clause-stops g c = subst (λ (cmd : Command). MayStopAtEach (KeepsState c.args.self.now) (g.F.Folder.told c.args.f.now) (g.F.Folder.told c.close.new.f) c.args.moment (request_of cmd)) (sym c.in-Close.is) (c.close.ensures.stops c.args.moment)
+
+pub returns-in-Close-clause-says : goal.returns-in-Close-clause-says
+returns-in-Close-clause-says g c = subst (λ (cmd : Command). OnOk c.close.result (SaysEvicted c.args.self.now (g.F.Folder.told c.args.f.now) c.args.moment (request_of cmd) c.args.failed.now c.args.failed.now (g.K.Sink.written c.args.out.now) (g.K.Sink.written c.args.out.now))) (sym c.in-Close.is)
+    (on-ok c.close.result (SaysEvicted c.args.self.now (g.F.Folder.told c.args.f.now) c.args.moment (to_close c.in-Close.handle) c.args.failed.now c.args.failed.now (g.K.Sink.written c.args.out.now) (g.K.Sink.written c.args.out.now))
+    (says-nothing c.args.self.now (g.F.Folder.told c.args.f.now) c.args.moment (to_close c.in-Close.handle) tt c.args.failed.now (g.K.Sink.written c.args.out.now)))
+
+pub returns-in-Close-clause-front : goal.returns-in-Close-clause-front
+returns-in-Close-clause-front g c = subst (λ (cmd : Command). SaysFront c.args.self.now (g.F.Folder.told c.args.f.now) c.args.moment (request_of cmd) (g.K.Sink.written c.args.out.now) (g.K.Sink.written c.args.out.now)) (sym c.in-Close.is)
+    (front-nothing c.args.self.now (g.F.Folder.told c.args.f.now) c.args.moment (to_close c.in-Close.handle) tt c.args.failed.now (g.K.Sink.written c.args.out.now))
+
+pub returns-in-Total-clause-does : goal.returns-in-Total-clause-does
+returns-in-Total-clause-does g c = subst (λ (cmd : Command). Does (KeepsState c.args.self.now) (KeepsState c.args.self.now) (g.F.Folder.told c.args.f.now) (g.F.Folder.told c.args.f.now) c.args.moment (request_of cmd) c.total.result) (sym c.in-Total.is) (c.total.ensures.does (g.F.Folder.told c.args.f.now) c.args.moment)
+
+pub returns-in-Total-clause-stops : goal.returns-in-Total-clause-stops
+returns-in-Total-clause-stops g c = nothing-stops (KeepsState c.args.self.now) (says-kept c.args.self.now) (g.F.Folder.told c.args.f.now) (g.F.Folder.told c.args.f.now) c.args.moment (request_of c.args.command.now) refl
+
+pub returns-in-Total-clause-says : goal.returns-in-Total-clause-says
+returns-in-Total-clause-says g c = subst (λ (cmd : Command). SaysEvicted c.args.self.now (g.F.Folder.told c.args.f.now) c.args.moment (request_of cmd) c.args.failed.now c.args.failed.now (g.K.Sink.written c.args.out.now) (g.K.Sink.written c.args.out.now)) (sym c.in-Total.is)
+    (says-nothing c.args.self.now (g.F.Folder.told c.args.f.now) c.args.moment to_total tt c.args.failed.now (g.K.Sink.written c.args.out.now))
+
+pub returns-in-Total-clause-front : goal.returns-in-Total-clause-front
+returns-in-Total-clause-front g c = subst (λ (cmd : Command). SaysFront c.args.self.now (g.F.Folder.told c.args.f.now) c.args.moment (request_of cmd) (g.K.Sink.written c.args.out.now) (g.K.Sink.written c.args.out.now)) (sym c.in-Total.is)
+    (front-nothing c.args.self.now (g.F.Folder.told c.args.f.now) c.args.moment to_total tt c.args.failed.now (g.K.Sink.written c.args.out.now))
