@@ -1,4 +1,4 @@
-use Rattle.std.proofs.Common.{rules, refl, ◌≡◌, ◌∙◌, sym, ap, subst, arith, inl, inr, ℕ, [], ◌∷◌, Option, Some, None, true, false}
+use Rattle.std.proofs.Common.{rules, refl, ◌≡◌, ◌∙◌, sym, ap, subst, arith, inl, inr, Option, Some, None, true, false}
 use Rattle.std.specs.Prelude.{IfSome, IsTrue}
 use Rattle.blk_image.specs.Told.{Told}
 use Rattle.blk_io.proofs.Carried.{carried}
