@@ -1,7 +1,6 @@
 -- What a cache keeps once a group is out of its folder.
-use Rattle.std.proofs.Common.{◌≡◌, ℕ, ◌-◌, [], ◌∷◌, List, ap, ◌∙◌, arith}
+use Rattle.std.proofs.Common.{◌≡◌, ◌-◌, [], ◌∷◌, ap, ◌∙◌, arith}
 use Rattle.blk_image.specs.Image.{Image}
-use Rattle.blk_model.specs.Items.{Item}
 use Rattle.blk_model.specs.Room.{without}
 use Rattle.blk_model.specs.State.{State}
 use Rattle.blk_volume.specs.Layout.{Layout}

@@ -1,7 +1,7 @@
 -- Groups that are evicted one after another: what has gone as the loop goes.
 use Rattle.std.proofs.Common.{◌≡◌, ◌⊎◌, ℕ, ◌+◌, ◌≤◌, Bool, true, false, not, ◌||◌, cond, List, [], ◌∷◌, ◌++◌, length, map, Option, Some, None, Result, Ok, Err, refl, sym, ap, subst, ◌∙◌, arith, inl, inr, append_assoc, append-nil, ⊎_elim}
 use Rattle.std.specs.Option.{ForSome, option_map}
-use Rattle.std.specs.List.{AllByRecursion, filter, flat_map, sum_by}
+use Rattle.std.specs.List.{AllByRecursion, filter, flat_map}
 use Rattle.std.specs.Str.{bytes_eq}
 use Rattle.std.proofs.lemmas.Bool.{cases_Bool}
 use Rattle.std.proofs.lemmas.Grind.{flat_map-append}
@@ -23,7 +23,7 @@ use Rattle.blk_model.specs.Room.{Group, evicted_until, is_out, is_pinned, items,
 use Rattle.blk_model.specs.State.{IsValidState, State}
 use Rattle.blk_model.proofs.Same.{bytes_eq_self, same_bytes, same_item_self}
 use Rattle.blk_script.specs.Reply.{evicted_line, evicted_text}
-use Rattle.blk_volume.specs.Layout.{Layout, nodes_of}
+use Rattle.blk_volume.specs.Layout.{Layout}
 use Rattle.blk_lru.specs.Lists.{first_node_of}
 use Rattle.blk_kept.specs.Changes.{Finds}
 use Rattle.blk_kept.proofs.CommandEnding.{groups-turn}
@@ -33,10 +33,10 @@ use Rattle.blk_object.proofs.MakingRoom.{uses-few}
 use Rattle.blk_cache.specs.declared.cache.Cache.{Cache}
 use Rattle.blk_cache.specs.declared.room_search.Unpinned.{Unpinned}
 use Rattle.blk_cache.specs.CacheKeeping.{KeepsState}
-use Rattle.blk_cache.specs.Evicting.{IsEvicting, KeepsInPlaces, KeepsLastAt, count_of_groups}
-use Rattle.blk_cache.specs.RoomLaws.{AreAllPinned, IsLastUnpinned, group_for}
+use Rattle.blk_cache.specs.Evicting.{IsEvicting, KeepsInPlaces, count_of_groups}
+use Rattle.blk_cache.specs.RoomLaws.{AreAllPinned, group_for}
 use Rattle.blk_cache.specs.RoomPrinting.{FailsWhereItRose, Prints}
-use Rattle.blk_cache.specs.RoomSearch.{IsLastAt, IsPinnedFrom, KeepsPinnedFrom}
+use Rattle.blk_cache.specs.RoomSearch.{IsLastAt, IsPinnedFrom}
 use Rattle.blk_cache.proofs.RoomCounts.{counted-less}
 use Rattle.blk_cache.proofs.RoomGroups.{last-next, nothing-more, others-next, pinned-before, without-none}
 use Rattle.blk_cache.proofs.RoomTexts.{none-printed, printed-on}

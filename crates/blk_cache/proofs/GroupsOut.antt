@@ -1,5 +1,5 @@
 -- The last item that isn't pinned, by its record, and what is left once its group is out.
-use Rattle.std.proofs.Common.{◌≡◌, ℕ, ◌+◌, ◌≤◌, Bool, true, false, List, [], ◌∷◌, ◌++◌, length, map, take, Option, Some, None, Result, Ok, Err, inl, refl, sym, ap, subst, ◌∙◌, arith, append-nil, ⊎_elim}
+use Rattle.std.proofs.Common.{◌≡◌, ℕ, ◌≤◌, Bool, true, false, List, [], ◌∷◌, length, map, take, Option, Some, None, Result, Ok, Err, inl, refl, sym, ap, subst, ◌∙◌, arith, append-nil, ⊎_elim}
 use Rattle.std.specs.Prelude.{◌&&◌, ◌==◌, IfOk, IfSome, OnOk, if◌then◌else◌, is_some, not, slice_set}
 use Rattle.std.specs.List.{cons_option, filter_map, flat_map, sum_by}
 use Rattle.std.specs.Option.{option_and_then, option_map, option_map_or}
@@ -13,14 +13,14 @@ use Rattle.blk_model.specs.Effects.{doomed}
 use Rattle.blk_model.specs.Items.{Item, Row, Shape, is_sparse, item_of, main, main_row, part, part_row, plain, same_item}
 use Rattle.blk_model.specs.Holding as model
 use Rattle.blk_model.specs.Room.{Group, single, whole, is_pinned, items_of_group, part_number, parts_among, without}
-use Rattle.blk_model.specs.State.{IsObject, IsValidState, Object, State, has_item, is_named, live_with, object_at, part_at}
+use Rattle.blk_model.specs.State.{IsObject, Object, State, is_named, live_with, object_at, part_at}
 use Rattle.blk_model.specs.Totals.{row_charge}
 use Rattle.blk_model.proofs.Chosen.{Owner, has_owner}
 use Rattle.blk_model.proofs.StopRests.{owner_key, owner_live}
 use Rattle.blk_script.specs.Reply.{evicted_line, evicted_text}
 use Rattle.blk_format.specs.Names.{Name, read_name}
 use Rattle.blk_format.specs.Records.{child, parent}
-use Rattle.blk_format.specs.SparseIndex.{ParentIndex, PartIndex, read_parent_index}
+use Rattle.blk_format.specs.SparseIndex.{ParentIndex, read_parent_index}
 use Rattle.blk_volume.specs.Entries.{IsParent, IsPart, IsPlain, Role, parent_role, part_role, role_of, stream}
 use Rattle.blk_volume.specs.Found.{charge_of, row_of_loaded, row_with}
 use Rattle.blk_volume.specs.Layout.{IsPlacedAt, Layout, is_in, is_listed, rule_of}
@@ -53,7 +53,6 @@ use Rattle.blk_object.proofs.FoundLeft.{listed-found}
 use Rattle.blk_object.proofs.OwnedPlaces.{kept-load}
 use Rattle.blk_object.proofs.PartNames.{all-piece, head-flags, key-short, key-there}
 use Rattle.blk_object.proofs.PlainObjects.{no-listed, plain-alone}
-use Rattle.blk_sparse.specs.declared.dropping.Gone.{Gone}
 use Rattle.blk_cache.specs.declared.item_names.EntryKind.{EntryKind}
 use Rattle.blk_cache.specs.declared.item_names.EntryKind.TheVariants as kinds
 use Rattle.blk_cache.specs.declared.item_names.Named.{Named}

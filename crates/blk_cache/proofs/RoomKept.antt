@@ -126,17 +126,20 @@ evicted-kept state front item behind there old new from image k is gone =
     let fewer_bytes = gone.fewer.bytes_less in
     let items_were = k.items_are in
     let bytes_were = k.bytes_are in
-    record { layout_is = refl; kept = record {
-      layout = there;
-      kept = gone.kept;
-      limits = limits-left state (group_for item front) ∙ k.limits ∙ ap bounds_of (sym gone.fewer.limits);
-      items_are = omega (arith, less_items, fewer_items, items_were);
-      bytes_are = omega (arith, less_bytes, fewer_bytes, bytes_were);
-      open_objects = ap open_count gone.fewer.handles ∙ k.open_objects ∙ sym same.0;
-      open_bytes = gone.fewer.open_bytes ∙ k.open_bytes ∙ sym same.1;
-      names = λ name. subst (λ (o : Option ℕ). IsBoundAs (without (group_for item front ∷ []) state) there o (binding_of new.handles name)) (names-left state (group_for item front) name)
-          (bound-left state valid (group_for item front) loose k.layout there gone.stay name (named_by state name) (binding_of new.handles name) refl
-          (subst (λ (bs : Bindings). IsBoundAs state k.layout (named_by state name) (binding_of bs name)) (sym gone.fewer.handles) (k.names name)));
-      files = gone.files;
-      mark = gone.fewer.mark ∙ k.mark ∙ sym gone.session;
-    } }
+    record {
+      layout_is = refl;
+      kept = record {
+        layout = there;
+        kept = gone.kept;
+        limits = limits-left state (group_for item front) ∙ k.limits ∙ ap bounds_of (sym gone.fewer.limits);
+        items_are = omega (arith, less_items, fewer_items, items_were);
+        bytes_are = omega (arith, less_bytes, fewer_bytes, bytes_were);
+        open_objects = ap open_count gone.fewer.handles ∙ k.open_objects ∙ sym same.0;
+        open_bytes = gone.fewer.open_bytes ∙ k.open_bytes ∙ sym same.1;
+        names = λ name. subst (λ (o : Option ℕ). IsBoundAs (without (group_for item front ∷ []) state) there o (binding_of new.handles name)) (names-left state (group_for item front) name)
+            (bound-left state valid (group_for item front) loose k.layout there gone.stay name (named_by state name) (binding_of new.handles name) refl
+            (subst (λ (bs : Bindings). IsBoundAs state k.layout (named_by state name) (binding_of bs name)) (sym gone.fewer.handles) (k.names name)));
+        files = gone.files;
+        mark = gone.fewer.mark ∙ k.mark ∙ sym gone.session;
+      };
+    }

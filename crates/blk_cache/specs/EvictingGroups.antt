@@ -2,7 +2,6 @@
 use Rattle.std.specs.Prelude.{◌≡◌, ◌==◌, ℕ, Bool, List, [], ◌∷◌, if◌then◌else◌, length, map, sum_by, take, true}
 use Rattle.std.specs.List.{flat_map}
 use Rattle.blk_script.specs.Reply.{evicted_line}
-use Rattle.std.specs.declared.option.Option.{Option}
 use Rattle.std.specs.declared.option.Option.TheVariants.{Some}
 use Rattle.blk_image.specs.Image.{Image}
 use Rattle.blk_model.specs.Items.{Item, part}

@@ -25,7 +25,6 @@ ghost use Rattle.blk_sparse.specs.Parents.{ForEachParent, IsGoneWhole, IsGroupTo
 use crate::item_names::{EntryKind, read_name};
 use crate::room_printing::{say_evicted, say_evicted_part};
 use crate::room_search::Unpinned;
-
 use blk_addr::Addr;
 use blk_chain::{Found, find};
 use blk_disk::BlockFiles;

@@ -1,4 +1,4 @@
-use Rattle.std.proofs.Common.{rules, ◌≡◌, [], ◌∷◌, ℕ, List, None, Result, Ok, Err, refl, sym, ◌∙◌, subst, arith, true, false}
+use Rattle.std.proofs.Common.{rules, ◌≡◌, [], ◌∷◌, ℕ, List, None, refl, sym, ◌∙◌, subst, arith, true, false}
 use Rattle.std.proofs.lemmas.Bool.Decides.{nat_tests}
 use Rattle.std.proofs.lemmas.Result.{on_ok_weaker}
 use Rattle.blk_image.specs.Told.{Passes, Told}

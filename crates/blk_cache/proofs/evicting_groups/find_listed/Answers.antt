@@ -1,4 +1,4 @@
-use Rattle.std.proofs.Common.{◌≡◌, None, Option, Some, sym, ◌∙◌, subst}
+use Rattle.std.proofs.Common.{◌≡◌, None, Option, sym, ◌∙◌, subst}
 use Rattle.blk_image.proofs.Runs.{some_inj}
 use Rattle.blk_io.proofs.Carried.{carried}
 use Rattle.blk_chain.specs.declared.found.Found.{Found}

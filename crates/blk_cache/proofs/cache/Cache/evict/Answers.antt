@@ -1,4 +1,4 @@
-use Rattle.std.proofs.Common.{rules, ◌≡◌, ◌-◌, None, refl}
+use Rattle.std.proofs.Common.{rules, ◌≡◌, None, refl}
 use Rattle.blk_io.proofs.Carried.{carried}
 use Rattle.blk_cache.specs.Evicting.{KeepsLastAt}
 use Rattle.blk_cache.proofs.EvictedGroups.{out-kept}

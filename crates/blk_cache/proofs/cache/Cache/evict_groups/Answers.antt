@@ -1,4 +1,4 @@
-use Rattle.std.proofs.Common.{rules, refl, ◌≡◌, ◌∙◌, sym, ap, subst, arith, inl, inr, ℕ, [], ◌∷◌, Option, Some, None, true, false}
+use Rattle.std.proofs.Common.{rules, refl, ◌≡◌, ◌∙◌, sym, ap, subst, arith, inl, inr, Option, Some, None, true, false}
 use Rattle.std.specs.Prelude.{IfSome, IsTrue}
 use Rattle.blk_image.specs.Told.{Told}
 use Rattle.blk_io.proofs.Carried.{carried}
@@ -189,14 +189,14 @@ loop-preserved g c =
       quiet = λ failed. let i = c.loop.invariant.quiet failed in let q = c.in_ok-evict.ensures.quiet i.0 in (q.0, q.1 ∙ i.1);
       fails = faults-on c.args.failed.now c.loop.failed c.evict.new.failed (g.K.Sink.faults c.args.out.now) (g.K.Sink.faults c.loop.out) (g.K.Sink.faults c.evict.new.out) c.loop.invariant.fails c.in_ok-evict.ensures.fails c.loop.invariant.sink_later c.in_ok-evict.ensures.sink_later;
       evicted = λ image there state k.
-      let h = c.loop.invariant.evicted image there state k in
-    let valid = k.kept.entries.valid in
-    let wants : is_met c.args.goal.now (without h.first state) ≡ false = sym (c.is_met.ensures.met (without h.first state) h.image h.at.kept) ∙ (let e : c.is_met.result ≡ false = search rules in e) in
-    let some : c.in_ok-found.field-0 ≡ Some c.in-Some.found = search rules in
-    let last = subst (λ (o : Option Unpinned). IsLast (without h.first state) h.at.kept.layout o) some (c.in_ok-found.ensures.last h.image h.there (without h.first state) h.at.kept h.at.pinned) in
-    let mid = told_now h.image c.in_ok-found.ensures.stays h.there in
-      next-out _ state valid _ _ _ _ _ _ _ _ _ _ h wants c.in-Some.found last (g.F.Folder.told c.last_unpinned.new.f) (g.F.Folder.told c.evict.new.f) c.evict.new.self c.evict.new.failed (g.K.Sink.written c.evict.new.out) c.in_ok-found.ensures.stays
-      (c.in_ok-evict.ensures.stops h.image mid (without h.first state) h.at.kept last) (c.in_ok-evict.ensures.evicted h.image mid (without h.first state) h.at.kept last) (c.in_ok-evict.ensures.prints h.image mid (without h.first state) h.at.kept last);
+          let h = c.loop.invariant.evicted image there state k in
+          let valid = k.kept.entries.valid in
+          let wants : is_met c.args.goal.now (without h.first state) ≡ false = sym (c.is_met.ensures.met (without h.first state) h.image h.at.kept) ∙ (let e : c.is_met.result ≡ false = search rules in e) in
+          let some : c.in_ok-found.field-0 ≡ Some c.in-Some.found = search rules in
+          let last = subst (λ (o : Option Unpinned). IsLast (without h.first state) h.at.kept.layout o) some (c.in_ok-found.ensures.last h.image h.there (without h.first state) h.at.kept h.at.pinned) in
+          let mid = told_now h.image c.in_ok-found.ensures.stays h.there in
+          next-out _ state valid _ _ _ _ _ _ _ _ _ _ h wants c.in-Some.found last (g.F.Folder.told c.last_unpinned.new.f) (g.F.Folder.told c.evict.new.f) c.evict.new.self c.evict.new.failed (g.K.Sink.written c.evict.new.out) c.in_ok-found.ensures.stays
+          (c.in_ok-evict.ensures.stops h.image mid (without h.first state) h.at.kept last) (c.in_ok-evict.ensures.evicted h.image mid (without h.first state) h.at.kept last) (c.in_ok-evict.ensures.prints h.image mid (without h.first state) h.at.kept last);
     }
 
 pub returns-clause-evicted : goal.returns-clause-evicted

@@ -1,4 +1,4 @@
-use Rattle.std.proofs.Common.{rules, ◌≡◌, ◌∙◌, refl, sym, ap, subst, ℕ, [], List, None, true, false}
+use Rattle.std.proofs.Common.{rules, ◌≡◌, ◌∙◌, sym, subst, [], List, None, true, false}
 use Rattle.std.specs.Prelude.{◌==◌, ◌&&◌, ◌||◌}
 use Rattle.std.specs.Option.{ForSome}
 use Rattle.blk_image.specs.Told.{Passes}
@@ -11,7 +11,6 @@ use Rattle.blk_script.specs.Reply.{evicted_text}
 use Rattle.blk_cache.specs.CacheKeeping.{KeepsState}
 use Rattle.blk_cache.specs.Evicting.{IsEvicting}
 use Rattle.blk_cache.specs.RoomPrinting.{Prints}
-use Rattle.blk_cache.proofs.Evictions.{same-fails}
 use Rattle.blk_cache.proofs.RoomMade.{full-none, none-goes, none-kept, none-printed-of, none-stops, wanted-goes}
 use Rattle.blk_cache.proofs.cache.Cache.make_room.Goals as goal
 
