@@ -1,5 +1,5 @@
 -- The parts of a parent go, by the key that its record gives.
-use Rattle.std.proofs.Common.{◌≡◌, ℕ, ◌≤◌, ◌-◌, List, length, take, take_all, ap, sym, ◌∙◌, subst, arith, Bool, None, Some}
+use Rattle.std.proofs.Common.{◌≡◌, ℕ, ◌≤◌, ◌-◌, List, length, take, take_all, ap, sym, ◌∙◌, subst, arith, Bool, Some}
 use Rattle.std.specs.Option.{ForSome}
 use Rattle.std.specs.Prelude.{min}
 use Rattle.blk_image.specs.Image.{Image}

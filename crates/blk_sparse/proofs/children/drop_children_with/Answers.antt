@@ -15,7 +15,7 @@ use Rattle.blk_model.specs.Items.{part}
 use Rattle.blk_model.specs.Room.{parts_among}
 use Rattle.blk_kept.specs.Changes.{Finds}
 use Rattle.blk_sparse.specs.Children.{HasParentKey}
-use Rattle.blk_sparse.specs.Dropping.{AreGone, IsCalledAtFront, IsWholeOut}
+use Rattle.blk_sparse.specs.Dropping.{IsCalledAtFront, IsWholeOut}
 use Rattle.blk_sparse.proofs.ChildrenOut.{has-key, left-so, signed-so}
 use Rattle.blk_sparse.proofs.ParentsOut.{not-yet}
 use Rattle.blk_sparse.proofs.PartsOut.{left-finds, stays-passes, stays-there}
@@ -123,4 +123,3 @@ returns-clause-stops g c from there state layout keep chains unlinked number obj
     let left = left-so state layout keep chains unlinked number object c.args.parent.now.node c.args.parent.now.entry (cast_unsigned w64 c.args.parent.now.signature) from p (take c.in_ok-len.len c.split_at_mut-key.result.0.now) same in
     let sig = signed-so state layout keep chains unlinked number object c.args.parent.now.node c.args.parent.now.entry (cast_unsigned w64 c.args.parent.now.signature) from p (take c.in_ok-len.len c.split_at_mut-key.result.0.now) _ same (of_z-to_z w64 (cast_unsigned w64 c.args.parent.now.signature) (let small = c.requires.signature in omega (arith, small))) in
     passes_stayed c.in_ok-len.ensures.stays (c.in_ok-gone.ensures.stops from at state layout keep chains unlinked number object left sig)
-

@@ -28,8 +28,8 @@ returns-then-len-eq0-clause-untold g c agrees lies =
     let some = has.some in
     let short = has.short in
     elim c.then-len-eq0.branch [
-      then-len-eq0-via-then-len-eq0 w ↦ let none = w.if-len-eq0 in omega (arith, none, len, some)
-    | then-len-eq0-via-else-len-eq0+then-len w ↦ let long = w.if-len in omega (arith, long, len, short)
+      | then-len-eq0-via-then-len-eq0 w ↦ let none = w.if-len-eq0 in omega (arith, none, len, some)
+      | then-len-eq0-via-else-len-eq0+then-len w ↦ let long = w.if-len in omega (arith, long, len, short)
     ]))
 
 pub returns-clause-key : goal.returns-clause-key
