@@ -4,3 +4,4 @@ pub mod PartsNext
 pub mod PartsDropped
 pub mod ParentsRead
 pub mod ParentsOut
+pub mod ChildrenOut

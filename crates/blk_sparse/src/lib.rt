@@ -1,8 +1,11 @@
-//! Objects that go with their parts: the parts of a key in one walk over the use list, and a whole object with an index.
+//! Objects that go with their parts: the parts of a key in one walk over the use list, those of a parent, and a whole
+//! object with an index.
 #![tactic(auto)]
 
+mod children;
 mod dropping;
 mod parents;
 
+pub use children::{Parent, drop_children, drop_children_with};
 pub use dropping::{Gone, drop_parts_with};
 pub use parents::remove_parent_with;

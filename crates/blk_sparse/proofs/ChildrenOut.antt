@@ -1,0 +1,59 @@
+-- The parts of a parent go, by the key that its record gives.
+use Rattle.std.proofs.Common.{◌≡◌, ℕ, ◌≤◌, ◌-◌, List, length, take, take_all, ap, sym, ◌∙◌, subst, arith, Bool, Some}
+use Rattle.std.specs.Option.{ForSome}
+use Rattle.std.specs.Prelude.{min}
+use Rattle.blk_image.specs.Image.{Image}
+use Rattle.blk_image.proofs.Runs.{some_inj}
+use Rattle.blk_model.specs.Items.{Item, item_of, main}
+use Rattle.blk_model.specs.State.{IsObject, Object, State, object_at}
+use Rattle.blk_format.specs.SparseIndex.{ParentIndex}
+use Rattle.blk_volume.specs.Entries.{IsParent, Role}
+use Rattle.blk_volume.specs.Found.{row_of_loaded, row_with}
+use Rattle.blk_volume.specs.Layout.{IsPlacedAt, Layout}
+use Rattle.blk_volume.specs.Loads.{Loaded}
+use Rattle.blk_laws.proofs.states.Laid.{item-row}
+use Rattle.blk_entry.specs.Keys.{IsPiece, key_at}
+use Rattle.blk_object.proofs.PartNames.{key-there}
+use Rattle.blk_sparse.specs.Children.{HasParentKey, IsParentOut}
+use Rattle.blk_sparse.specs.Dropping.{AreLeft, HasSignature}
+use Rattle.blk_sparse.proofs.PartsNext.{of-some}
+
+-- ---- the key is read
+
+module _ (image : Image) (entry : ℕ) (key old new : List ℕ) (len : ℕ) (has : HasParentKey entry key image) (room : 32796 ≤ length old) (piece : ForSome (key_at image entry) (λ (stored : List ℕ). IsPiece stored 0 old new len)) where
+  key-piece : IsPiece key 0 old new len
+  key-piece = piece key (key-there image entry has.loaded has.loads ∙ ap Some has.key_is)
+
+  pub key-len : len ≡ length key
+  key-len = let many : len ≡ min (length old) (length key - 0) = key-piece.many in let short = has.short in omega (arith, many, short, room)
+
+  pub key-read : take len new ≡ key
+  key-read = key-piece.front ∙ take_all len key (let is = key-len in omega (arith, is))
+
+-- ---- the parent's key is the object's
+
+main-key : (stored : List ℕ) (index : ParentIndex) (streams : List (List ℕ)) (key : List ℕ) → item_of (row_with stored (IsParent index) streams) ≡ main key → stored ≡ key
+main-key stored index streams key is = let same : main stored ≡ main key = is in cc
+
+module _ (state : State) (layout : Layout) (keep : Item → Bool) (chains : ℕ → List ℕ) (unlinked : List ℕ) (number : ℕ) (object : Object) (node entry signature : ℕ) (image : Image) (p : IsParentOut state layout keep chains unlinked number object node entry signature image) where
+  is-object : IsObject object
+  is-object = of-some (object_at state number) object IsObject p.left.here (p.left.kept.valid.objects number)
+
+  placed : IsPlacedAt state layout (main object.key)
+  placed = p.left.kept.lies.laid (main object.key) p.listed
+
+  same : placed.loaded ≡ p.parent.was
+  same = some_inj (sym placed.here ∙ p.parent.here)
+
+  key-is : p.parent.was.key ≡ object.key
+  key-is = main-key p.parent.was.key p.parent.index p.parent.was.streams object.key
+      (ap (λ (r : Role). item_of (row_with p.parent.was.key r p.parent.was.streams)) (sym p.parent.role) ∙ ap (λ (l : Loaded). item_of (row_of_loaded l)) (sym same) ∙ item-row state (main object.key) (row_of_loaded placed.loaded) placed.row)
+
+  pub has-key : HasParentKey entry object.key image
+  has-key = record { loaded = p.parent.was; loads = p.loads; key_is = key-is; some = is-object.key.some; short = is-object.key.short }
+
+  pub left-so : (key : List ℕ) → key ≡ object.key → AreLeft state layout keep chains unlinked key number object image
+  left-so key is = subst (λ (k : List ℕ). AreLeft state layout keep chains unlinked k number object image) (sym is) p.left
+
+  pub signed-so : (key : List ℕ) (other : ℕ) → key ≡ object.key → other ≡ signature → HasSignature layout key other
+  signed-so key other is signed = subst (λ (k : List ℕ). HasSignature layout k other) (sym is) (subst (HasSignature layout object.key) (sym signed) p.parent)

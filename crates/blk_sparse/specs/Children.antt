@@ -1,0 +1,32 @@
+-- The parts of a parent go, by the key that its record gives.
+use Rattle.std.specs.Prelude.{◌≡◌, ◌≤◌, ℕ, List, Bool, length, true}
+use Rattle.blk_image.specs.Image.{Image}
+use Rattle.blk_model.specs.Items.{Item, main}
+use Rattle.blk_model.specs.Sizes.{longest_key}
+use Rattle.blk_model.specs.State.{Object, State}
+use Rattle.blk_volume.specs.Layout.{Layout, is_listed}
+use Rattle.blk_volume.specs.Loads.{Loaded}
+use Rattle.blk_object.specs.Owning.{LoadsWith}
+use Rattle.blk_sparse.specs.Dropping.{AreLeft, HasSignature}
+
+-- the listed main item of an object, which lay at this node, is out, and perhaps parts of it, and what is left is counted; it has a parent's index with this signature, and its record, this one, loads yet
+pub record IsParentOut (state : State) (layout : Layout) (keep : Item → Bool) (chains : ℕ → List ℕ) (unlinked : List ℕ) (number : ℕ) (object : Object) (node entry signature : ℕ) (image : Image) : Type 0 where
+  pub left : AreLeft state layout keep chains unlinked object.key number object image
+  pub listed : is_listed state (main object.key) ≡ true
+  pub node_is : layout.place (main object.key) ≡ node
+  pub parent : HasSignature layout object.key signature
+  pub loads : LoadsWith entry parent.was image
+
+-- what holds wherever a parent is out so
+abbrev pub ForEachParentOut : (node entry signature : ℕ) → Image → (State → Layout → (keep : Item → Bool) → List ℕ → ℕ → Object → Type 0) → Type 0
+ForEachParentOut node entry signature from P =
+    (state : State) (layout : Layout) (keep : Item → Bool) (chains : ℕ → List ℕ) (unlinked : List ℕ) (number : ℕ) (object : Object)
+    → IsParentOut state layout keep chains unlinked number object node entry signature from → P state layout keep unlinked number object
+
+-- what a node names by some rule, with this record, has this key, which a parent may have
+pub record HasParentKey (entry : ℕ) (key : List ℕ) (image : Image) : Type 0 where
+  pub loaded : Loaded
+  pub loads : LoadsWith entry loaded image
+  pub key_is : loaded.key ≡ key
+  pub some : 1 ≤ length key
+  pub short : length key ≤ longest_key

@@ -1,0 +1,158 @@
+// The parts of a parent go, by the key that its record gives.
+ghost use Rattle.std.specs.Prelude.{◌≡◌, ◌+◌, ◌≤◌, ◌<◌, ℕ, IfOk, IsTrue, List, None, OnOk, Some, filter, length, take};
+ghost use Rattle.std.specs.Int.{cast_unsigned, w64};
+ghost use Rattle.std.specs.List.{FoldsTo};
+ghost use Rattle.std.specs.Option.{ForSome};
+ghost use Rattle.blk_image.specs.Told.{Passes, Rises, Stays};
+ghost use Rattle.blk_model.specs.Effects.{doomed};
+ghost use Rattle.blk_model.specs.Holding.{rest};
+ghost use Rattle.blk_model.specs.Room.{parts_among};
+ghost use Rattle.blk_model.specs.Sizes.{longest_key, signatures};
+ghost use Rattle.blk_format.specs.Address.{blocks_256, kind_of};
+ghost use Rattle.blk_format.specs.Names.{longest_name};
+ghost use Rattle.blk_io.specs.Faults.{IfDamaged, IfDevice};
+ghost use Rattle.blk_disk.specs.Open.{IsOpen};
+ghost use Rattle.blk_disk.specs.Tables.{Agrees, stands_among};
+ghost use Rattle.blk_kept.specs.Changes.{Finds, SameSession};
+ghost use Rattle.blk_object.specs.UnlinkedLoads.{KeepsUnlinked};
+ghost use Rattle.blk_sparse.specs.Children.{ForEachParentOut, HasParentKey};
+ghost use Rattle.blk_sparse.specs.Dropping.{IsCalledAtFront, IsWholeOut};
+
+use crate::dropping::drop_parts_with;
+use blk_addr::Addr;
+use blk_disk::BlockFiles;
+use blk_entry::{LONGEST_NAME, key_piece, record_damage};
+use blk_io::{Fault, Folder};
+use blk_ranges::LONGEST_KEY;
+use blk_record::EntryView;
+
+/// The main item of an object with parts, which is out of the list and of its chain: its record, the node that it had,
+/// and the signature of its index.
+#[derive(Clone, Copy, Debug, PartialEq, Eq)]
+pub struct Parent {
+    pub entry: Addr,
+    pub node: Addr,
+    pub signature: i64,
+}
+
+/// Drops the parts of a parent, as `drop_children_with` does, and calls nothing.
+pub fn drop_children<F: Folder>(
+    f: &mut F,
+    files: &BlockFiles,
+    parent: &Parent,
+    name: &mut [u8],
+) -> Result<u64, Fault>
+    requires kind { kind_of parent.now.entry ≡ blocks_256 }
+    requires stands { IsTrue (stands_among files.now parent.now.entry) }
+    requires signature { cast_unsigned w64 parent.now.signature < signatures }
+    requires name { longest_key + longest_name ≤ length name.old }
+    requires is_open { ForSome (F.told f.old).files (IsOpen files.now) }
+
+    // Where the parent of an object is out, and perhaps parts of it, and what is left is counted, all its items are out in the end, in the same session. How many parts went is told.
+    ensures out { OnOk result (ForSome (F.told f.old).files (λ from. ForEachParentOut parent.now.node parent.now.entry (cast_unsigned w64 parent.now.signature) from (λ state layout keep unlinked number object. ForSome (F.told f.new).files (IsWholeOut state layout unlinked object.key)))) }
+    ensures count { IfOk result (λ count. ForSome (F.told f.old).files (λ from. ForEachParentOut parent.now.node parent.now.entry (cast_unsigned w64 parent.now.signature) from (λ state layout keep unlinked number object. count ≡ length (parts_among object.key (filter keep state.uses))))) }
+    ensures session { OnOk result (ForSome (F.told f.old).files (λ from. ForEachParentOut parent.now.node parent.now.entry (cast_unsigned w64 parent.now.signature) from (λ state layout keep unlinked number object. ForSome (F.told f.new).files (SameSession from)))) }
+
+    // What lies in places that were unlinked at first, as those of the parent, lies there still.
+    ensures keeps { OnOk result (ForSome (F.told f.old).files (λ from. ForEachParentOut parent.now.node parent.now.entry (cast_unsigned w64 parent.now.signature) from (λ state layout keep unlinked number object. ForSome (F.told f.new).files (KeepsUnlinked unlinked from)))) }
+
+    // No more parts go than a list has nodes.
+    ensures few { IfOk result (λ count. count ≤ 131072) }
+
+    // At each word what is at rest with the object doomed is found.
+    ensures stops { ForSome (F.told f.old).files (λ from. ForEachParentOut parent.now.node parent.now.entry (cast_unsigned w64 parent.now.signature) from (λ state layout keep unlinked number object. Passes (F.told f.old) (F.told f.new) (Finds (rest (doomed number state (Some object)))))) }
+
+    ensures is_open { ForSome (F.told f.new).files (IsOpen files.now) }
+
+    // A folder that tells its files, with such a parent, gives no damage.
+    ensures untold { ForSome (F.told f.old).files (λ from. ForEachParentOut parent.now.node parent.now.entry (cast_unsigned w64 parent.now.signature) from (λ state layout keep unlinked number object. IfDamaged result (λ _. (F.told f.old).files ≡ None))) }
+
+    ensures silent { (F.told f.old).files ≡ None → (F.told f.new).files ≡ None }
+    ensures later { F.faults f.old ≤ F.faults f.new }
+    ensures device { IfDevice result (Rises (F.faults f.old) (F.faults f.new)) }
+{
+    drop_children_with(f, files, parent, name, &mut |_| ())
+}
+
+/// Drops the parts of a parent, after it went: each is taken out, its places are freed, and it is counted no longer; and
+/// then `each` is called with its number. They go in the order of the use list, in one walk over it. How many went is
+/// given.
+///
+/// The key is read from the parent's record into the front of `name`, and the names of the parts are made behind the
+/// longest key. This takes two folder calls more than `drop_parts_with`. A damage is one of those that `key_piece` and
+/// `drop_parts_with` give, or a key that has no byte or is longer than a parent's, of the length in its record.
+pub fn drop_children_with<F: Folder, E: FnMut(u32)>(
+    f: &mut F,
+    files: &BlockFiles,
+    parent: &Parent,
+    name: &mut [u8],
+    each: &mut E,
+) -> Result<u64, Fault>
+    requires kind { kind_of parent.now.entry ≡ blocks_256 }
+    requires stands { IsTrue (stands_among files.now parent.now.entry) }
+    requires signature { cast_unsigned w64 parent.now.signature < signatures }
+    requires name { longest_key + longest_name ≤ length name.old }
+    requires callable { E.IsAlwaysCallable each.old }
+    requires is_open { ForSome (F.told f.old).files (IsOpen files.now) }
+
+    // Where the parent of an object is out, and perhaps parts of it, and what is left is counted, all its items are out in the end, in the same session. How many parts went is told.
+    ensures out { OnOk result (ForSome (F.told f.old).files (λ from. ForEachParentOut parent.now.node parent.now.entry (cast_unsigned w64 parent.now.signature) from (λ state layout keep unlinked number object. ForSome (F.told f.new).files (IsWholeOut state layout unlinked object.key)))) }
+    ensures count { IfOk result (λ count. ForSome (F.told f.old).files (λ from. ForEachParentOut parent.now.node parent.now.entry (cast_unsigned w64 parent.now.signature) from (λ state layout keep unlinked number object. count ≡ length (parts_among object.key (filter keep state.uses))))) }
+    ensures session { OnOk result (ForSome (F.told f.old).files (λ from. ForEachParentOut parent.now.node parent.now.entry (cast_unsigned w64 parent.now.signature) from (λ state layout keep unlinked number object. ForSome (F.told f.new).files (SameSession from)))) }
+
+    // What lies in places that were unlinked at first, as those of the parent, lies there still.
+    ensures keeps { OnOk result (ForSome (F.told f.old).files (λ from. ForEachParentOut parent.now.node parent.now.entry (cast_unsigned w64 parent.now.signature) from (λ state layout keep unlinked number object. ForSome (F.told f.new).files (KeepsUnlinked unlinked from)))) }
+
+    // No more parts go than a list has nodes.
+    ensures few { IfOk result (λ count. count ≤ 131072) }
+
+    // `each` was called with the numbers of the parts that were left, in the order of the list, once each; or with a front of them.
+    ensures each { OnOk result (ForSome (F.told f.old).files (λ from. ForEachParentOut parent.now.node parent.now.entry (cast_unsigned w64 parent.now.signature) from (λ state layout keep unlinked number object. FoldsTo (λ p x q. E.step p x tt q) each.old (parts_among object.key (filter keep state.uses)) each.new))) }
+    ensures front { ForSome (F.told f.old).files (λ from. ForEachParentOut parent.now.node parent.now.entry (cast_unsigned w64 parent.now.signature) from (λ state layout keep unlinked number object. IsCalledAtFront E (λ p x q. E.step p x tt q) (parts_among object.key (filter keep state.uses)) each.old each.new)) }
+
+    // On every folder it was called with some numbers.
+    ensures calls { (numbers : List ℕ) × FoldsTo (λ p x q. E.step p x tt q) each.old numbers each.new }
+
+    // At each word what is at rest with the object doomed is found.
+    ensures stops { ForSome (F.told f.old).files (λ from. ForEachParentOut parent.now.node parent.now.entry (cast_unsigned w64 parent.now.signature) from (λ state layout keep unlinked number object. Passes (F.told f.old) (F.told f.new) (Finds (rest (doomed number state (Some object)))))) }
+
+    ensures is_open { ForSome (F.told f.new).files (IsOpen files.now) }
+
+    // A folder that tells its files, with such a parent, gives no damage.
+    ensures untold { ForSome (F.told f.old).files (λ from. ForEachParentOut parent.now.node parent.now.entry (cast_unsigned w64 parent.now.signature) from (λ state layout keep unlinked number object. IfDamaged result (λ _. (F.told f.old).files ≡ None))) }
+
+    ensures silent { (F.told f.old).files ≡ None → (F.told f.new).files ≡ None }
+    ensures later { F.faults f.old ≤ F.faults f.new }
+    ensures device { IfDevice result (Rises (F.faults f.old) (F.faults f.new)) }
+{
+    let len = read_key(f, files, parent.entry, name)?;
+    let (key, room) = name.split_at_mut(LONGEST_KEY as usize);
+    let gone = drop_parts_with(f, files, &key[..len], parent.signature, room, each)?;
+    Ok(gone.items)
+}
+
+// Reads the key of a parent into the front of `name`, by two folder calls. Its length is given.
+fn read_key<F: Folder>(
+    f: &mut F,
+    files: &BlockFiles,
+    entry: Addr,
+    name: &mut [u8],
+) -> Result<usize, Fault>
+    requires kind { kind_of entry ≡ blocks_256 }
+    requires stands { IsTrue (stands_among files.now entry) }
+    requires name { longest_name ≤ length name.old }
+    ensures some { IfOk result (λ len. 1 ≤ len) }
+    ensures short { IfOk result (λ len. len ≤ longest_key) }
+    ensures key { IfOk result (λ len. ForSome (F.told f.old).files (λ image. (key : List ℕ) → HasParentKey entry key image → take len name.new ≡ key)) }
+    ensures stays { Stays (F.told f.old) (F.told f.new) }
+    ensures untold { ForSome (F.told f.old).files (Agrees files.now) → ForSome (F.told f.old).files (λ image. (key : List ℕ) × HasParentKey entry key image) → IfDamaged result (λ _. (F.told f.old).files ≡ None) }
+    ensures later { F.faults f.old ≤ F.faults f.new }
+    ensures device { IfDevice result (Rises (F.faults f.old) (F.faults f.new)) }
+{
+    let len = key_piece(f, files, entry, 0, name)?;
+    if len == 0 || len > LONGEST_KEY as usize {
+        let found = len.min(LONGEST_NAME as usize) as u32;
+        return Err(record_damage(entry, EntryView::KEY_LEN, found));
+    }
+    Ok(len)
+}
