@@ -62,7 +62,9 @@ impl Session {
     // Does a command. Gives its answer and the number of its folder calls.
     fn step(&mut self, command: &Command) -> Result<(Answer, u64), StepFault> {
         let start = self.f.calls();
-        let answer = self.cache.step(&mut self.f, &mut self.out, MOMENT, command)?;
+        let answer = self
+            .cache
+            .step(&mut self.f, &mut self.out, MOMENT, command)?;
         Ok((answer, self.f.calls().wrapping_sub(start)))
     }
 
@@ -96,15 +98,15 @@ fn objects_are_found_by_their_chains(rt: HostRuntime) -> Result<(), Fail> {
         let (_, calls) = session.create(0, &key_of(number))?;
         least = least.min(calls);
         let (_, calls) = session.close(0)?;
-        assert!(rt; calls <= 12);
+        assert!(rt; calls <= 6);
     }
-    assert!(rt; least <= 70);
+    assert!(rt; least <= 50);
     let (answer, calls) = session.open(0, b"zz")?;
     assert_eq!(rt; answer, Answer::Refused(Refusal::Missing));
-    assert!(rt; calls <= 12);
+    assert!(rt; calls <= 2);
     let (answer, calls) = session.open(0, &key_of(2000))?;
     assert_eq!(rt; answer, Answer::Done);
-    assert!(rt; calls <= 60);
+    assert!(rt; calls <= 44);
     Ok(())
 }
 
@@ -138,7 +140,13 @@ fn the_middle_of_three_keys_of_a_bucket_is_evicted(rt: HostRuntime) -> Result<()
     let (answer, _) = session.create(6, middle)?;
     assert_eq!(rt; answer, Answer::Refused(Refusal::Full));
     let (totals, _) = session.step(&Command::Total)?;
-    assert_eq!(rt; totals, Answer::Totals { items: 3, bytes: 11 });
+    assert_eq!(rt;
+        totals,
+        Answer::Totals {
+            items: 3,
+            bytes: 11
+        }
+    );
     Ok(())
 }
 
