@@ -9,11 +9,13 @@ use blk_model::{Answer, Command, Limits, Refusal};
 use std::alloc::Global;
 use std::test::Fail;
 
-// The limits that the program has where it is given none.
-const LIMITS: Limits = Limits {
-    max_bytes: 80 << 20,
-    max_items: 65_536,
-};
+// The most bytes and items that the program has where it is given no limits.
+const MAX_BYTES: u64 = 80 << 20;
+
+const MAX_ITEMS: u32 = 65_536;
+
+// More steps than a Create that evicts takes.
+const MOST_STEPS: u64 = 200;
 
 const MOMENT: u64 = 7;
 
@@ -23,6 +25,7 @@ const KEYS: [&[u8]; 3] = [b"iev", b"jio", b"nab"];
 const OTHER: &[u8] = b"other";
 
 // A session over a folder: the folder, the cache, and what was printed.
+#[derive(Drop)]
 struct Session {
     f: Mem,
     cache: Cache,
@@ -30,8 +33,12 @@ struct Session {
 }
 
 impl Session {
-    // A session over an empty folder.
-    fn start(alloc: Global, limits: Limits) -> Result<Session, Fail> {
+    // A session over an empty folder, with room for so many items.
+    fn start(alloc: Global, max_items: u32) -> Result<Session, Fail> {
+        let limits = Limits {
+            max_bytes: MAX_BYTES,
+            max_items,
+        };
         let folder = StopFolder::new(MemFolder::without_trail(alloc), u64::MAX);
         let mut f = SilentFolder::new(folder);
         let cache = Cache::start(alloc, &mut f, limits, MOMENT)?;
@@ -42,10 +49,22 @@ impl Session {
         })
     }
 
+    // The session, where so many more steps pass.
+    fn stopping(self, steps: u64) -> Session {
+        let Session { f, cache, out } = self;
+        Session {
+            f: again(f, steps),
+            cache,
+            out,
+        }
+    }
+
     // Does a command. Gives its answer and the number of its folder calls.
     fn step(&mut self, command: &Command) -> Result<(Answer, u64), StepFault> {
         let start = self.f.calls();
-        let answer = self.cache.step(&mut self.f, &mut self.out, MOMENT, command)?;
+        let answer = self
+            .cache
+            .step(&mut self.f, &mut self.out, MOMENT, command)?;
         Ok((answer, self.f.calls().wrapping_sub(start)))
     }
 
@@ -73,31 +92,27 @@ fn key_of(number: u32) -> [u8; 5] {
 
 #[test]
 fn objects_are_found_by_their_chains(rt: HostRuntime) -> Result<(), Fail> {
-    let mut session = Session::start(rt.alloc(), LIMITS)?;
+    let mut session = Session::start(rt.alloc(), MAX_ITEMS)?;
     let mut least = u64::MAX;
     for number in 0..4000 {
         let (_, calls) = session.create(0, &key_of(number))?;
         least = least.min(calls);
         let (_, calls) = session.close(0)?;
-        assert!(rt; calls <= 12);
+        assert!(rt; calls <= 6);
     }
-    assert!(rt; least <= 70);
+    assert!(rt; least <= 50);
     let (answer, calls) = session.open(0, b"zz")?;
     assert_eq!(rt; answer, Answer::Refused(Refusal::Missing));
-    assert!(rt; calls <= 12);
+    assert!(rt; calls <= 2);
     let (answer, calls) = session.open(0, &key_of(2000))?;
     assert_eq!(rt; answer, Answer::Done);
-    assert!(rt; calls <= 60);
+    assert!(rt; calls <= 44);
     Ok(())
 }
 
-// A session with room for two more objects than so many, in which the three keys were made and closed, one after another.
-fn three_objects(alloc: Global, max_items: u32) -> Result<Session, Fail> {
-    let limits = Limits {
-        max_items,
-        ..LIMITS
-    };
-    let mut session = Session::start(alloc, limits)?;
+// A session with room for three items, in which the three keys were made and closed, one after another.
+fn three_objects(alloc: Global) -> Result<Session, Fail> {
+    let mut session = Session::start(alloc, 3)?;
     for key in KEYS {
         let (_, _) = session.create(0, key)?;
         let (_, _) = session.close(0)?;
@@ -107,7 +122,7 @@ fn three_objects(alloc: Global, max_items: u32) -> Result<Session, Fail> {
 
 #[test]
 fn the_middle_of_three_keys_of_a_bucket_is_evicted(rt: HostRuntime) -> Result<(), Fail> {
-    let mut session = three_objects(rt.alloc(), 3)?;
+    let mut session = three_objects(rt.alloc())?;
     let [first, middle, last] = KEYS;
     let (_, _) = session.open(1, first)?;
     let (answer, _) = session.create(0, OTHER)?;
@@ -119,13 +134,19 @@ fn the_middle_of_three_keys_of_a_bucket_is_evicted(rt: HostRuntime) -> Result<()
         assert_eq!(rt; answer, Answer::Done);
     }
     let printed = b"ok\nok\nok\nok\nok\nok\nok\nevicted jio\nok\nrefused 3 Missing\nok\nok\nok\n";
-    assert_eq!(rt; session.out.written(), printed);
+    assert_eq!(rt; session.out.written(), printed.as_slice());
 
     // All three are open: there is no room for one more.
     let (answer, _) = session.create(6, middle)?;
     assert_eq!(rt; answer, Answer::Refused(Refusal::Full));
     let (totals, _) = session.step(&Command::Total)?;
-    assert_eq!(rt; totals, Answer::Totals { items: 3, bytes: 11 });
+    assert_eq!(rt;
+        totals,
+        Answer::Totals {
+            items: 3,
+            bytes: 11
+        }
+    );
     Ok(())
 }
 
@@ -142,10 +163,10 @@ fn held(alloc: Global, f: Mem) -> Result<Held, ScanFault> {
 
 // What is held where a Create that evicts one of two objects is stopped after so many steps, and whether it came to its end.
 fn held_at(alloc: Global, steps: u64) -> Result<(Held, bool), Fail> {
-    let mut session = three_objects(alloc, 3)?;
-    session.f = again(session.f, steps);
+    let mut session = three_objects(alloc)?.stopping(steps);
     let ended = session.create(0, OTHER).is_ok();
-    Ok((held(alloc, session.f)?, ended))
+    let Session { f, .. } = session;
+    Ok((held(alloc, f)?, ended))
 }
 
 #[test]
@@ -156,15 +177,17 @@ fn an_eviction_may_be_stopped_at_each_word(rt: HostRuntime) -> Result<(), Fail> 
     let (items, bytes, _) = last;
     assert_eq!(rt; (items, bytes), (2, 6));
 
-    // All three are held, and from some word on the two without the first.
-    let mut gone = false;
-    for steps in 0..200 {
+    // All three are held, and from some word on the two without the first. There are words before that one and behind it.
+    let mut stops = [0u64; 2];
+    for steps in 0..MOST_STEPS {
         let (now, ended) = held_at(rt.alloc(), steps)?;
-        gone |= now == last;
+        let gone = stops[1] > 0 || now == last;
         assert!(rt; now == if gone { last } else { (3, 9, hash) });
         if ended {
+            assert!(rt; stops[0] > 1 && stops[1] > 1);
             return Ok(());
         }
+        stops[usize::from(gone)] = stops[usize::from(gone)].wrapping_add(1);
     }
     assert!(rt; false);
     Ok(())
