@@ -114,7 +114,6 @@ first-none (group ∷ first) others e = cc
 module _ (cache : Cache) (told mid : Told) (moment handle : ℕ) (key : List ℕ)
     (is : ForKept (KeepsState cache) told (λ state. refused moment (to_create handle key) state ≡ create_refusal None (no_room moment (to_create handle key) state)))
     (evicting : ForKept (KeepsState cache) told (λ state. Passes told mid (IsEvicting (evicted_for (room state [] (length key) 1)) state))) where
-
   -- at a word at which room is made it may be stopped
   room-stop : (image i : Image) (state : State) → told.files ≡ Some image → KeepsState cache state image → IsEvicting (evicted_for (room state [] (length key) 1)) state i → MayStop state moment (to_create handle key) i
   room-stop image i state there k e = by (is_full (room state [] (length key) 1)) refl where
