@@ -44,3 +44,4 @@ pub mod Sizes
 pub mod ReadSteps
 pub mod PrintedReads
 pub mod WholeGroups
+pub mod TrimSteps

@@ -5,7 +5,7 @@ use Rattle.blk_image.specs.Told.{Told}
 use Rattle.blk_io.specs.Streams.{Appends}
 use Rattle.blk_model.specs.Reply.{Reply, answer_of, answered}
 use Rattle.blk_model.specs.Refusals.{evicted, refused}
-use Rattle.blk_model.specs.Request.{Request, to_close, to_create, to_open, to_total}
+use Rattle.blk_model.specs.Request.{Request, to_close, to_create, to_open, to_size, to_total, to_trim}
 use Rattle.blk_model.specs.Room.{Group}
 use Rattle.blk_model.specs.State.{State}
 use Rattle.blk_model.specs.Step.{Outcome, outcome, reply, step}
@@ -24,7 +24,9 @@ built-reply : (request : Request) (groups : List Group) (state : State) → IsBu
 unfolding reply
 built-reply (to_create handle key) groups state b = refl
 built-reply (to_open handle key) groups state b = refl
+built-reply (to_size handle stream) groups state b = refl
 built-reply (to_close handle) groups state b = refl
+built-reply (to_trim bytes) groups state b = refl
 built-reply to_total groups state b = refl
 built-reply _ groups state b = absurd b
 
@@ -46,6 +48,7 @@ answer-text moment request state answer b e = ap (λ (a : Answer). reply_text (a
 -- a command of these evicts nothing
 abbrev pub EvictsNothing : Request → Type 0
 EvictsNothing (to_open handle key) = Unit {0}
+EvictsNothing (to_size handle stream) = Unit {0}
 EvictsNothing (to_close handle) = Unit {0}
 EvictsNothing to_total = Unit {0}
 EvictsNothing _ = ⊥
@@ -53,6 +56,7 @@ EvictsNothing _ = ⊥
 none-evicted : (moment : ℕ) (request : Request) (state : State) → EvictsNothing request → evicted moment request state ≡ []
 unfolding evicted
 none-evicted moment (to_open handle key) state n = refl
+none-evicted moment (to_size handle stream) state n = refl
 none-evicted moment (to_close handle) state n = refl
 none-evicted moment to_total state n = refl
 none-evicted moment _ state n = absurd n

@@ -6,7 +6,7 @@ use Rattle.blk_io.specs.Streams.{Appends}
 use Rattle.blk_io.specs.declared.fault.Damage.{Damage}
 use Rattle.blk_io.specs.declared.fault.Fault.{Fault}
 use Rattle.blk_io.specs.declared.fault.Fault.TheVariants as fault
-use Rattle.blk_model.specs.Request.{Request, to_close, to_create, to_open, to_total}
+use Rattle.blk_model.specs.Request.{Request, to_close, to_create, to_open, to_size, to_total, to_trim}
 use Rattle.blk_model.specs.State.{State}
 use Rattle.blk_model.specs.Step.{Outcome, step}
 use Rattle.blk_model.specs.declared.Answer.{Answer}
@@ -78,7 +78,9 @@ IfStepDamaged (Ok a) P = Unit {0}
 abbrev pub IsBuilt : Request → Type 0
 IsBuilt (to_create handle key) = Unit {0}
 IsBuilt (to_open handle key) = Unit {0}
+IsBuilt (to_size handle stream) = Unit {0}
 IsBuilt (to_close handle) = Unit {0}
+IsBuilt (to_trim bytes) = Unit {0}
 IsBuilt to_total = Unit {0}
 IsBuilt _ = ⊥
 

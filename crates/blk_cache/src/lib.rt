@@ -1,4 +1,4 @@
-//! A cache over a folder: its opening, its totals, and its end.
+//! A cache over a folder: its opening, its commands with their notes and replies, and its end.
 #![tactic(auto)]
 
 mod asking;
@@ -28,6 +28,7 @@ mod size;
 mod starting;
 mod stepping;
 mod total;
+mod trim;
 
 pub use cache::Cache;
 pub use create_laws::creates_have_room;

@@ -146,7 +146,9 @@ impl Cache {
         match *command {
             Command::Create { handle, key } => self.create(f, out, failed, handle, key, moment),
             Command::Open { handle, key } => self.open(f, handle, key, moment),
+            Command::Size { handle, stream } => self.size(f, handle, stream),
             Command::Close { handle } => self.close(f, handle),
+            Command::Trim { bytes } => self.trim(f, out, failed, bytes),
             Command::Total => Ok(self.total()),
             _ => unreachable!(),
         }

@@ -1,6 +1,9 @@
-use Rattle.std.proofs.Common.{◌≡◌, refl, sym, subst}
-use Rattle.std.specs.Prelude.{OnOk}
-use Rattle.blk_model.specs.Request.{request_of, to_close, to_open, to_total}
+use Rattle.std.proofs.Common.{◌≡◌, refl, sym, ap, subst, ◌∙◌}
+use Rattle.std.specs.Option.{ForSome}
+use Rattle.blk_image.specs.Told.{Told}
+use Rattle.blk_disk.specs.Open.{IsOpen}
+use Rattle.std.specs.Prelude.{IfOk, OnOk}
+use Rattle.blk_model.specs.Request.{request_of, to_close, to_open, to_size, to_total}
 use Rattle.blk_model.specs.declared.Command.{Command}
 use Rattle.blk_kept.specs.Commands.{Does, MayStopAtEach}
 use Rattle.blk_kept.proofs.Stopping.{nothing-stops}
@@ -57,3 +60,30 @@ returns-in-Total-clause-says g c = subst (λ (cmd : Command). SaysEvicted c.args
 pub returns-in-Total-clause-front : goal.returns-in-Total-clause-front
 returns-in-Total-clause-front g c = subst (λ (cmd : Command). SaysFront c.args.self.now (g.F.Folder.told c.args.f.now) c.args.moment (request_of cmd) (g.K.Sink.written c.args.out.now) (g.K.Sink.written c.args.out.now)) (sym c.in-Total.is)
     (front-nothing c.args.self.now (g.F.Folder.told c.args.f.now) c.args.moment to_total tt c.args.failed.now (g.K.Sink.written c.args.out.now))
+
+pub returns-in-Size-clause-does : goal.returns-in-Size-clause-does
+returns-in-Size-clause-does g c = subst (λ (cmd : Command). IfOk c.size.result (λ given. Does (KeepsState c.args.self.now) (KeepsState c.args.self.now) (g.F.Folder.told c.args.f.now) (g.F.Folder.told c.size.new.f) c.args.moment (request_of cmd) given)) (sym c.in-Size.is) (c.size.ensures.does c.args.moment)
+
+pub returns-in-Size-clause-stops : goal.returns-in-Size-clause-stops
+returns-in-Size-clause-stops g c = nothing-stops (KeepsState c.args.self.now) (says-kept c.args.self.now) (g.F.Folder.told c.args.f.now) (g.F.Folder.told c.size.new.f) c.args.moment (request_of c.args.command.now) c.size.ensures.stays
+
+pub returns-in-Size-clause-says : goal.returns-in-Size-clause-says
+returns-in-Size-clause-says g c = subst (λ (cmd : Command). OnOk c.size.result (SaysEvicted c.args.self.now (g.F.Folder.told c.args.f.now) c.args.moment (request_of cmd) c.args.failed.now c.args.failed.now (g.K.Sink.written c.args.out.now) (g.K.Sink.written c.args.out.now))) (sym c.in-Size.is)
+    (on-ok c.size.result (SaysEvicted c.args.self.now (g.F.Folder.told c.args.f.now) c.args.moment (to_size c.in-Size.handle c.in-Size.stream) c.args.failed.now c.args.failed.now (g.K.Sink.written c.args.out.now) (g.K.Sink.written c.args.out.now))
+    (says-nothing c.args.self.now (g.F.Folder.told c.args.f.now) c.args.moment (to_size c.in-Size.handle c.in-Size.stream) tt c.args.failed.now (g.K.Sink.written c.args.out.now)))
+
+pub returns-in-Size-clause-front : goal.returns-in-Size-clause-front
+returns-in-Size-clause-front g c = subst (λ (cmd : Command). SaysFront c.args.self.now (g.F.Folder.told c.args.f.now) c.args.moment (request_of cmd) (g.K.Sink.written c.args.out.now) (g.K.Sink.written c.args.out.now)) (sym c.in-Size.is)
+    (front-nothing c.args.self.now (g.F.Folder.told c.args.f.now) c.args.moment (to_size c.in-Size.handle c.in-Size.stream) tt c.args.failed.now (g.K.Sink.written c.args.out.now))
+
+pub returns-in-Trim-clause-stops : goal.returns-in-Trim-clause-stops
+returns-in-Trim-clause-stops g c = subst (λ (cmd : Command). MayStopAtEach (KeepsState c.args.self.now) (g.F.Folder.told c.args.f.now) (g.F.Folder.told c.trim.new.f) c.args.moment (request_of cmd)) (sym c.in-Trim.is) (c.trim.ensures.stops c.args.moment)
+
+pub returns-in-Trim-clause-says : goal.returns-in-Trim-clause-says
+returns-in-Trim-clause-says g c = subst (λ (cmd : Command). OnOk c.trim.result (SaysEvicted c.args.self.now (g.F.Folder.told c.args.f.now) c.args.moment (request_of cmd) c.args.failed.now c.trim.new.failed (g.K.Sink.written c.args.out.now) (g.K.Sink.written c.trim.new.out))) (sym c.in-Trim.is) (c.trim.ensures.says c.args.moment)
+
+pub returns-in-Trim-clause-front : goal.returns-in-Trim-clause-front
+returns-in-Trim-clause-front g c = subst (λ (cmd : Command). SaysFront c.args.self.now (g.F.Folder.told c.args.f.now) c.args.moment (request_of cmd) (g.K.Sink.written c.args.out.now) (g.K.Sink.written c.trim.new.out)) (sym c.in-Trim.is) (c.trim.ensures.front c.args.moment)
+
+pub returns-in-Size-clause-is_open : goal.returns-in-Size-clause-is_open
+returns-in-Size-clause-is_open g c = on-ok c.size.result (ForSome (g.F.Folder.told c.size.new.f).files (IsOpen c.args.self.now.files)) (λ image now. c.requires.is_open image (ap (λ (t : Told). t.files) (sym c.size.ensures.stays) ∙ now))

@@ -1,0 +1,69 @@
+-- A Trim, from the eviction down to so many bytes.
+use Rattle.std.proofs.Common.{◌≡◌, ℕ, Bool, List, [], Option, Some, None, refl, sym, ap, subst, ◌∙◌}
+use Rattle.std.specs.Option.{ForSome}
+use Rattle.blk_image.specs.Image.{Image}
+use Rattle.blk_image.specs.Told.{Passes, Told}
+use Rattle.blk_image.proofs.Runs.{passes_weaker}
+use Rattle.blk_io.specs.Streams.{Appends}
+use Rattle.blk_model.specs.Refusals.{evicted, refusals, refused}
+use Rattle.blk_model.specs.Effects.{effect}
+use Rattle.blk_model.specs.Reply.{answer_of}
+use Rattle.blk_model.specs.Request.{to_trim}
+use Rattle.blk_model.specs.Room.{Group, evicted_until, without}
+use Rattle.blk_model.specs.State.{State}
+use Rattle.blk_model.specs.Step.{outcome, reply, step}
+use Rattle.blk_model.specs.declared.Answer.TheVariants as answer
+use Rattle.blk_model.specs.declared.Refusal.{Refusal}
+use Rattle.blk_kept.specs.Commands.{Does, ForKept, MayStop, MayStopAtEach}
+use Rattle.blk_kept.proofs.CommandEnding.{passed}
+use Rattle.blk_kept.proofs.Stopping.{stop-evicted}
+use Rattle.blk_script.specs.Reply.{evicted_text}
+use Rattle.blk_cache.specs.declared.cache.Cache.{Cache}
+use Rattle.blk_cache.specs.declared.goal.Goal.TheVariants as goal
+use Rattle.blk_cache.specs.CacheKeeping.{KeepsState}
+use Rattle.blk_cache.specs.Evicting.{IsEvicting, count_of_groups, is_met}
+use Rattle.blk_cache.specs.RoomPrinting.{Prints}
+use Rattle.blk_cache.specs.Stepping.{SaysEvicted, SaysFront}
+
+module _ (moment bytes : ℕ) where
+  trim-passes : (state : State) → refused moment (to_trim bytes) state ≡ None
+  unfolding refusals
+  trim-passes state = refl
+
+  trim-evicts : (state : State) → evicted moment (to_trim bytes) state ≡ evicted_until (is_met (goal.Bytes bytes)) state []
+  unfolding evicted
+  trim-evicts state = refl
+
+  trim-groups : (state : State) → (step state moment (to_trim bytes)).groups ≡ evicted_until (is_met (goal.Bytes bytes)) state []
+  unfolding step outcome
+  trim-groups state = ap (λ (o : Option Refusal). (outcome moment (to_trim bytes) state o).groups) (trim-passes state) ∙ trim-evicts state
+
+  trim-state : (state : State) → (step state moment (to_trim bytes)).state ≡ without (evicted_until (is_met (goal.Bytes bytes)) state []) state
+  unfolding effect
+  trim-state state = (passed state moment (to_trim bytes) (trim-passes state)).0 ∙ ap (λ (groups : List Group). without groups state) (trim-evicts state)
+
+  trim-answer : (state : State) → answer_of (step state moment (to_trim bytes)).reply ≡ answer.Trimmed (count_of_groups (evicted_until (is_met (goal.Bytes bytes)) state []))
+  unfolding reply
+  trim-answer state = ap answer_of (passed state moment (to_trim bytes) (trim-passes state)).1 ∙ ap (λ (groups : List Group). answer.Trimmed (count_of_groups groups)) (trim-evicts state)
+
+  module _ (cache : Cache) (told now : Told) where
+    pub trim-stops : ForKept (KeepsState cache) told (λ state. Passes told now (IsEvicting (evicted_until (is_met (goal.Bytes bytes)) state []) state)) → MayStopAtEach (KeepsState cache) told now moment (to_trim bytes)
+    trim-stops evicting image there state k =
+        let may : (i : Image) → IsEvicting (evicted_until (is_met (goal.Bytes bytes)) state []) state i → MayStop state moment (to_trim bytes) i
+        = λ i e. stop-evicted state moment (to_trim bytes) e.first e.others i k.kept.entries.valid (record { passes = trim-passes state; groups = trim-evicts state ∙ e.split }) e.finds in
+        passes_weaker (evicting image there state k) may may
+
+    pub trim-does : (new : Cache) (count : ℕ) → ForKept (KeepsState cache) told (λ state. count ≡ count_of_groups (evicted_until (is_met (goal.Bytes bytes)) state []))
+        → ForKept (KeepsState cache) told (λ state. ForSome now.files (KeepsState new (without (evicted_until (is_met (goal.Bytes bytes)) state []) state)))
+        → Does (KeepsState cache) (KeepsState new) told now moment (to_trim bytes) (answer.Trimmed count)
+    trim-does new count counts left image there state k = record {
+      answered = ap answer.Trimmed (counts image there state k) ∙ sym (trim-answer state);
+      kept = λ i here. subst (λ (s : State). KeepsState new s i) (sym (trim-state state)) (left image there state k i here);
+    }
+
+    module _ (failed_before failed : Bool) (old new : Option (List ℕ)) where
+      pub trim-says : ForKept (KeepsState cache) told (λ state. Prints failed_before failed old new (evicted_text (evicted_until (is_met (goal.Bytes bytes)) state []))) → SaysEvicted cache told moment (to_trim bytes) failed_before failed old new
+      trim-says prints image there state k = subst (λ (groups : List Group). Prints failed_before failed old new (evicted_text groups)) (sym (trim-groups state)) (prints image there state k)
+
+      pub trim-front : ForKept (KeepsState cache) told (λ state. Appends old new (evicted_text (evicted_until (is_met (goal.Bytes bytes)) state []))) → SaysFront cache told moment (to_trim bytes) old new
+      trim-front front image there state k = subst (λ (groups : List Group). Appends old new (evicted_text groups)) (sym (trim-groups state)) (front image there state k)

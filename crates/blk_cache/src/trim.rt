@@ -1,0 +1,55 @@
+// The command Trim.
+ghost use Rattle.std.specs.Prelude.{◌≡◌, ◌≤◌, ℕ, IfOk, None, OnOk};
+ghost use Rattle.std.specs.Option.{ForSome};
+ghost use Rattle.blk_image.specs.Told.{Rises};
+ghost use Rattle.blk_io.specs.Faults.{IfDamaged, IfDevice};
+ghost use Rattle.blk_model.specs.Request.{to_trim};
+ghost use Rattle.blk_disk.specs.Open.{IsOpen};
+ghost use Rattle.blk_kept.specs.Commands.{Does, MayStopAtEach};
+ghost use Rattle.blk_cache.specs.CacheKeeping.{KeepsState};
+ghost use Rattle.blk_cache.specs.CommandClauses.{IsRefused, KeepsAny};
+ghost use Rattle.blk_cache.specs.RoomPrinting.{FailsWhereItRose};
+ghost use Rattle.blk_cache.specs.Stepping.{HasLine, SaysEvicted, SaysFront};
+
+use crate::cache::Cache;
+use crate::goal::Goal;
+use blk_io::{Fault, Folder, Sink};
+use blk_model::Answer;
+
+impl Cache {
+    /// Evicts groups from the back of the use list, until no more than so many bytes are left or each item is pinned, and
+    /// prints what goes. It answers how many items went, and is never refused.
+    ///
+    /// After a fault nothing is promised of the cache but that it may be let go.
+    pub(crate) fn trim<F: Folder, K: Sink>(
+        &mut self,
+        f: &mut F,
+        out: &mut K,
+        failed: &mut bool,
+        bytes: u64,
+    ) -> Result<Answer, Fault>
+        requires is_open { ForSome (F.told f.old).files (IsOpen self.old.files) }
+        ensures does { (moment : ℕ) → IfOk result (λ answer. Does (KeepsState self.old) (KeepsState self.new) (F.told f.old) (F.told f.new) moment (to_trim bytes) answer) }
+        ensures stops { (moment : ℕ) → MayStopAtEach (KeepsState self.old) (F.told f.old) (F.told f.new) moment (to_trim bytes) }
+
+        // What it evicts is printed, and on any answer a front of that.
+        ensures says { (moment : ℕ) → OnOk result (SaysEvicted self.old (F.told f.old) moment (to_trim bytes) failed.old failed.new (K.written out.old) (K.written out.new)) }
+        ensures front { (moment : ℕ) → SaysFront self.old (F.told f.old) moment (to_trim bytes) (K.written out.old) (K.written out.new) }
+        ensures fails { FailsWhereItRose failed.old failed.new (K.faults out.old) (K.faults out.new) }
+
+        ensures passes { IfOk result (λ given. IsRefused given → ⊥) }
+        ensures has_line { IfOk result HasLine }
+        ensures is_open { ForSome (F.told f.new).files (IsOpen self.new.files) }
+        ensures notes { self.new.notes ≡ self.old.notes }
+
+        // A folder that tells its files gives no damage where the cache keeps a state.
+        ensures untold { ForSome (F.told f.old).files (KeepsAny self.old) → IfDamaged result (λ _. (F.told f.old).files ≡ None) }
+        ensures silent { (F.told f.old).files ≡ None → (F.told f.new).files ≡ None }
+        ensures later { F.faults f.old ≤ F.faults f.new }
+        ensures sink_later { K.faults out.old ≤ K.faults out.new }
+        ensures device { IfDevice result (Rises (F.faults f.old) (F.faults f.new)) }
+    {
+        let count = self.evict_until(f, out, failed, &Goal::Bytes(bytes))?;
+        Ok(Answer::Trimmed(count))
+    }
+}
