@@ -1,4 +1,7 @@
 // Commands on a cache, over a folder in memory that tells nothing.
+ghost use Rattle.blk_cache.specs.Stepping.{IsBuilt};
+ghost use Rattle.blk_model.specs.Request.{request_of};
+
 use crate::folders::audited;
 use crate::found::found;
 use crate::repairs::{Mem, again};
@@ -9,10 +12,16 @@ use blk_model::{Answer, Command, Limits, Refusal};
 use std::alloc::Global;
 use std::test::Fail;
 
-// The most bytes and items that the program has where it is given no limits.
-const MAX_BYTES: u64 = 80 << 20;
+// The limits that the program has where it is given none, and limits with room for three items.
+const LIMITS: Limits = Limits {
+    max_bytes: 83_886_080,
+    max_items: 65_536,
+};
 
-const MAX_ITEMS: u32 = 65_536;
+const THREE_ITEMS: Limits = Limits {
+    max_bytes: 83_886_080,
+    max_items: 3,
+};
 
 // More steps than a Create that evicts takes.
 const MOST_STEPS: u64 = 200;
@@ -33,12 +42,8 @@ struct Session {
 }
 
 impl Session {
-    // A session over an empty folder, with room for so many items.
-    fn start(alloc: Global, max_items: u32) -> Result<Session, Fail> {
-        let limits = Limits {
-            max_bytes: MAX_BYTES,
-            max_items,
-        };
+    // A session over an empty folder, with these limits.
+    fn start(alloc: Global, limits: Limits) -> Result<Session, Fail> {
         let folder = StopFolder::new(MemFolder::without_trail(alloc), u64::MAX);
         let mut f = SilentFolder::new(folder);
         let cache = Cache::start(alloc, &mut f, limits, MOMENT)?;
@@ -60,7 +65,9 @@ impl Session {
     }
 
     // Does a command. Gives its answer and the number of its folder calls.
-    fn step(&mut self, command: &Command) -> Result<(Answer, u64), StepFault> {
+    fn step(&mut self, command: &Command) -> Result<(Answer, u64), StepFault>
+        requires { IsBuilt (request_of command.now) }
+    {
         let start = self.f.calls();
         let answer = self
             .cache
@@ -92,7 +99,7 @@ fn key_of(number: u32) -> [u8; 5] {
 
 #[test]
 fn objects_are_found_by_their_chains(rt: HostRuntime) -> Result<(), Fail> {
-    let mut session = Session::start(rt.alloc(), MAX_ITEMS)?;
+    let mut session = Session::start(rt.alloc(), LIMITS)?;
     let mut least = u64::MAX;
     for number in 0..4000 {
         let (_, calls) = session.create(0, &key_of(number))?;
@@ -112,7 +119,7 @@ fn objects_are_found_by_their_chains(rt: HostRuntime) -> Result<(), Fail> {
 
 // A session with room for three items, in which the three keys were made and closed, one after another.
 fn three_objects(alloc: Global) -> Result<Session, Fail> {
-    let mut session = Session::start(alloc, 3)?;
+    let mut session = Session::start(alloc, THREE_ITEMS)?;
     for key in KEYS {
         let (_, _) = session.create(0, key)?;
         let (_, _) = session.close(0)?;
