@@ -16,12 +16,22 @@ mod found;
 #[cfg(test)]
 mod long;
 #[cfg(test)]
+mod long_session;
+#[cfg(test)]
 mod objects;
 #[cfg(test)]
 mod opening;
 #[cfg(test)]
+mod parts;
+#[cfg(test)]
 mod reasons;
 #[cfg(test)]
 mod repairs;
+#[cfg(test)]
+mod rows;
+#[cfg(test)]
+mod sessions;
+#[cfg(test)]
+mod stops;
 #[cfg(test)]
 mod worked;
