@@ -236,6 +236,17 @@ whole-key files image entry old new n piece placed room =
     let many = piece.many in
     piece.front ∙ take_all n (key_bytes image entry) (omega (arith, many, size, small, room))
 
+-- and so its length is that of the key
+pub whole-length : (files : BlockFiles) (image : Image) (entry : ℕ) (old new : List ℕ) (n : ℕ) → IsPiece (key_bytes image entry) 0 old new n → HasKeyPlace files entry image → 32796 ≤ length old → (n ≡ (entry_at image entry).key_len) × (n ≤ 32796)
+unfolding key_bytes may_have
+whole-length files image entry old new n piece placed room =
+    let len = (entry_at image entry).key_len in
+    let parts = and_parts (nat_le 1 len && nat_le len most_key) (block_count entry == entry_blocks len) placed.has in
+    let small : len ≤ 32796 = leb-true len 32796 (and_parts (nat_le 1 len) (nat_le len most_key) parts.0).1 in
+    let size : length (key_bytes image entry) ≡ len = length-range len _ _ in
+    let many = piece.many in
+    (omega (arith, many, size, small, room), omega (arith, many, size, small, room))
+
 -- a number that is read of a key is said by it
 pub said-by : (entry : ℕ) (key : List ℕ) (number : Option ℕ) (files : Option Image) → ForSome files (λ image. number_said key (read_name (key_bytes image entry)) ≡ number) → IfSome number (λ n. ForSome files (SaysPart entry key n))
 said-by entry key None files holds = tt
