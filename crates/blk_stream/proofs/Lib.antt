@@ -31,3 +31,4 @@ pub mod StreamInside
 pub mod PlaceStages
 pub mod InsideStages
 pub mod StoredStages
+pub mod RecordSeals

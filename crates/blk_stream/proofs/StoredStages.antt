@@ -28,8 +28,8 @@ use Rattle.blk_stream.proofs.StreamMoved.{long_there}
 use Rattle.blk_stream.proofs.StreamPlaces.{none_word}
 
 -- before anything is written
-pub begun_stages : (files kept : BlockFiles) (entry i size : ℕ) (from : Image) → WritesByStage files kept entry i size from from
-begun_stages files kept entry i size from = inr (inl (inl (inl (still_whole from))))
+pub begun_stages : (files kept : BlockFiles) (entry i size offset : ℕ) (bytes : List ℕ) (from : Image) → WritesByStage files kept entry i size offset bytes from from
+begun_stages files kept entry i size offset bytes from = inr (inl (inl (inl (still_whole from))))
 
 -- a stream without bytes that gets none
 pub nothing_in_place : (entry i size : ℕ) (from : Image) → have_one_storage (size_word from entry i) size ≡ true → RecordChecks entry from → WritesInPlace entry i size from from
@@ -75,8 +75,8 @@ module _ (files : BlockFiles) (entry i size addr : ℕ) (old : Stored) (offset :
       let now = can_now from can in
       passes_weaker (stages from there (inside_apart files entry i size addr kind stands small from (agrees from there) now (word_is from there) some fits) (has_file_now from there can)) (in_place from there) (in_place from there)
 
-  pub inside_by_stage : ForSome a.files (λ from. CanBeWritten files entry i N from → Passes a b (WritesByStage files files entry i N from))
+  pub inside_by_stage : ForSome a.files (λ from. CanBeWritten files entry i N from → Passes a b (WritesByStage files files entry i N offset bytes from))
   inside_by_stage from there can = passes_weaker (passes from there can) (λ image h. inl h) (λ image h. inl h)
 
-  pub inside_staged : ForSome a.files (λ from. CanBeWritten files entry i N from → ForSome b.files (IsWrittenByStage files files entry i N from))
+  pub inside_staged : ForSome a.files (λ from. CanBeWritten files entry i N from → ForSome b.files (IsWrittenByStage files files entry i N offset bytes from))
   inside_staged from there can image now = inl (passes_end (passes from there can) image now)

@@ -1,10 +1,13 @@
 -- A stream is written by stages: its bytes and its words change where it lies; or a new place is taken and filled, then the record names it, and then the old one is freed.
-use Rattle.std.specs.Prelude.{ℕ, ◌≡◌, ◌≢◌, ◌⊎◌, true, false, Option, None, Some, unwrap_or}
+use Rattle.std.specs.Prelude.{ℕ, ◌≡◌, ◌≢◌, ◌⊎◌, List, length, Bool, true, false, Option, None, Some, unwrap_or}
 use Rattle.blk_image.specs.Image.{External, File, Image, has_file}
 use Rattle.blk_image.specs.Footprint.{SameOutside, either, whole}
 use Rattle.blk_format.specs.Address.{external, external_number, file_selector, is_address, is_block_kind, kind_of}
 use Rattle.blk_format.specs.Growth.{StaysWhole}
+use Rattle.blk_format.specs.Records.{entry_is_sealed}
 use Rattle.blk_format.specs.Sealed.{RecordChecks}
+use Rattle.blk_model.specs.Effects.{stream_after}
+use Rattle.blk_volume.specs.View.{entry_at}
 use Rattle.blk_disk.specs.declared.tables.BlockFiles.{BlockFiles}
 use Rattle.blk_disk.specs.Tables.{Agrees, stands_among}
 use Rattle.blk_external.specs.Making.{Creates, CreatesInProgress, last_number, touched_by_making}
@@ -12,11 +15,12 @@ use Rattle.blk_external.specs.Numbers.{IsFirstFree}
 use Rattle.blk_alloc.specs.Allocating.{Allocates, AllocatesIn}
 use Rattle.blk_alloc.specs.Extending.{HasItsBlocks, KeepsLinks}
 use Rattle.blk_alloc.specs.Owning.{IsFreed}
-use Rattle.blk_stream.specs.Streams.{address_word, size_word}
+use Rattle.blk_entry.specs.Keys.{data_at}
+use Rattle.blk_stream.specs.Streams.{address_word, may_keep, size_word, stream_bytes}
 use Rattle.blk_stream.specs.Changing.{HasWords, NamesInProgress, stream_words}
 use Rattle.blk_stream.specs.Inside.{WritesInProgress, data_of}
-use Rattle.blk_stream.specs.Moving.{data_at_place}
-use Rattle.blk_stream.specs.Writing.{have_one_storage}
+use Rattle.blk_stream.specs.Moving.{HasPlaceLength, data_at_place}
+use Rattle.blk_stream.specs.Writing.{have_one_storage, size_after}
 
 -- A place is taken.
 
@@ -93,10 +97,15 @@ FreesPlace w from image = FreesBlocks w from image ⊎ DeletesFile w from image
 
 -- The record.
 
--- a record got a size and an address word of a stream, and nothing else has changed
+-- a record that was sealed is
+abbrev pub KeepsSeal : ℕ → Image → Image → Type 0
+KeepsSeal entry from image = entry_is_sealed (entry_at from entry) ≡ true → entry_is_sealed (entry_at image entry) ≡ true
+
+-- a record got a size and an address word of a stream, and its seal, and nothing else has changed
 pub record NamesPlace (entry i size word : ℕ) (from image : Image) : Type 0 where
   pub names : NamesInProgress entry i from image
   pub words : HasWords entry i size word image
+  pub sealed : entry_is_sealed (entry_at image entry) ≡ true
 
 -- it got them, and then an old place is being freed
 pub record NamesAndFrees (entry i old size word : ℕ) (from image : Image) : Type 0 where
@@ -132,25 +141,31 @@ pub record WritesInPlace (entry i size : ℕ) (from image : Image) : Type 0 wher
   pub checks : RecordChecks entry image
   pub files : (file : File) → has_file image file ≡ has_file from file
 
--- a new place for it is filled, and then the record names it, or it is named and the old one is being freed
-pub record NamesByStage (files kept : BlockFiles) (entry i size : ℕ) (from image : Image) : Type 0 where
+-- a new place is filled with the stream after the write, whether or not it is cut, and then the record names it, or it is named and the old one is being freed
+pub record NamesByStage (files kept : BlockFiles) (entry i size offset : ℕ) (bytes : List ℕ) (from image : Image) : Type 0 where
   pub place : Option ℕ
   pub filled : Image
   pub fills : IsFilled files kept place from filled
+  pub written : (cut : Bool) → size ≡ size_after cut (size_word from entry i) offset (length bytes) → data_at filled (unwrap_or place 0) 0 size ≡ stream_after cut (stream_bytes from entry i) offset bytes
+  pub long : HasPlaceLength (unwrap_or place 0) size filled
+  pub fits : may_keep kept size (unwrap_or place 0) ≡ true
   pub leaves : LeavesByStage entry i (address_word from entry i) size (unwrap_or place 0) filled image
 
 -- at each word: it is written where it lies; or a new place is being taken or filled; or it is filled, and the record names it, and then the old one is freed
-abbrev pub WritesByStage : BlockFiles → BlockFiles → (entry i size : ℕ) → Image → Image → Type 0
-WritesByStage files kept entry i size from image = WritesInPlace entry i size from image ⊎ (FillsByStage files kept from image ⊎ NamesByStage files kept entry i size from image)
+abbrev pub WritesByStage : BlockFiles → BlockFiles → (entry i size offset : ℕ) → List ℕ → Image → Image → Type 0
+WritesByStage files kept entry i size offset bytes from image = WritesInPlace entry i size from image ⊎ (FillsByStage files kept from image ⊎ NamesByStage files kept entry i size offset bytes from image)
 
 -- it was written to a new place, which was filled and named, and the old one was freed then
-pub record HasMoved (files kept : BlockFiles) (entry i size : ℕ) (from image : Image) : Type 0 where
+pub record HasMoved (files kept : BlockFiles) (entry i size offset : ℕ) (bytes : List ℕ) (from image : Image) : Type 0 where
   pub other : have_one_storage (size_word from entry i) size ≡ false
   pub place : Option ℕ
   pub filled : Image
   pub fills : IsFilled files kept place from filled
+  pub written : (cut : Bool) → size ≡ size_after cut (size_word from entry i) offset (length bytes) → data_at filled (unwrap_or place 0) 0 size ≡ stream_after cut (stream_bytes from entry i) offset bytes
+  pub long : HasPlaceLength (unwrap_or place 0) size filled
+  pub fits : may_keep kept size (unwrap_or place 0) ≡ true
   pub left : HasLeft entry i (address_word from entry i) size (unwrap_or place 0) filled image
 
 -- in the end: it was written where it lies, or to a new place
-abbrev pub IsWrittenByStage : BlockFiles → BlockFiles → (entry i size : ℕ) → Image → Image → Type 0
-IsWrittenByStage files kept entry i size from image = WritesInPlace entry i size from image ⊎ HasMoved files kept entry i size from image
+abbrev pub IsWrittenByStage : BlockFiles → BlockFiles → (entry i size offset : ℕ) → List ℕ → Image → Image → Type 0
+IsWrittenByStage files kept entry i size offset bytes from image = WritesInPlace entry i size from image ⊎ HasMoved files kept entry i size offset bytes from image

@@ -4,9 +4,10 @@ ghost use Rattle.std.specs.Option.{ForSome};
 ghost use Rattle.blk_image.specs.Told.{Passes, Rises};
 ghost use Rattle.blk_format.specs.Address.{block_count, blocks_256, external, file_selector, first_block, kind_of};
 ghost use Rattle.blk_format.specs.Headers.{HasWholeIndex};
-ghost use Rattle.blk_format.specs.Records.{entry_size};
+ghost use Rattle.blk_format.specs.Records.{entry_is_sealed, entry_size};
 ghost use Rattle.blk_format.specs.Sealed.{RecordChecks, record_at};
 ghost use Rattle.blk_volume.specs.Entries.{most_stream_bytes};
+ghost use Rattle.blk_volume.specs.View.{entry_at};
 ghost use Rattle.blk_io.specs.Faults.{IfDamaged, IfDevice};
 ghost use Rattle.blk_disk.specs.Tables.{Agrees, stands_among};
 ghost use Rattle.blk_alloc.specs.Extending.{KeepsStanding};
@@ -48,6 +49,7 @@ pub(crate) fn leave_place<F: Folder>(
     requires agrees { ForSome (F.told f.old).files (Agrees files.now) }
     ensures changed { OnOk result (ForSome (F.told f.old).files (λ from. bytes.old ≡ record_at from entry → RecordChecks entry from → ForSome (F.told f.new).files (LeavesPlace entry stream old size word from))) }
     ensures read { OnOk result (ForSome (F.told f.old).files (λ from. bytes.old ≡ record_at from entry → ForSome (F.told f.new).files (λ image. bytes.new ≡ record_at image entry))) }
+    ensures sealed { OnOk result (ForSome (F.told f.old).files (λ from. bytes.old ≡ record_at from entry → RecordChecks entry from → ForSome (F.told f.new).files (λ image. entry_is_sealed (entry_at image entry) ≡ true))) }
     ensures long { length bytes.new ≡ entry_size }
     ensures staged { OnOk result (ForSome (F.told f.old).files (λ from. bytes.old ≡ record_at from entry → RecordChecks entry from → old ≢ 0 → ForSome (F.told f.new).files (HasLeft entry stream old size word from))) }
     ensures stops { ForSome (F.told f.old).files (λ from. bytes.old ≡ record_at from entry → RecordChecks entry from → Passes (F.told f.old) (F.told f.new) (LeavesPlaceInProgress entry stream old size word from)) }
@@ -122,11 +124,12 @@ pub(crate) fn write_moved<F: Folder>(
     requires agrees { ForSome (F.told f.old).files (Agrees files.old) }
     requires complete { ForSome (F.told f.old).files HasWholeIndex }
     ensures written { OnOk result (ForSome (F.told f.old).files (λ from. IsStreamRead record_bytes.old entry stream old.size (unwrap_or old.addr 0) from → CanBeWritten files.old entry stream size from → (cut : Bool) → size ≡ size_after cut old.size offset (length bytes.now) → ForSome (F.told f.new).files (StreamIsWritten files.old files.new entry stream offset cut bytes.now from))) }
-    ensures staged { OnOk result (ForSome (F.told f.old).files (λ from. IsStreamRead record_bytes.old entry stream old.size (unwrap_or old.addr 0) from → CanBeWritten files.old entry stream size from → ForSome (F.told f.new).files (IsWrittenByStage files.old files.new entry stream size from))) }
+    ensures staged { OnOk result (ForSome (F.told f.old).files (λ from. IsStreamRead record_bytes.old entry stream old.size (unwrap_or old.addr 0) from → CanBeWritten files.old entry stream size from → ForSome (F.told f.new).files (IsWrittenByStage files.old files.new entry stream size offset bytes.now from))) }
+    ensures sealed { OnOk result (ForSome (F.told f.old).files (λ from. IsStreamRead record_bytes.old entry stream old.size (unwrap_or old.addr 0) from → CanBeWritten files.old entry stream size from → ForSome (F.told f.new).files (λ image. entry_is_sealed (entry_at image entry) ≡ true))) }
     ensures keeps { KeepsStanding files.old files.new }
     ensures agrees { OnOk result (ForSome (F.told f.new).files (Agrees files.new)) }
     ensures stops { ForSome (F.told f.old).files (λ from. IsStreamRead record_bytes.old entry stream old.size (unwrap_or old.addr 0) from → CanBeWritten files.old entry stream size from → (cut : Bool) → size ≡ size_after cut old.size offset (length bytes.now) → Passes (F.told f.old) (F.told f.new) (WritesStream files.old entry stream size offset cut bytes.now from)) }
-    ensures stages { ForSome (F.told f.old).files (λ from. IsStreamRead record_bytes.old entry stream old.size (unwrap_or old.addr 0) from → CanBeWritten files.old entry stream size from → Passes (F.told f.old) (F.told f.new) (WritesByStage files.old files.new entry stream size from)) }
+    ensures stages { ForSome (F.told f.old).files (λ from. IsStreamRead record_bytes.old entry stream old.size (unwrap_or old.addr 0) from → CanBeWritten files.old entry stream size from → Passes (F.told f.old) (F.told f.new) (WritesByStage files.old files.new entry stream size offset bytes.now from)) }
     ensures damaged { IfDamaged result (IsWriteDamage files.old files.new (F.told f.old) (F.told f.new) entry stream) }
     ensures untold { ForSome (F.told f.old).files (λ from. IsStreamRead record_bytes.old entry stream old.size (unwrap_or old.addr 0) from × CanBeWritten files.old entry stream size from) → IfDamaged result (λ _. (F.told f.old).files ≡ None) }
     ensures silent { (F.told f.old).files ≡ None → (F.told f.new).files ≡ None }
