@@ -29,3 +29,4 @@ pub mod PartsLeft
 pub mod PartsFound
 pub mod HeldDooms
 pub mod FoundLeft
+pub mod WritingPlaces

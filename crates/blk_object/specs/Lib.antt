@@ -12,3 +12,4 @@ pub mod UnlinkedLoads
 pub mod RemovingFound
 pub mod Dooming
 pub mod FindingOut
+pub mod WritingPlaces

@@ -18,6 +18,7 @@ mod removing_laws;
 mod removing_mains;
 mod removing_objects;
 mod removing_parts;
+mod writing_places_laws;
 
 pub use counters::count_less;
 pub use counting_laws::{left_items_are_counted, parts_go_until_none_is_left};
@@ -38,3 +39,4 @@ pub use removing_laws::{
 pub use removing_mains::take_main;
 pub use removing_objects::remove_item;
 pub use removing_parts::remove_part;
+pub use writing_places_laws::filled_places_are_unlinked;
