@@ -36,3 +36,4 @@ pub mod WrittenRecords
 pub mod WrittenObjects
 pub mod WrittenCharges
 pub mod RisenCounters
+pub mod WritingPlaces

@@ -13,3 +13,4 @@ pub mod RemovingFound
 pub mod Dooming
 pub mod FindingOut
 pub mod Writing
+pub mod WritingPlaces
