@@ -37,3 +37,5 @@ pub mod WrittenObjects
 pub mod WrittenCharges
 pub mod RisenCounters
 pub mod WritingPlaces
+pub mod WrittenWords
+pub mod WrittenStages

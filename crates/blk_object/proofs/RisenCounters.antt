@@ -1,5 +1,5 @@
 -- The bytes that the index counts become less by one number and more by another.
-use Rattle.std.proofs.Common.{◌≡◌, ℕ, ◌+◌, ◌%◌, ◌<◌, ◌≤◌, List, [], ◌∷◌, length, refl, ap, sym, ◌∙◌, subst, arith, lit≤, Bool, true, false}
+use Rattle.std.proofs.Common.{◌≡◌, ℕ, ◌+◌, ◌%◌, ◌<◌, ◌≤◌, List, [], ◌∷◌, ◌++◌, length, length-append, refl, ap, sym, ◌∙◌, subst, arith, lit≤, Bool, true, false}
 use Rattle.std.specs.Prelude.{◌^◌, ◌-◌, ◌&&◌, nat_le, nat_lt}
 use Rattle.std.specs.List.{sum_by}
 use Rattle.std.proofs.lemmas.Bool.Decides.{nat_tests}
@@ -14,9 +14,16 @@ use Rattle.blk_image.proofs.Runs.{passes_part, some_inj, told_part, told_whole}
 use Rattle.blk_disk.specs.declared.tables.BlockFiles.{BlockFiles}
 use Rattle.blk_disk.specs.Open.{IsOpen}
 use Rattle.blk_format.specs.Headers.{num_bytes_of}
+use Rattle.blk_model.specs.Items.{Item}
+use Rattle.blk_volume.specs.Found.{charge_of}
+use Rattle.blk_volume.specs.Layout.{nodes_of}
+use Rattle.blk_volume.specs.Tidy.{loaded_at}
 use Rattle.blk_chain.proofs.Links.{index_word}
 use Rattle.blk_laws.specs.IndexWrites.{IsIndexWord}
+use Rattle.blk_laws.proofs.commands.Opening.{IsAround, around, nodes-append}
+use Rattle.blk_laws.proofs.states.Moving.{moved-same, sums-add}
 use Rattle.blk_kept.specs.Changes.{KeepsWith}
+use Rattle.blk_kept.specs.ListLaws.{with_used}
 use Rattle.blk_kept.proofs.Counters.{counter-keeps}
 use Rattle.blk_object.specs.Counters.{charges}
 use Rattle.blk_object.specs.Writing.{IsRiseCounted, RisesAreCounted, UsesLeaveTheRise}
@@ -92,3 +99,25 @@ rises-counted state after layout now unlinked less more from image counts risen 
 
     before : (at : ℕ) → at < 8 + 4 → (nat_le 12 at && nat_lt at (12 + 4)) ≡ false
     before at high = grind (arith, nat_tests)
+
+-- ---- an item is used in between
+
+pub uses-leave : UsesLeaveTheRise
+uses-leave state after layout now less more item valid listed risen = record {
+  items =
+      (let new = ap length a.rest in
+      let old = ap length a.is in
+      let one = length-append a.before a.suffix in
+      let two = length-append a.before (item ∷ a.suffix) in
+      let long : length (with_used after item).uses ≡ length after.uses = omega (arith, new, old, one, two) in
+      long) ∙ risen.items;
+  bytes = ap (λ (n : ℕ). n + less) (sym same) ∙ risen.bytes;
+} where
+  a : IsAround item after.uses
+  a = around item after.uses listed (valid.once item)
+
+  same : charges after now ≡ charges (with_used after item) now
+  same =
+      ap (λ (ns : List ℕ). sum_by charge_of (loaded_at now ns)) (ap (nodes_of now) a.is ∙ nodes-append now a.before (item ∷ a.suffix))
+      ∙ sym (moved-same (λ (ns : List ℕ). sum_by charge_of (loaded_at now ns)) (sums-add charge_of now.at) (nodes_of now a.before) (now.place item) (nodes_of now a.suffix))
+      ∙ ap (λ (ns : List ℕ). sum_by charge_of (loaded_at now ns)) (sym (ap (λ (xs : List ℕ). now.place item ∷ xs) (ap (nodes_of now) a.rest ∙ nodes-append now a.before a.suffix)))

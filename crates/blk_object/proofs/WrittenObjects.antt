@@ -7,7 +7,7 @@ use Rattle.std.specs.Option.{option_and_then, option_map, option_map_or}
 use Rattle.std.proofs.lemmas.Bool.{cases_Bool, cases_eq, eqb-true, or_left, or_right}
 use Rattle.blk_image.specs.Bytes.{range_at}
 use Rattle.blk_image.specs.Footprint.{SameOutside, either, nothing}
-use Rattle.blk_image.specs.Image.{AreBytes, Block, External, File, Image, byte, has_file, length_of}
+use Rattle.blk_image.specs.Image.{Block, External, File, Image, byte, has_file, length_of}
 use Rattle.blk_image.proofs.Runs.{some_inj}
 use Rattle.blk_model.specs.Effects.{streams_with, with_slot, with_stream}
 use Rattle.blk_model.specs.Holding as model
@@ -19,7 +19,7 @@ use Rattle.blk_format.specs.BlockFiles.{stands_in}
 use Rattle.blk_format.specs.Claims.{BlockOf, Claim, claims_of, has_claim, repeats}
 use Rattle.blk_format.specs.Records.{Node, entry_checks, entry_is_sealed, node_is_sealed}
 use Rattle.blk_format.specs.Storage.{is_storage}
-use Rattle.blk_format.specs.Sealed.{RecordChecks, record_size, size_by_kind}
+use Rattle.blk_format.specs.Sealed.{record_size, size_by_kind}
 use Rattle.blk_volume.specs.Chains.{bucket_of_hash, is_of_bucket}
 use Rattle.blk_volume.specs.Entries.{is_key_length, role_of, stored_key, stored_stream, stored_streams, stream}
 use Rattle.blk_volume.specs.Footprint.{IsClear, IsFreeBut, IsInsideNode, IsReplaced, SameBut, SameNodeLinks}
@@ -143,7 +143,7 @@ module _ (state : State) (layout : Layout) (unlinked : List ℕ) (from : Image) 
   once : repeats (all_claims was) ≡ false
   once = k.represents.holds.lies.single node was lies
 
-  record-once : repeats (claims_of was.contents ++ flat_map claims_of was.others) ≡ false
+  pub record-once : repeats (claims_of was.contents ++ flat_map claims_of was.others) ≡ false
   unfolding all_claims record_claims
   record-once = repeats-tail (claims_of was.node) (claims_of was.contents ++ flat_map claims_of was.others) once
 
@@ -211,20 +211,24 @@ module _ (state : State) (layout : Layout) (unlinked : List ℕ) (from : Image) 
   pub its-address : (m : ℕ) → slice_index was.others (suc m) ≡ address_word from was.contents m
   its-address m = ap (λ (xs : List ℕ). slice_index xs (suc m)) says.others
 
-  its-long-key : slice_index was.others 0 ≡ (entry_at from was.contents).long_key
+  pub its-long-key : slice_index was.others 0 ≡ (entry_at from was.contents).long_key
   its-long-key = ap (λ (xs : List ℕ). slice_index xs 0) says.others
 
   -- ---- a stream of it is written in a place of its own, or only its record's words are
 
-  other-address : (i : ℕ) → i < 3 → address_word from was.contents i ≢ 0 → kind_of (address_word from was.contents i) ≢ external → stands_in from (address_word from was.contents i) ≡ true
+  pub other-address : (i : ℕ) → i < 3 → address_word from was.contents i ≢ 0 → stands_in from (address_word from was.contents i) ≡ true
   unfolding stored_stream store_of
-  other-address i few some blocks = go (nat_le (size_word from was.contents i) 2147483647) (streams_parts from (fields_of (entry_at from was.contents)) was.streams says.streams i few) where
+  other-address i few some = go (nat_le (size_word from was.contents i) 2147483647) (streams_parts from (fields_of (entry_at from was.contents)) was.streams says.streams i few) where
     go : (b : Bool) → (if b then stored_at from (size_word from was.contents i) (address_word from was.contents i) else None) ≡ Some (stream i was.streams) → stands_in from (address_word from was.contents i) ≡ true
     go true e = some_there from (size_word from was.contents i) (address_word from was.contents i) (stream i was.streams) some e
     go false e = let z : ◌≡◌ {A = Option (List ℕ)} None (Some (stream i was.streams)) = e in absurd (cc)
 
-  module _ (files : BlockFiles) (agrees : Agrees files from) (stands_files : stands_among files was.contents ≡ true) (i : ℕ) (few : i < 3) (w : ℕ) (w_is : (w ≡ 0) ⊎ (w ≡ address_word from was.contents i))
-      (image : Image) (bytes : AreBytes image) (same : SameOutside (either (stream_words was.contents i) (data_at_place w)) from image) (checks : RecordChecks was.contents image) (files_same : (file : File) → has_file image file ≡ has_file from file) where
+  -- the data of a stream lies inside its place
+  pub data-inside : (files : BlockFiles) (i : ℕ) → Agrees files from → i < 3 → IsInside files (address_word from was.contents i) 0 (size_word from was.contents i)
+  data-inside files i agrees few = keeps_inside files (size_word from was.contents i) (address_word from was.contents i) 0 (size_word from was.contents i) (stream_facts files from was.contents i was.streams agrees few says.at).keep (omega arith)
+
+  module _ (files : BlockFiles) (stands_files : stands_among files was.contents ≡ true) (i : ℕ) (few : i < 3) (w : ℕ) (w_is : (w ≡ 0) ⊎ (w ≡ address_word from was.contents i)) (inside : w ≢ 0 → IsInside files w 0 (size_word from was.contents i))
+      (image : Image) (same : SameOutside (either (stream_words was.contents i) (data_at_place w)) from image) (shown : entry_checks (entry_at image was.contents) ≡ true) (files_same : (file : File) → has_file image file ≡ has_file from file) where
     abbrev touched : Claim → Bool
     touched = touched_of was.contents w
 
@@ -234,13 +238,13 @@ module _ (state : State) (layout : Layout) (unlinked : List ℕ) (from : Image) 
         (λ (h : w ≡ address_word from was.contents i). ap (λ (x : ℕ). has_claim (claims_of x) c) (its-address i ∙ sym h) ∙ e)
         w_is
 
-    w-there : w ≢ 0 → kind_of w ≢ external → stands_in from w ≡ true
+    pub w-there : w ≢ 0 → kind_of w ≢ external → stands_in from w ≡ true
     w-there some blocks = ⊎_elim
         (λ (h : w ≡ 0). absurd (some h))
-        (λ (h : w ≡ address_word from was.contents i). ap (stands_in from) h ∙ other-address i few (λ e. some (h ∙ e)) (λ e. blocks (ap kind_of h ∙ e)))
+        (λ (h : w ≡ address_word from was.contents i). ap (stands_in from) h ∙ other-address i few (λ e. some (h ∙ e)))
         w_is
 
-    stands-before : stands_in from was.contents ≡ true
+    pub stands-before : stands_in from was.contents ≡ true
     stands-before = (standing-parts from blocks_256 was.contents stands-so).0
 
     pub only : ChangesOnly touched from image
@@ -280,13 +284,6 @@ module _ (state : State) (layout : Layout) (unlinked : List ℕ) (from : Image) 
         record-apart (suc i) (BlockOf (file_selector w) b) (claims_blocks was.contents (file_selector w) b (record { some = stands-some from was.contents stands-before; block_kind = blocky }) ∙ its)
         (w-among (BlockOf (file_selector w) b) (claims_blocks w (file_selector w) b (record { some = some; block_kind = blocks }) ∙ mine))))
 
-    inside : w ≢ 0 → IsInside files w 0 (size_word from was.contents i)
-    inside some = ⊎_elim
-        (λ (h : w ≡ 0). absurd (some h))
-        (λ (h : w ≡ address_word from was.contents i). subst (λ (x : ℕ). IsInside files x 0 (size_word from was.contents i)) (sym h)
-        (keeps_inside files (size_word from was.contents i) (address_word from was.contents i) 0 (size_word from was.contents i) (stream_facts files from was.contents i was.streams agrees few says.at).keep (omega arith)))
-        w_is
-
     data-off : (at : ℕ) → place was.contents ≤ at → at < place was.contents + byte_size was.contents → (data_at_place w).bytes (Block (file_selector was.contents)) at ≡ false
     unfolding data_at_place
     data-off at low high = by_test (w == 0) refl where
@@ -294,10 +291,10 @@ module _ (state : State) (layout : Layout) (unlinked : List ℕ) (from : Image) 
       by_test true e = refl
       by_test false e = block_off files was.contents w (size_word from was.contents i) at blocky stands_files (inside (of_other w 0 e)) (shared (of_other w 0 e)) low high
 
-    record-same : SameRecordBut was.contents i from image
+    pub record-same : SameRecordBut was.contents i from image
     record-same at low high off = same.bytes (Block (file_selector was.contents)) at (let clear = data-off at low high in rw (off, clear) refl)
 
-    stands-after : stands_as image blocks_256 was.contents ≡ true
+    pub stands-after : stands_as image blocks_256 was.contents ≡ true
     stands-after = ap (λ (b : Bool). b && (kind_of was.contents == blocks_256)) (written-stands from was.contents i w kind few stands-before w-there image same was.contents blocky) ∙ stands-so
 
     abbrev said : RecordFields
@@ -307,8 +304,8 @@ module _ (state : State) (layout : Layout) (unlinked : List ℕ) (from : Image) 
     unfolding store_of fields_at
     entry-after = rw stands-after refl
 
-    change : IsStreamChange (fields_of (entry_at from was.contents)) (fields_of (entry_at image was.contents))
-    change = fields-still was.contents i kind few from image long record-same bytes checks says.checks
+    pub change : IsStreamChange (fields_of (entry_at from was.contents)) (fields_of (entry_at image was.contents))
+    change = fields-still was.contents i kind few from image long record-same shown says.checks
 
     chain-same : (store_of image).chain_next was.contents ≡ (store_of from).chain_next was.contents
     unfolding store_of follow_at

@@ -92,10 +92,10 @@ module _ (entry i : ℕ) (kind : kind_of entry ≡ blocks_256) (few : i < 3) (fr
   first-word : word_at g (place entry) ≡ word_at f (place entry)
   first-word = let h : place entry + 0 ≡ place entry = omega arith in subst (λ (p : ℕ). word_at g p ≡ word_at f p) h (front 0 (omega arith))
 
-  pub fields-still : AreBytes image → RecordChecks entry image → entry_checks (entry_at from entry) ≡ true → IsStreamChange (fields_of (entry_at from entry)) (fields_of (entry_at image entry))
+  pub fields-still : entry_checks (entry_at image entry) ≡ true → entry_checks (entry_at from entry) ≡ true → IsStreamChange (fields_of (entry_at from entry)) (fields_of (entry_at image entry))
   unfolding entry_in
-  fields-still bytes good was = record {
-    checks = shown-checks image entry bytes kind good ∙ sym was;
+  fields-still shown was = record {
+    checks = shown ∙ sym was;
     hash = first-word;
     rankings_node = front 8 (omega arith);
     state = front 20 (omega arith);
