@@ -10,6 +10,8 @@ use Rattle.blk_disk.proofs.SealedWrites.{front_read}
 use Rattle.blk_format.proofs.SealedRecords.{entry_bytes}
 use Rattle.blk_laws.proofs.lists.WriteSteps.{quiet-sealed}
 use Rattle.blk_stream.specs.Changing.{NamesInProgress, place_changes}
+use Rattle.blk_stream.specs.Streams.{address_place, size_place}
+use Rattle.blk_stream.proofs.RecordSeals.{updated_sealed}
 use Rattle.blk_stream.proofs.Naming.{changed_long, named_words, naming_moments, place_are}
 use Rattle.blk_stream.proofs.changing.name_place.Given as given
 use Rattle.blk_stream.proofs.changing.name_place.Goals as goal
@@ -57,3 +59,11 @@ returns-clause-stops g c from there read good =
     passes_part P P part (quiet-sealed from c.args.entry (place_changes c.args.stream c.args.size c.args.word)) (λ image h. h)
     (λ image now. subst (λ (i : Image). Along P i steps) (some_inj (sym there ∙ now))
     (naming_moments c.args.files.now c.args.entry c.args.stream c.args.size c.args.word from c.requires.kind c.requires.stands c.requires.stream (c.requires.agrees from there) good))
+
+pub returns-clause-sealed : goal.returns-clause-sealed
+returns-clause-sealed g c =
+    on_ok_weaker c.update_record.result
+    (λ updated from there read image now.
+    updated_sealed from image c.args.entry (place_changes c.args.stream c.args.size c.args.word) (g.met.F.Folder.are_bytes c.update_record.new.f image now) c.requires.kind (place_are c.args.entry c.args.stream (size_place c.args.stream) (address_place c.args.stream) c.args.size c.args.word c.requires.kind c.requires.stream refl refl)
+    (subst (λ (l : List (ℕ × ℕ)). IsUpdated from c.args.entry l image) (changes_are g c) (updated from there read image now)))
+    c.update_record.ensures.updated
