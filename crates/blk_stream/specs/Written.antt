@@ -101,5 +101,5 @@ abbrev pub IsWriteDamage : BlockFiles → BlockFiles → Told → Told → ℕ �
 IsWriteDamage files kept before after entry i damage =
     (Stays before after × (IsHeadDamage before entry damage ⊎ IsMisplacedStream files entry i damage))
     ⊎ ((size : ℕ) × IsPlaceRefusal files kept size before after damage)
-    ⊎ ((w : ℕ) × (size : ℕ) × IsCutFront w size damage)
+    ⊎ ((w : ℕ) × (size : ℕ) × IsCutFront after w size damage)
     ⊎ ((w : ℕ) × (stands_among kept w ≡ true) × IsCause after (file_selector w) (first_block w) (block_count w) false damage)
