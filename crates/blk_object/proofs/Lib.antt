@@ -29,4 +29,13 @@ pub mod PartsLeft
 pub mod PartsFound
 pub mod HeldDooms
 pub mod FoundLeft
+pub mod WrittenRoles
+pub mod WrittenLoads
+pub mod WrittenChanges
+pub mod WrittenRecords
+pub mod WrittenObjects
+pub mod WrittenCharges
+pub mod RisenCounters
 pub mod WritingPlaces
+pub mod WrittenWords
+pub mod WrittenStages

@@ -12,4 +12,5 @@ pub mod UnlinkedLoads
 pub mod RemovingFound
 pub mod Dooming
 pub mod FindingOut
+pub mod Writing
 pub mod WritingPlaces

@@ -5,9 +5,11 @@ ghost use Rattle.blk_image.specs.Told.{Passes, Rises, Stays};
 ghost use Rattle.blk_format.specs.Headers.{HasWholeIndex};
 ghost use Rattle.blk_io.specs.Faults.{IfDamaged, IfDevice};
 ghost use Rattle.blk_disk.specs.Open.{IsOpen};
+ghost use Rattle.blk_laws.specs.IndexWrites.{IsIndexWord};
 ghost use Rattle.blk_kept.specs.Changes.{KeepsWith};
 ghost use Rattle.blk_object.specs.Counters.{AreCountedLess, AreCounters, AreCountersWritten};
 ghost use Rattle.blk_object.specs.RemovingNext.{KeepsOut};
+ghost use Rattle.blk_object.specs.Writing.{IsRiseCounted};
 
 use blk_disk::BlockFiles;
 use blk_index::word;
@@ -83,6 +85,44 @@ pub fn count_less<F: Folder>(f: &mut F, files: &BlockFiles, charge: u64) -> Resu
     let size = counters.size.wrapping_sub(1);
     set_counters(f, files, entries, bytes, size)?;
     Ok(())
+}
+
+/// Counts the bytes of the items less by one number and more by another, as a word: one folder call reads it, and one
+/// writes it.
+pub fn count_rise<F: Folder>(
+    f: &mut F,
+    files: &BlockFiles,
+    less: u64,
+    more: u64,
+) -> Result<(), Fault>
+    requires is_open { ForSome (F.told f.old).files (IsOpen files.now) }
+    ensures counted { OnOk result (ForSome (F.told f.old).files (λ from. ForSome (F.told f.new).files (IsRiseCounted less more from))) }
+    ensures stops { ForSome (F.told f.old).files (λ from. Passes (F.told f.old) (F.told f.new) (KeepsWith [] [] from)) }
+    ensures is_open { ForSome (F.told f.new).files (IsOpen files.now) }
+    ensures untold { IfDamaged result (λ _. (F.told f.old).files ≡ None) }
+    ensures silent { (F.told f.old).files ≡ None → (F.told f.new).files ≡ None }
+    ensures later { F.faults f.old ≤ F.faults f.new }
+    ensures device { IfDevice result (Rises (F.faults f.old) (F.faults f.new)) }
+{
+    let bytes = word(f, IndexHead::NUM_BYTES)?;
+    let fewer = bytes.wrapping_sub((less % WORD_VALUES) as u32);
+    let risen = fewer.wrapping_add((more % WORD_VALUES) as u32);
+    set_bytes(f, files, risen)?;
+    Ok(())
+}
+
+// Writes the bytes that the index counts, by one folder call.
+fn set_bytes<F: Folder>(f: &mut F, files: &BlockFiles, bytes: u32) -> Result<(), Failed>
+    requires is_open { ForSome (F.told f.old).files (IsOpen files.now) }
+    ensures written { OnOk result (ForSome (F.told f.old).files (λ from. ForSome (F.told f.new).files (IsIndexWord 12 bytes from))) }
+    ensures stops { ForSome (F.told f.old).files (λ from. Passes (F.told f.old) (F.told f.new) (KeepsWith [] [] from)) }
+    ensures is_open { ForSome (F.told f.new).files (IsOpen files.now) }
+    ensures silent { (F.told f.old).files ≡ None → (F.told f.new).files ≡ None }
+    ensures later { F.faults f.old ≤ F.faults f.new }
+    ensures failed { OnErr result (Rises (F.faults f.old) (F.faults f.new)) }
+{
+    let _files = files;
+    write_words(f, FileId::Index, &[(IndexHead::NUM_BYTES, bytes)])
 }
 
 // Writes the counters of the index, by three folder calls.

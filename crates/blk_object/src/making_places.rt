@@ -174,7 +174,7 @@ fn take_file<F: Folder>(f: &mut F, files: &BlockFiles, size: u32) -> Result<Addr
 }
 
 // Looks whether the index has its length still: where the maps aren't right, an allocation doesn't promise it.
-fn check_index<F: Folder>(f: &mut F) -> Result<(), Fault>
+pub(crate) fn check_index<F: Folder>(f: &mut F) -> Result<(), Fault>
     ensures whole { OnOk result (ForSome (F.told f.old).files HasWholeIndex) }
     ensures stays { Stays (F.told f.old) (F.told f.new) }
     ensures untold { ForSome (F.told f.old).files HasWholeIndex → IfDamaged result (λ _. (F.told f.old).files ≡ None) }

@@ -1,0 +1,104 @@
+-- A stream of an open object is written: which objects can have it, and what is kept then.
+use Rattle.std.specs.Prelude.{◌≡◌, ℕ, ◌+◌, ◌<◌, ◌≤◌, ◌%◌, ◌^◌, List, length, Bool, true, false, Some, if◌then◌else◌}
+use Rattle.blk_image.specs.Image.{Image, Index, byte}
+use Rattle.blk_model.specs.Effects.{stream_after, stream_of, with_slot}
+use Rattle.blk_model.specs.Items.{Item, is_sparse, main}
+use Rattle.blk_model.specs.Room.{items}
+use Rattle.blk_model.specs.Sizes.{most_items}
+use Rattle.blk_model.specs.State.{Object, State, IsValidState, object_at}
+use Rattle.blk_format.specs.Address.{is_address}
+use Rattle.blk_format.specs.Headers.{num_bytes_of}
+use Rattle.blk_format.specs.Sealed.{RecordChecks}
+use Rattle.blk_laws.specs.IndexWrites.{IsIndexWord}
+use Rattle.blk_volume.specs.Entries.{stream}
+use Rattle.blk_volume.specs.Layout.{Layout, is_listed}
+use Rattle.blk_volume.specs.Loads.{Loaded}
+use Rattle.blk_entry.specs.Keys.{IsInFile}
+use Rattle.blk_stream.specs.Loading.{stored_streams_with}
+use Rattle.blk_stream.specs.Streams.{address_word, size_word}
+use Rattle.blk_kept.specs.Changes.{SameCounters, SameSession}
+use Rattle.blk_kept.specs.CommandEnds.{after_write}
+use Rattle.blk_kept.specs.Keeping.{CountsItems, Keeps, KeepsUncounted}
+use Rattle.blk_kept.specs.ListLaws.{with_used}
+use Rattle.blk_kept.specs.ObjectLaws.{layout_after}
+use Rattle.blk_object.specs.Counters.{charges}
+
+-- What can be written.
+
+-- the node of the object with a number
+abbrev pub node_of_object : Layout → ℕ → Object → ℕ
+node_of_object layout number object = if object.live then layout.place (main object.key) else layout.place_of_doomed number
+
+-- the state in which a stream of the object is written
+abbrev pub with_written : State → ℕ → Object → (at offset : ℕ) → Bool → List ℕ → State
+with_written state number object at offset cut bytes = with_slot number (Some (after_write object at offset cut bytes)) state
+
+-- a state is kept, in which an object that isn't settled lies at its node, with this record; it may have its stream written, and there is room for one more place
+pub record IsToBeWritten (state : State) (layout : Layout) (unlinked : List ℕ) (number : ℕ) (object : Object) (was : Loaded) (entry at offset : ℕ) (cut : Bool) (bytes : List ℕ) (image : Image) : Type 0 where
+  pub kept : KeepsUncounted state layout unlinked image
+  pub here : object_at state number ≡ Some object
+  pub unsettled : object.settled ≡ false
+  pub lies : layout.at (node_of_object layout number object) ≡ Some was
+  pub record_is : was.contents ≡ entry
+  pub first_if_sparse : is_sparse object.shape ≡ true → at ≡ 0
+  pub valid : IsValidState (with_written state number object at offset cut bytes)
+  pub few : items state ≤ most_items
+  pub room : length unlinked ≤ 2
+
+-- what holds of each such object
+abbrev pub ForEachUnsettled : (entry at offset : ℕ) (cut : Bool) (bytes : List ℕ) → Image → (State → Layout → List ℕ → ℕ → Object → Loaded → Type 0) → Type 0
+ForEachUnsettled entry at offset cut bytes from P =
+    (state : State) (layout : Layout) (unlinked : List ℕ) (number : ℕ) (object : Object) (was : Loaded) → IsToBeWritten state layout unlinked number object was entry at offset cut bytes from
+    → P state layout unlinked number object was
+
+-- a record checks, and a stream of it has no bytes, or an address at which they are
+pub record HasStreamThere (entry at : ℕ) (image : Image) : Type 0 where
+  pub checks : RecordChecks entry image
+  pub address : 0 < size_word image entry at → is_address (address_word image entry at) ≡ true
+  pub there : IsInFile (address_word image entry at) 0 (size_word image entry at) image
+
+-- What the items are charged.
+
+-- a state lists as many items as another one, and for a charge of the other's it has another one
+pub record IsRisen (state after : State) (layout now : Layout) (less more : ℕ) : Type 0 where
+  pub items : length after.uses ≡ length state.uses
+  pub bytes : charges after now + less ≡ charges state layout + more
+
+-- What is kept.
+
+-- what lies at the node afterwards: it has the same node, record, dirty word, key and role, and the streams after the write
+pub record IsLoadedAfter (was now : Loaded) (at offset : ℕ) (cut : Bool) (bytes : List ℕ) : Type 0 where
+  pub node : now.node ≡ was.node
+  pub contents : now.contents ≡ was.contents
+  pub dirty : now.dirty ≡ was.dirty
+  pub key : now.key ≡ was.key
+  pub role : now.role ≡ was.role
+  pub streams : now.streams ≡ stored_streams_with at (stream_after cut (stream at was.streams) offset bytes) was.streams
+
+-- the state with the stream written is kept but for the counters, which are as they were, and so is the session; a live object is charged for the length of its stream
+pub record IsWrittenUncounted (state : State) (layout : Layout) (unlinked : List ℕ) (number : ℕ) (object : Object) (was : Loaded) (at offset : ℕ) (cut : Bool) (bytes : List ℕ) (from image : Image) : Type 0 where
+  pub now : Loaded
+  pub after : IsLoadedAfter was now at offset cut bytes
+  pub kept : KeepsUncounted (with_written state number object at offset cut bytes) (layout_after layout (node_of_object layout number object) now) unlinked image
+  pub rise_of_live : object.live ≡ true → IsRisen state (with_written state number object at offset cut bytes) layout (layout_after layout (node_of_object layout number object) now) (length (stream_of object at)) (length (stream_of (after_write object at offset cut bytes) at))
+  pub rise_of_doomed : object.live ≡ false → IsRisen state (with_written state number object at offset cut bytes) layout (layout_after layout (node_of_object layout number object) now) 0 0
+  pub counters : SameCounters from image
+  pub session : SameSession from image
+
+-- How it is counted.
+
+-- the bytes that the index counts are less by one number and more by another, as a word
+pub record IsRiseCounted (less more : ℕ) (from image : Image) : Type 0 where
+  pub bytes : ℕ
+  pub small : bytes < 2 ^ 32
+  pub rise : (bytes + less) % 2 ^ 32 ≡ (num_bytes_of (byte from Index) + more) % 2 ^ 32
+  pub written : IsIndexWord 12 bytes from image
+
+-- where the counters counted the one, and the other differs in a charge and is kept but for them, it is kept and counted once the rise is
+abbrev pub RisesAreCounted : Type 0
+RisesAreCounted = (state after : State) (layout now : Layout) (unlinked : List ℕ) (less more : ℕ) (from image : Image) → CountsItems from state layout → IsRisen state after layout now less more → KeepsUncounted after now unlinked from
+    → IsRiseCounted less more from image → Keeps after now unlinked image
+
+-- a use of an item leaves the rise
+abbrev pub UsesLeaveTheRise : Type 0
+UsesLeaveTheRise = (state after : State) (layout now : Layout) (less more : ℕ) → (item : Item) → IsValidState after → is_listed after item ≡ true → IsRisen state after layout now less more → IsRisen state (with_used after item) layout now less more

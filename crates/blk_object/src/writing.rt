@@ -1,0 +1,122 @@
+// A stream of an open object is written.
+ghost use Rattle.std.specs.Prelude.{◌≡◌, ◌≤◌, ◌<◌, ◌+◌, IsTrue, None, OnOk, length};
+ghost use Rattle.std.specs.Option.{ForSome};
+ghost use Rattle.blk_image.specs.Told.{Passes, Rises, Stays};
+ghost use Rattle.blk_model.specs.Holding.{rest};
+ghost use Rattle.blk_format.specs.Address.{blocks_256, kind_of};
+ghost use Rattle.blk_volume.specs.Entries.{most_stream_bytes};
+ghost use Rattle.blk_io.specs.Faults.{IfDamaged, IfDevice};
+ghost use Rattle.blk_disk.specs.Open.{IsOpen};
+ghost use Rattle.blk_disk.specs.Tables.{Agrees, stands_among};
+ghost use Rattle.blk_entry.specs.Keys.{IsInFile};
+ghost use Rattle.blk_alloc.specs.Extending.{KeepsStanding};
+ghost use Rattle.blk_kept.specs.Changes.{Finds};
+ghost use Rattle.blk_stream.specs.Streams.{address_word, size_word};
+ghost use Rattle.blk_object.specs.Writing.{ForEachUnsettled, HasStreamThere, IsWrittenUncounted};
+
+use crate::freeing::is_external;
+use crate::making_places::check_index;
+use blk_addr::Addr;
+use blk_disk::{BlockFiles, file_of};
+use blk_entry::{read_head, record_damage};
+use blk_io::{Damage, Fault, Folder};
+use blk_record::{EntryView, WORD_VALUES};
+use blk_stream::write;
+
+/// Writes bytes over a stream of an object that isn't settled, live or doomed, from an offset on, with zeros before them
+/// where it ends there; it ends with them where it is cut, and else keeps what lies behind them.
+///
+/// Where the storage of the new length is that of the old one, they are written in its place, and then the record gets
+/// the length. Else a new place is filled, then the record gets its address and the length by one sealed update, and
+/// then the old place is freed. The counters of the index stay. Beside the calls of `write`, one reads the record, and
+/// two the lengths of files.
+///
+/// A damage is one of `write`, an external file that is shorter than its stream, or an index that hasn't its length.
+pub fn write_object<F: Folder>(
+    f: &mut F,
+    files: &mut BlockFiles,
+    entry: Addr,
+    stream: u8,
+    offset: u64,
+    cut: bool,
+    bytes: &[u8],
+) -> Result<(), Fault>
+    requires stream { stream < 3 }
+    requires kind { kind_of entry ≡ blocks_256 }
+    requires stands { IsTrue (stands_among files.old entry) }
+    requires most { offset + length bytes.now ≤ most_stream_bytes }
+    requires is_open { ForSome (F.told f.old).files (IsOpen files.old) }
+
+    // Each state that was kept, with such an object, is kept with its stream written in the end, but for the counters.
+    ensures written { OnOk result (ForSome (F.told f.old).files (λ from. ForEachUnsettled entry stream offset cut bytes.now from (λ state layout unlinked number object was. ForSome (F.told f.new).files (IsWrittenUncounted state layout unlinked number object was stream offset cut bytes.now from)))) }
+
+    // At each word what was at rest is found: an object that isn't settled isn't.
+    ensures stops { ForSome (F.told f.old).files (λ from. ForEachUnsettled entry stream offset cut bytes.now from (λ state layout unlinked number object was. Passes (F.told f.old) (F.told f.new) (Finds (rest state)))) }
+
+    // What stood still does.
+    ensures keeps { KeepsStanding files.old files.new }
+    ensures is_open { OnOk result (ForSome (F.told f.new).files (IsOpen files.new)) }
+
+    // A folder that tells its files, with such an object, gives no damage.
+    ensures untold { ForSome (F.told f.old).files (λ from. ForEachUnsettled entry stream offset cut bytes.now from (λ state layout unlinked number object was. IfDamaged result (λ _. (F.told f.old).files ≡ None))) }
+
+    ensures silent { (F.told f.old).files ≡ None → (F.told f.new).files ≡ None }
+    ensures later { F.faults f.old ≤ F.faults f.new }
+    ensures device { IfDevice result (Rises (F.faults f.old) (F.faults f.new)) }
+{
+    check_stream(f, files, entry, stream)?;
+    write(f, files, entry, stream, offset, cut, bytes)?;
+    check_index(f)
+}
+
+// Looks whether the bytes of a stream are in their file, where they lie in an external one.
+fn check_stream<F: Folder>(
+    f: &mut F,
+    files: &BlockFiles,
+    entry: Addr,
+    stream: u8,
+) -> Result<(), Fault>
+    requires stream { stream < 3 }
+    requires kind { kind_of entry ≡ blocks_256 }
+    requires stands { IsTrue (stands_among files.now entry) }
+    ensures there { OnOk result (ForSome (F.told f.old).files (λ image. IsInFile (address_word image entry stream) 0 (size_word image entry stream) image)) }
+    ensures stays { Stays (F.told f.old) (F.told f.new) }
+    ensures untold { ForSome (F.told f.old).files (Agrees files.now) → ForSome (F.told f.old).files (HasStreamThere entry stream) → IfDamaged result (λ _. (F.told f.old).files ≡ None) }
+    ensures later { F.faults f.old ≤ F.faults f.new }
+    ensures device { IfDevice result (Rises (F.faults f.old) (F.faults f.new)) }
+{
+    let head = read_head(f, files, entry)?;
+    let size = head.sizes[usize::from(stream)];
+    let word = head.addrs[usize::from(stream)];
+    if size == 0 {
+        return Ok(());
+    }
+    let Some(addr) = Addr::from_word(word) else {
+        let at = EntryView::DATA_ADDR + 4 * u32::from(stream);
+        return Err(record_damage(entry, at, word));
+    };
+    check_length(f, addr, size)
+}
+
+// Looks whether so many bytes are in an external file; of blocks nothing is asked.
+fn check_length<F: Folder>(f: &mut F, addr: Addr, size: u32) -> Result<(), Fault>
+    ensures there { OnOk result (ForSome (F.told f.old).files (IsInFile addr 0 size)) }
+    ensures stays { Stays (F.told f.old) (F.told f.new) }
+    ensures untold { ForSome (F.told f.old).files (IsInFile addr 0 size) → IfDamaged result (λ _. (F.told f.old).files ≡ None) }
+    ensures later { F.faults f.old ≤ F.faults f.new }
+    ensures device { IfDevice result (Rises (F.faults f.old) (F.faults f.new)) }
+{
+    if !is_external(addr) {
+        return Ok(());
+    }
+    let file = file_of(addr);
+    let length = f.length(file)?.unwrap_or(0);
+    if length < u64::from(size) {
+        return Err(Fault::Damaged(Damage {
+            file,
+            at: 0,
+            found: (length % WORD_VALUES) as u32,
+        }));
+    }
+    Ok(())
+}
