@@ -39,3 +39,4 @@ pub mod RisenCounters
 pub mod WritingPlaces
 pub mod WrittenWords
 pub mod WrittenStages
+pub mod StreamsThere
