@@ -38,4 +38,5 @@ pub mod WrittenCharges
 pub mod RisenCounters
 pub mod WritingPlaces
 pub mod WrittenWords
+pub mod WrittenStored
 pub mod WrittenStages
