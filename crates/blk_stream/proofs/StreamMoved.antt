@@ -387,11 +387,11 @@ module _ (files kept : BlockFiles) (entry i size : ℕ) (old : Stored) (kind : k
       word_now : (from : Image) → a.files ≡ Some from → addr ≡ address_word from entry i
       word_now from there = sym (ap (λ (o : Option ℕ). unwrap_or o 0) addr_is) ∙ sym (words from there).word_is
 
-      pub leave_stages : ForSome m.files (λ B. record_bytes ≡ record_at B entry → RecordChecks entry B → Passes m b (LeavesByStage entry i addr size w B)) → ForSome a.files (λ from. CanBeWritten files entry i size from → Passes a b (WritesByStage files kept entry i size offset bytes from))
+      pub leave_stages : ForSome m.files (λ B. record_bytes ≡ record_at B entry → RecordChecks entry B → addr ≢ 0 → Passes m b (LeavesByStage entry i addr size w B)) → ForSome a.files (λ from. CanBeWritten files entry i size from → Passes a b (WritesByStage files kept entry i size offset bytes from))
       leave_stages stages from there can =
           let mid = mid_here from there can in
           let word : (image : Image) → LeavesByStage entry i addr size w mid.image image → WritesByStage files kept entry i size offset bytes from image = λ image h. naming from there can image (subst (λ (v : ℕ). LeavesByStage entry i v size w mid.image image) (word_now from there) h) in
-          passes_then (filling from there can) (passes_weaker (stages mid.image mid.is (read_here from there can mid.image mid.holds) (checks_here from there can mid.image mid.holds)) word word)
+          passes_then (filling from there can) (passes_weaker (stages mid.image mid.is (read_here from there can mid.image mid.holds) (checks_here from there can mid.image mid.holds) (real addr addr_is)) word word)
 
       pub leave_staged : ForSome m.files (λ B. record_bytes ≡ record_at B entry → RecordChecks entry B → addr ≢ 0 → ForSome b.files (HasLeft entry i addr size w B)) → ForSome a.files (λ from. CanBeWritten files entry i size from → ForSome b.files (IsWrittenByStage files kept entry i size offset bytes from))
       leave_staged left from there can image now =

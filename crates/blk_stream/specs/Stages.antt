@@ -114,6 +114,7 @@ pub record NamesPlace (entry i size word : ℕ) (from image : Image) : Type 0 wh
 
 -- it got them, and then an old place is being freed
 pub record NamesAndFrees (entry i old size word : ℕ) (from image : Image) : Type 0 where
+  pub some : old ≢ 0
   pub named : Image
   pub names : NamesPlace entry i size word from named
   pub frees : FreesPlaceInProgress old named image
