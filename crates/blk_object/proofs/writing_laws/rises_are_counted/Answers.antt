@@ -1,4 +1,3 @@
-use Rattle.blk_object.proofs.WrittenStages.{naming-finds, named-kept}
 use Rattle.blk_object.proofs.RisenCounters.{rises-counted, uses-leave}
 use Rattle.blk_object.proofs.writing_laws.rises_are_counted.Goals as goal
 
