@@ -40,3 +40,4 @@ pub mod WritingPlaces
 pub mod WrittenWords
 pub mod WrittenStored
 pub mod WrittenStages
+pub mod StreamsThere
