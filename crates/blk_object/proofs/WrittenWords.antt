@@ -91,6 +91,9 @@ among-map f (m ∷ ns) n h = ⊎_elim
     (λ (e : (m == n) ≡ false). or_right (f m == f n) _ (among-map f ns n (rw e at h)))
     (cases_Bool (m == n))
 
+few-words : (i u : ℕ) → i ≤ 131072 → u ≤ 2 → 5 * i + u < 268435455
+few-words i u few room = omega (arith, few, room)
+
 -- the four address words of a record
 pub four-words : (image : Image) (w : ℕ) → (entry_at image w).data_addr ≡ address_word image w 0 ∷ address_word image w 1 ∷ address_word image w 2 ∷ address_word image w 3 ∷ []
 unfolding words_at entry_in
@@ -209,8 +212,8 @@ module _ (state : State) (layout : Layout) (unlinked : List ℕ) (from : Image) 
     apart = places-apart;
     owned = places-freed;
     room = λ other some. record {
-      counted = λ block. let is = (blocks_are size some block).1.1.1 in files-counted files from (kind_for size) agrees is (leave-room state layout unlinked from (kind_for size) 0 k is (omega (arith, few)) (omega (arith, room)));
-      free = λ _. kept-have-free state layout unlinked from k (omega (arith, few, room));
+      counted = λ block. let is : is_block_kind (kind_for size) ≡ true = (blocks_are size some block).1.1.1 in files-counted files (kind_for size) from agrees is (leave-room state layout unlinked from (kind_for size) 0 k is (omega (arith, few)) (omega (arith, room)));
+      free = λ _. kept-have-free state layout unlinked from k (few-words (items state) (length unlinked) few room);
     };
   }
 
