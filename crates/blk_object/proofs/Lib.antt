@@ -39,4 +39,6 @@ pub mod WrittenCharges
 pub mod RisenCounters
 pub mod WritingPlaces
 pub mod WrittenWords
+pub mod WrittenStored
 pub mod WrittenStages
+pub mod StreamsThere

@@ -1,12 +1,12 @@
 -- The places of a stream that is written: what a new one is to the state that was kept, while it is taken and filled, and an old one that is freed.
-use Rattle.std.proofs.Common.{◌≡◌, ◌≢◌, ◌⊎◌, inl, inr, ⊎_elim, ℕ, ◌+◌, ◌≤◌, ◌<◌, List, [], ◌∷◌, ◌++◌, Bool, true, false, if◌then◌else◌, Option, None, Some, refl, sym, ◌∙◌, ap, subst, arith}
+use Rattle.std.proofs.Common.{◌≡◌, ◌≢◌, ◌⊎◌, inl, inr, ⊎_elim, ℕ, ◌+◌, ◌≤◌, [], ◌∷◌, Bool, true, false, if◌then◌else◌, None, Some, refl, sym, ◌∙◌, ap, subst, arith}
 use Rattle.std.specs.Prelude.{◌==◌, is_some}
-use Rattle.std.proofs.lemmas.Bool.{cases_Bool, cases_eq, eqb-true, or_left}
+use Rattle.std.proofs.lemmas.Bool.{or_left}
 use Rattle.std.proofs.lemmas.Bool.Decides.{nat_tests}
-use Rattle.blk_image.specs.Footprint.{Footprint, SameOutside, one_word, range, whole}
+use Rattle.blk_image.specs.Footprint.{Footprint, SameOutside, range, whole}
 use Rattle.blk_image.specs.Image.{Block, External, Image, Index, byte, has_file, word}
 use Rattle.blk_image.proofs.Footprints.{same_word_outside}
-use Rattle.blk_format.specs.Address.{byte_size, external, external_number, file_selector, is_address, is_block_kind, kind_of, place}
+use Rattle.blk_format.specs.Address.{byte_size, external, external_number, file_selector, is_block_kind, kind_of, place}
 use Rattle.blk_format.specs.BlockFiles.{IsWellFormed, stands_in, stands_in_blocks}
 use Rattle.blk_format.specs.Claims.{Claim, claims_of, claims_of_all, has_claim}
 use Rattle.blk_format.specs.Headers.{crash_of, num_bytes_of, num_entries_of, sizes_of, this_id_of}
@@ -17,14 +17,11 @@ use Rattle.blk_disk.proofs.Ranges.{stands_agree}
 use Rattle.blk_alloc.specs.Allocating.{AllocatesIn}
 use Rattle.blk_alloc.specs.Changes.{map_of}
 use Rattle.blk_external.specs.Making.{touched_by_making}
-use Rattle.blk_laws.proofs.claims.ByteChanges.{stands-some}
 use Rattle.blk_laws.proofs.claims.ClaimLists.{claim-append}
 use Rattle.blk_stream.specs.Inside.{data_of}
-use Rattle.blk_stream.specs.Stages.{DeletesFile, FillsTaken, FreesBlocks, TakesBlocks, TakesFile, TakesInProgress, TakesPlace}
+use Rattle.blk_stream.specs.Stages.{TakesBlocks, TakesFile, TakesInProgress, TakesPlace}
 use Rattle.blk_stream.proofs.InsideSteps.{data_blocks, data_external}
 use Rattle.blk_stream.proofs.Naming.{apart_place}
-use Rattle.blk_stream.proofs.PlacesFreed.{blocky_of}
-use Rattle.blk_kept.specs.AllocationLaws.{AreFreed}
 use Rattle.blk_kept.specs.Changes.{AddsAllocation, AddsExternal, KeepsWith, SameCounters, SameSession, StillFinds}
 use Rattle.blk_kept.proofs.Allocating.{allocated-unlinked}
 use Rattle.blk_kept.proofs.Externals.{deleted-removed, deleting-finds, made-added, making-finds}
@@ -34,7 +31,7 @@ use Rattle.blk_kept.proofs.MakingFiles.{made-unlinked}
 use Rattle.blk_kept.proofs.Writes.{block-writes, external-writes, growth-finds}
 use Rattle.blk_kept_calls.proofs.Allocating.{allocations-add}
 use Rattle.blk_kept_calls.proofs.Freeing.{map-only}
-use Rattle.blk_object.specs.Making.{Takes, long_word}
+use Rattle.blk_object.specs.Making.{Takes}
 use Rattle.blk_object.specs.WritingPlaces.{FilledPlacesAreUnlinked, FillingFindsTheSame, FreedPlacesAreRemoved}
 use Rattle.blk_object.proofs.GoingNext.{then-counters}
 use Rattle.blk_object.proofs.MakingTaken.{its-own, session-then}

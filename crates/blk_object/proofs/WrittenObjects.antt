@@ -129,10 +129,10 @@ module _ (state : State) (layout : Layout) (unlinked : List ℕ) (from : Image) 
         let same : d.loaded ≡ was = some_inj (sym d.here ∙ at) in
         record { row = ap row_of_loaded (sym same) ∙ d.row; mark = ap (λ (l : Loaded). l.dirty == 0) (sym same) ∙ d.mark }
 
-  node-live : object.live ≡ true → node ≡ layout.place (main object.key)
+  pub node-live : object.live ≡ true → node ≡ layout.place (main object.key)
   node-live live = rw live refl
 
-  node-dead : object.live ≡ false → node ≡ layout.place_of_doomed number
+  pub node-dead : object.live ≡ false → node ≡ layout.place_of_doomed number
   node-dead dead = rw dead refl
 
   -- ---- its words
@@ -257,7 +257,7 @@ module _ (state : State) (layout : Layout) (unlinked : List ℕ) (from : Image) 
         (λ (h : has_claim (claims_of was.contents) c ≡ false). other (let t : (has_claim (claims_of was.contents) c || has_claim (claims_of w) c) ≡ true = sym (claim-append (claims_of was.contents) (claims_of w) c) ∙ e in rw h at t))
         (cases_Bool (has_claim (claims_of was.contents) c))
 
-    untouched : (c : Claim) → (has_claim (claims_of was.contents) c ≡ true → ⊥) → (has_claim (claims_of w) c ≡ true → ⊥) → touched c ≡ false
+    pub untouched : (c : Claim) → (has_claim (claims_of was.contents) c ≡ true → ⊥) → (has_claim (claims_of w) c ≡ true → ⊥) → touched c ≡ false
     untouched c one other = ⊎_elim (λ (h : touched c ≡ true). absurd (either-of c h one other)) (λ (h : touched c ≡ false). h) (cases_Bool (touched c))
 
     pub free : IsFreeBut node touched layout
@@ -269,7 +269,7 @@ module _ (state : State) (layout : Layout) (unlinked : List ℕ) (from : Image) 
     clear-other : (m : ℕ) → m ≢ suc i → IsClear touched (slice_index was.others m)
     clear-other m apart c its = untouched c (λ h. record-apart m c h its) (λ h. both-claimed was.others m (suc i) c apart others-once its (w-among c h))
 
-    views : SameBut touched (view_of from) (view_of image)
+    pub views : SameBut touched (view_of from) (view_of image)
     views = agreeing-views touched from image only.agree
 
     pub links : SameNodeLinks node (list_of from) (list_of image)

@@ -113,7 +113,7 @@ module _ (entry i : ℕ) (kind : kind_of entry ≡ blocks_256) (few : i < 3) (fr
   size-still j less other = size_at image entry j less ∙ word-still (size_place j) (apart j less other) ∙ sym (size_at from entry j less)
     where
       apart : (j : ℕ) → j < 3 → j ≢ i → IsOff i (size_place j)
-      apart j less other = (sides (cases_lt j i) , (inl (omega (arith, less)), omega (arith, less)))
+      apart j less other = (sides (cases_lt j i), (inl (omega (arith, less)), omega (arith, less)))
         where
           sides : (j < i) ⊎ (i ≤ j) → (size_place j + 4 ≤ size_place i) ⊎ (size_place i + 4 ≤ size_place j)
           sides (inl h) = inl (omega (arith, h))
@@ -130,9 +130,10 @@ module _ (entry i : ℕ) (kind : kind_of entry ≡ blocks_256) (few : i < 3) (fr
           sides (inr h) = inr (omega (arith, h, other))
 
   pub fourth-still : (size_word image entry 3 ≡ size_word from entry 3) × (address_word image entry 3 ≡ address_word from entry 3)
-  fourth-still =
-      (fourth_size image entry ∙ word-still 52 (inr (omega (arith, few)), (inl (omega arith), omega arith)) ∙ sym (fourth_size from entry),
-      fourth_word image entry ∙ word-still 68 (inr (omega (arith, few)), (inr (omega (arith, few)), omega arith)) ∙ sym (fourth_word from entry))
+  fourth-still = (
+    fourth_size image entry ∙ word-still 52 (inr (omega (arith, few)), (inl (omega arith), omega arith)) ∙ sym (fourth_size from entry),
+    fourth_word image entry ∙ word-still 68 (inr (omega (arith, few)), (inr (omega (arith, few)), omega arith)) ∙ sym (fourth_word from entry),
+  )
 
   -- its key, where that lies in it
   pub key-still : (e : RecordFields) → is_key_length entry e ≡ true → nat_le e.key_len 927 ≡ true → key_place_at image entry e.key_len ≡ key_place_at from entry e.key_len

@@ -12,9 +12,6 @@ use Rattle.blk_volume.specs.Found.{row_with}
 use Rattle.blk_volume.specs.View.{RecordFields}
 use Rattle.blk_stream.specs.Loading.{stored_streams_with}
 
-
-
-
 -- ---- what its row says
 
 abbrev key-in : Row → List ℕ

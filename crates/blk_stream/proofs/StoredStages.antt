@@ -2,7 +2,7 @@
 use Rattle.std.proofs.Common.{◌≡◌, ◌≢◌, inl, inr, ℕ, ◌<◌, true, Bool, List, length, Option, Some, refl, sym, ◌∙◌, ap, subst, arith}
 use Rattle.std.specs.Prelude.{unwrap_or}
 use Rattle.std.specs.Option.{ForSome}
-use Rattle.blk_image.specs.Image.{External, Image}
+use Rattle.blk_image.specs.Image.{AreBytes, External, Image}
 use Rattle.blk_image.specs.Footprint.{Footprint, IsWithin, SameOutside, either}
 use Rattle.blk_image.specs.Told.{Passes, Told}
 use Rattle.blk_image.proofs.Footprints.{outside-refl, outside_wider, within_both, within_left, within_right}
@@ -23,6 +23,7 @@ use Rattle.blk_stream.specs.Writing.{have_one_storage, size_after}
 use Rattle.blk_stream.specs.Written.{CanBeWritten}
 use Rattle.blk_stream.proofs.Placements.{place_some}
 use Rattle.blk_stream.proofs.PlaceStages.{still_whole}
+use Rattle.blk_stream.proofs.RecordSeals.{shown_same, small_record}
 use Rattle.blk_stream.proofs.StreamInside.{inside_apart, long_here, size_within}
 use Rattle.blk_stream.proofs.StreamMoved.{long_there}
 use Rattle.blk_stream.proofs.StreamPlaces.{none_word}
@@ -32,8 +33,8 @@ pub begun_stages : (files kept : BlockFiles) (entry i size offset : ℕ) (bytes 
 begun_stages files kept entry i size offset bytes from = inr (inl (inl (inl (still_whole from))))
 
 -- a stream without bytes that gets none
-pub nothing_in_place : (entry i size : ℕ) (from : Image) → have_one_storage (size_word from entry i) size ≡ true → RecordChecks entry from → WritesInPlace entry i size from from
-nothing_in_place entry i size from one checks = record { one = one; same = outside-refl (either (stream_words entry i) (data_at_place (address_word from entry i))) from; checks = checks; files = λ file. refl }
+pub nothing_in_place : (entry i size : ℕ) (from : Image) → kind_of entry ≡ blocks_256 → AreBytes from → have_one_storage (size_word from entry i) size ≡ true → RecordChecks entry from → WritesInPlace entry i size from from
+nothing_in_place entry i size from kind bytes one checks = record { one = one; same = outside-refl (either (stream_words entry i) (data_at_place (address_word from entry i))) from; checks = checks; shown = shown_same from from entry kind (small_record from entry bytes) refl checks; files = λ file. refl }
 
 -- what is written inside a place is within it and the words of the record
 place_within : (entry i w : ℕ) → w ≢ 0 → IsWithin (either (data_of w) (size_words entry i)) (either (stream_words entry i) (data_at_place w))
@@ -67,6 +68,7 @@ module _ (files : BlockFiles) (entry i size addr : ℕ) (old : Stored) (offset :
     same = subst (λ (v : ℕ). SameOutside (either (stream_words entry i) (data_at_place v)) from image) (sym (word_is from there))
         (outside_wider (either (data_of addr) (size_words entry i)) (either (stream_words entry i) (data_at_place addr)) from image (place_within entry i addr some) h.writes.same);
     checks = h.writes.checks;
+    shown = h.shown;
     files = h.files;
   }
 

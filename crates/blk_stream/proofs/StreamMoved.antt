@@ -37,7 +37,7 @@ use Rattle.blk_stream.specs.Changing.{HasWords, NamesInProgress, stream_words}
 use Rattle.blk_stream.specs.Freeing.{MayBeFreed, leaving_of}
 use Rattle.blk_stream.specs.Moving.{CanBeFilled, FillsInProgress, HasPlaceLength, IsPlaceFilled, LeavesPlace, LeavesPlaceInProgress, data_at_place}
 use Rattle.blk_stream.specs.Placing.{GainsPlace, IsNewPlace, gained_by}
-use Rattle.blk_stream.specs.Stages.{FillsByStage, HasLeft, IsFilled, IsWrittenByStage, LeavesByStage, WritesByStage}
+use Rattle.blk_stream.specs.Stages.{FillsByStage, HasLeft, IsFilled, IsWrittenByStage, LeavesByStage, NamesShown, WritesByStage}
 use Rattle.blk_stream.specs.Writing.{have_one_storage, size_after}
 use Rattle.blk_stream.specs.Written.{CanBeWritten, HoldsStream, StreamIsWritten, WritesStream, places_of_entry}
 use Rattle.blk_stream.proofs.Apart.{new_apart, new_blocks_apart}
@@ -387,11 +387,11 @@ module _ (files kept : BlockFiles) (entry i size : ℕ) (old : Stored) (kind : k
       word_now : (from : Image) → a.files ≡ Some from → addr ≡ address_word from entry i
       word_now from there = sym (ap (λ (o : Option ℕ). unwrap_or o 0) addr_is) ∙ sym (words from there).word_is
 
-      pub leave_stages : ForSome m.files (λ B. record_bytes ≡ record_at B entry → RecordChecks entry B → Passes m b (LeavesByStage entry i addr size w B)) → ForSome a.files (λ from. CanBeWritten files entry i size from → Passes a b (WritesByStage files kept entry i size offset bytes from))
+      pub leave_stages : ForSome m.files (λ B. record_bytes ≡ record_at B entry → RecordChecks entry B → addr ≢ 0 → Passes m b (LeavesByStage entry i addr size w B)) → ForSome a.files (λ from. CanBeWritten files entry i size from → Passes a b (WritesByStage files kept entry i size offset bytes from))
       leave_stages stages from there can =
           let mid = mid_here from there can in
           let word : (image : Image) → LeavesByStage entry i addr size w mid.image image → WritesByStage files kept entry i size offset bytes from image = λ image h. naming from there can image (subst (λ (v : ℕ). LeavesByStage entry i v size w mid.image image) (word_now from there) h) in
-          passes_then (filling from there can) (passes_weaker (stages mid.image mid.is (read_here from there can mid.image mid.holds) (checks_here from there can mid.image mid.holds)) word word)
+          passes_then (filling from there can) (passes_weaker (stages mid.image mid.is (read_here from there can mid.image mid.holds) (checks_here from there can mid.image mid.holds) (real addr addr_is)) word word)
 
       pub leave_staged : ForSome m.files (λ B. record_bytes ≡ record_at B entry → RecordChecks entry B → addr ≢ 0 → ForSome b.files (HasLeft entry i addr size w B)) → ForSome a.files (λ from. CanBeWritten files entry i size from → ForSome b.files (IsWrittenByStage files kept entry i size offset bytes from))
       leave_staged left from there can image now =
@@ -400,10 +400,10 @@ module _ (files kept : BlockFiles) (entry i size : ℕ) (old : Stored) (kind : k
 
     -- there was none
     module _ (none : old.addr ≡ None) where
-      pub name_stages : ForSome m.files (λ B. record_bytes ≡ record_at B entry → RecordChecks entry B → Passes m b (NamesInProgress entry i B)) → ForSome a.files (λ from. CanBeWritten files entry i size from → Passes a b (WritesByStage files kept entry i size offset bytes from))
+      pub name_stages : ForSome m.files (λ B. record_bytes ≡ record_at B entry → RecordChecks entry B → Passes m b (NamesShown entry i B)) → ForSome a.files (λ from. CanBeWritten files entry i size from → Passes a b (WritesByStage files kept entry i size offset bytes from))
       name_stages stops from there can =
           let mid = mid_here from there can in
-          let word : (image : Image) → NamesInProgress entry i mid.image image → WritesByStage files kept entry i size offset bytes from image = λ image h. naming from there can image (inl h) in
+          let word : (image : Image) → NamesShown entry i mid.image image → WritesByStage files kept entry i size offset bytes from image = λ image h. naming from there can image (inl h) in
           passes_then (filling from there can) (passes_weaker (stops mid.image mid.is (read_here from there can mid.image mid.holds) (checks_here from there can mid.image mid.holds)) word word)
 
       pub name_staged : ForSome m.files (λ B. record_bytes ≡ record_at B entry → RecordChecks entry B → Passes m b (NamesInProgress entry i B)) → ForSome m.files (λ B. record_bytes ≡ record_at B entry → ForSome b.files (HasWords entry i size w)) → ForSome m.files (λ B. record_bytes ≡ record_at B entry → ForSome b.files (λ image. entry_is_sealed (entry_at image entry) ≡ true))

@@ -4,7 +4,7 @@ use Rattle.blk_image.specs.Image.{External, File, Image, has_file}
 use Rattle.blk_image.specs.Footprint.{SameOutside, either, whole}
 use Rattle.blk_format.specs.Address.{external, external_number, file_selector, is_address, is_block_kind, kind_of}
 use Rattle.blk_format.specs.Growth.{StaysWhole}
-use Rattle.blk_format.specs.Records.{entry_is_sealed}
+use Rattle.blk_format.specs.Records.{entry_checks, entry_is_sealed}
 use Rattle.blk_format.specs.Sealed.{RecordChecks}
 use Rattle.blk_model.specs.Effects.{stream_after}
 use Rattle.blk_volume.specs.View.{entry_at}
@@ -97,6 +97,11 @@ FreesPlace w from image = FreesBlocks w from image ⊎ DeletesFile w from image
 
 -- The record.
 
+-- while a record gets other words of a stream, nothing else differs, and it is shown to check
+pub record NamesShown (entry i : ℕ) (from image : Image) : Type 0 where
+  pub names : NamesInProgress entry i from image
+  pub shown : entry_checks (entry_at image entry) ≡ true
+
 -- a record that was sealed is
 abbrev pub KeepsSeal : ℕ → Image → Image → Type 0
 KeepsSeal entry from image = entry_is_sealed (entry_at from entry) ≡ true → entry_is_sealed (entry_at image entry) ≡ true
@@ -109,13 +114,14 @@ pub record NamesPlace (entry i size word : ℕ) (from image : Image) : Type 0 wh
 
 -- it got them, and then an old place is being freed
 pub record NamesAndFrees (entry i old size word : ℕ) (from image : Image) : Type 0 where
+  pub some : old ≢ 0
   pub named : Image
   pub names : NamesPlace entry i size word from named
   pub frees : FreesPlaceInProgress old named image
 
 -- it is getting them, or an old place is being freed then
 abbrev pub LeavesByStage : (entry i old size word : ℕ) → Image → Image → Type 0
-LeavesByStage entry i old size word from image = NamesInProgress entry i from image ⊎ NamesAndFrees entry i old size word from image
+LeavesByStage entry i old size word from image = NamesShown entry i from image ⊎ NamesAndFrees entry i old size word from image
 
 -- an old place is freed, where there is one
 abbrev pub FreesOld : ℕ → Image → Image → Type 0
@@ -129,16 +135,18 @@ pub record HasLeft (entry i old size word : ℕ) (from image : Image) : Type 0 w
 
 -- A stream is written.
 
--- while it is written inside a place, nothing but its data and its size has changed, the record checks, and the same files are there
+-- while it is written inside a place, nothing but its data and its size has changed, the record checks and is shown to, and the same files are there
 pub record WritesKeepingFiles (entry i w : ℕ) (from image : Image) : Type 0 where
   pub writes : WritesInProgress entry i w from image
+  pub shown : entry_checks (entry_at image entry) ≡ true
   pub files : (file : File) → has_file image file ≡ has_file from file
 
--- a stream whose storage stays is written where it lies: nothing but its data and its words has changed, the record checks, and the same files are there
+-- a stream whose storage stays is written where it lies: nothing but its data and its words has changed, the record checks and is shown to, and the same files are there
 pub record WritesInPlace (entry i size : ℕ) (from image : Image) : Type 0 where
   pub one : have_one_storage (size_word from entry i) size ≡ true
   pub same : SameOutside (either (stream_words entry i) (data_at_place (address_word from entry i))) from image
   pub checks : RecordChecks entry image
+  pub shown : entry_checks (entry_at image entry) ≡ true
   pub files : (file : File) → has_file image file ≡ has_file from file
 
 -- a new place is filled with the stream after the write, whether or not it is cut, and then the record names it, or it is named and the old one is being freed

@@ -8,6 +8,7 @@ ghost use Rattle.blk_format.specs.Sealed.{RecordChecks, record_at};
 ghost use Rattle.blk_volume.specs.View.{entry_at};
 ghost use Rattle.blk_disk.specs.Tables.{Agrees, stands_among};
 ghost use Rattle.blk_stream.specs.Changing.{HasWords, NamesInProgress};
+ghost use Rattle.blk_stream.specs.Stages.{NamesShown};
 
 use crate::places::{addr_at, size_at};
 use blk_addr::Addr;
@@ -34,6 +35,7 @@ pub(crate) fn name_place<F: Folder>(
     ensures sealed { OnOk result (ForSome (F.told f.old).files (λ from. bytes.old ≡ record_at from entry → ForSome (F.told f.new).files (λ image. entry_is_sealed (entry_at image entry) ≡ true))) }
     ensures long { length bytes.new ≡ entry_size }
     ensures stops { ForSome (F.told f.old).files (λ from. bytes.old ≡ record_at from entry → RecordChecks entry from → Passes (F.told f.old) (F.told f.new) (NamesInProgress entry stream from)) }
+    ensures stages { ForSome (F.told f.old).files (λ from. bytes.old ≡ record_at from entry → RecordChecks entry from → Passes (F.told f.old) (F.told f.new) (NamesShown entry stream from)) }
     ensures agrees { ForSome (F.told f.new).files (Agrees files.now) }
     ensures silent { (F.told f.old).files ≡ None → (F.told f.new).files ≡ None }
     ensures later { F.faults f.old ≤ F.faults f.new }

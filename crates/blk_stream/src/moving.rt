@@ -53,7 +53,7 @@ pub(crate) fn leave_place<F: Folder>(
     ensures long { length bytes.new ≡ entry_size }
     ensures staged { OnOk result (ForSome (F.told f.old).files (λ from. bytes.old ≡ record_at from entry → RecordChecks entry from → old ≢ 0 → ForSome (F.told f.new).files (HasLeft entry stream old size word from))) }
     ensures stops { ForSome (F.told f.old).files (λ from. bytes.old ≡ record_at from entry → RecordChecks entry from → Passes (F.told f.old) (F.told f.new) (LeavesPlaceInProgress entry stream old size word from)) }
-    ensures stages { ForSome (F.told f.old).files (λ from. bytes.old ≡ record_at from entry → RecordChecks entry from → Passes (F.told f.old) (F.told f.new) (LeavesByStage entry stream old size word from)) }
+    ensures stages { ForSome (F.told f.old).files (λ from. bytes.old ≡ record_at from entry → RecordChecks entry from → old ≢ 0 → Passes (F.told f.old) (F.told f.new) (LeavesByStage entry stream old size word from)) }
     ensures agrees { ForSome (F.told f.new).files (Agrees files.now) }
     ensures cause { IfDamaged result (λ damage. (kind_of old ≢ external) × IsCause (F.told f.new) (file_selector old) (first_block old) (block_count old) false damage) }
     ensures untold { ForSome (F.told f.old).files (λ from. bytes.old ≡ record_at from entry × RecordChecks entry from × MayBeFreed old from) → IfDamaged result (λ _. (F.told f.old).files ≡ None) }

@@ -47,13 +47,13 @@ pub returns-in_err-write_here-clause-stages : goal.returns-in_err-write_here-cla
 returns-in_err-write_here-clause-stages g c from there read checks apart file =
     passes_part (WritesKeepingFiles c.args.entry c.args.stream c.args.addr from) (WritesKeepingFiles c.args.entry c.args.stream c.args.addr from) c.in_err-write_here.ensures.prefix (quiet_here c.args.addr c.args.old c.args.size c.args.offset c.args.bytes.now) (λ image h. h)
     (λ image now. subst (λ (i : Image). Along (WritesKeepingFiles c.args.entry c.args.stream c.args.addr from) i (here_steps c.args.addr c.args.old c.args.size c.args.offset c.args.bytes.now)) (some_inj (sym there ∙ now))
-    (here_stages c.args.files.now c.args.entry c.args.stream c.args.addr c.args.old c.args.size c.args.offset c.args.bytes.now c.requires.kind c.requires.stands c.requires.stream c.requires.inside c.requires.few apart from (c.requires.agrees from there) checks file))
+    (here_stages c.args.files.now c.args.entry c.args.stream c.args.addr c.args.old c.args.size c.args.offset c.args.bytes.now c.requires.kind c.requires.stands c.requires.stream c.requires.inside c.requires.few apart from (c.requires.agrees from there) (g.met.F.Folder.are_bytes c.args.f.now from there) checks file))
 
 pub returns-clause-stages : goal.returns-clause-stages
 returns-clause-stages g c from there read checks apart file =
     passes_part (WritesKeepingFiles c.args.entry c.args.stream c.args.addr from) (WritesKeepingFiles c.args.entry c.args.stream c.args.addr from) (part g c) (quiet_inside c.args.record_bytes.now c.args.entry c.args.stream c.args.addr c.args.old c.args.size c.args.offset c.args.bytes.now) (λ image h. h)
     (λ image now. subst (λ (i : Image). Along (WritesKeepingFiles c.args.entry c.args.stream c.args.addr from) i (inside_steps c.args.record_bytes.now c.args.entry c.args.stream c.args.addr c.args.old c.args.size c.args.offset c.args.bytes.now)) (some_inj (sym there ∙ now))
-    (inside_stages c.args.files.now c.args.entry c.args.stream c.args.addr c.args.old c.args.size c.args.offset c.args.bytes.now c.requires.kind c.requires.stands c.requires.stream c.requires.inside c.requires.few apart from (c.requires.agrees from there) checks file c.args.record_bytes.now read))
+    (inside_stages c.args.files.now c.args.entry c.args.stream c.args.addr c.args.old c.args.size c.args.offset c.args.bytes.now c.requires.kind c.requires.stands c.requires.stream c.requires.inside c.requires.few apart from (c.requires.agrees from there) (g.met.F.Folder.are_bytes c.args.f.now from there) checks file c.args.record_bytes.now read))
 
 pub returns-clause-sealed : goal.returns-clause-sealed
 returns-clause-sealed g c =

@@ -62,14 +62,14 @@ returns-clause-untold g c can =
     (passes_end (c.in_ok-name_place.ensures.stops from there (can from there).0 (can from there).1) mid now).same c.requires.old (can from there).2)))
 
 pub returns-in_err-name_place-clause-stages : goal.returns-in_err-name_place-clause-stages
-returns-in_err-name_place-clause-stages g c from there read good = passes_weaker (c.in_err-name_place.ensures.stops from there read good) (λ image h. inl h) (λ image h. inl h)
+returns-in_err-name_place-clause-stages g c from there read good some = passes_weaker (c.in_err-name_place.ensures.stages from there read good) (λ image h. inl h) (λ image h. inl h)
 
 pub returns-clause-stages : goal.returns-clause-stages
-returns-clause-stages g c from there read good =
+returns-clause-stages g c from there read good some =
     let mid = told_then (g.F.Folder.told c.args.f.now) (g.F.Folder.told c.name_place.new.f) from (NamesInProgress c.args.entry c.args.stream from) there (c.in_ok-name_place.ensures.stops from there read good) in
     let names : NamesPlace c.args.entry c.args.stream c.args.size c.args.word from mid.image = record { names = mid.holds; words = c.in_ok-name_place.ensures.named from there read mid.image mid.is; sealed = c.in_ok-name_place.ensures.sealed from there read mid.image mid.is } in
-    passes_then (passes_weaker (c.in_ok-name_place.ensures.stops from there read good) (λ image h. inl h) (λ image h. inl h))
-    (passes_weaker (c.free_place.ensures.stages mid.image mid.is) (λ image h. inr (record { named = mid.image; names = names; frees = h })) (λ image h. inr (record { named = mid.image; names = names; frees = h })))
+    passes_then (passes_weaker (c.in_ok-name_place.ensures.stages from there read good) (λ image h. inl h) (λ image h. inl h))
+    (passes_weaker (c.free_place.ensures.stages mid.image mid.is) (λ image h. inr (record { some = some; named = mid.image; names = names; frees = h })) (λ image h. inr (record { some = some; named = mid.image; names = names; frees = h })))
 
 pub returns-clause-staged : goal.returns-clause-staged
 returns-clause-staged g c =

@@ -53,10 +53,10 @@ pub returns-in-Some-clause-staged : goal.returns-in-Some-clause-staged
 returns-in-Some-clause-staged g c = on_ok_weaker c.leave_place.result (λ left from there stored. leave_staged c.args.files.now c.filled_place.new.files c.args.entry c.args.stream c.args.size c.args.old c.requires.kind c.requires.stands c.requires.stream c.filled_place.ensures.keeps c.requires.old c.requires.some c.requires.other c.word_of-word.result c.args.offset c.args.bytes.now c.args.record_bytes.now (subst (λ (v : ℕ). may_keep c.filled_place.new.files c.args.size v ≡ true) (sym c.word_of-word.ensures) c.in_ok-new.ensures.fits) (g.F.Folder.told c.args.f.now) (g.F.Folder.told c.filled_place.new.f) (g.F.Folder.told c.leave_place.new.f) c.requires.agrees (told_is (HasWords c.args.entry c.args.stream c.args.old.size (unwrap_or c.args.old.addr 0)) from there stored.words) (told_is (λ image. c.args.record_bytes.now ≡ record_at image c.args.entry) from there stored.read) c.in_ok-new.ensures.stops (λ from there can image now. subst (λ (v : ℕ). IsPlaceFilled c.args.files.now c.args.old v c.args.size c.args.offset c.args.bytes.now from image) (sym c.word_of-word.ensures) (c.in_ok-new.ensures.filled from there can image now)) c.in_ok-new.new c.word_of-word.ensures c.in_ok-new.ensures.stages c.in_ok-new.ensures.staged c.in-Some.addr c.in-Some.is left from there) c.leave_place.ensures.staged
 
 pub returns-in_err-name_place-in-None-clause-stages : goal.returns-in_err-name_place-in-None-clause-stages
-returns-in_err-name_place-in-None-clause-stages g c from there stored = name_stages c.args.files.now c.filled_place.new.files c.args.entry c.args.stream c.args.size c.args.old c.requires.kind c.requires.stands c.requires.stream c.filled_place.ensures.keeps c.requires.old c.requires.some c.requires.other c.word_of-word.result c.args.offset c.args.bytes.now c.args.record_bytes.now (subst (λ (v : ℕ). may_keep c.filled_place.new.files c.args.size v ≡ true) (sym c.word_of-word.ensures) c.in_ok-new.ensures.fits) (g.F.Folder.told c.args.f.now) (g.F.Folder.told c.filled_place.new.f) (g.F.Folder.told c.name_place.new.f) c.requires.agrees (told_is (HasWords c.args.entry c.args.stream c.args.old.size (unwrap_or c.args.old.addr 0)) from there stored.words) (told_is (λ image. c.args.record_bytes.now ≡ record_at image c.args.entry) from there stored.read) c.in_ok-new.ensures.stops (λ from there can image now. subst (λ (v : ℕ). IsPlaceFilled c.args.files.now c.args.old v c.args.size c.args.offset c.args.bytes.now from image) (sym c.word_of-word.ensures) (c.in_ok-new.ensures.filled from there can image now)) c.in_ok-new.new c.word_of-word.ensures c.in_ok-new.ensures.stages c.in_ok-new.ensures.staged c.in-None.is c.in_err-name_place-in-None.ensures.stops from there
+returns-in_err-name_place-in-None-clause-stages g c from there stored = name_stages c.args.files.now c.filled_place.new.files c.args.entry c.args.stream c.args.size c.args.old c.requires.kind c.requires.stands c.requires.stream c.filled_place.ensures.keeps c.requires.old c.requires.some c.requires.other c.word_of-word.result c.args.offset c.args.bytes.now c.args.record_bytes.now (subst (λ (v : ℕ). may_keep c.filled_place.new.files c.args.size v ≡ true) (sym c.word_of-word.ensures) c.in_ok-new.ensures.fits) (g.F.Folder.told c.args.f.now) (g.F.Folder.told c.filled_place.new.f) (g.F.Folder.told c.name_place.new.f) c.requires.agrees (told_is (HasWords c.args.entry c.args.stream c.args.old.size (unwrap_or c.args.old.addr 0)) from there stored.words) (told_is (λ image. c.args.record_bytes.now ≡ record_at image c.args.entry) from there stored.read) c.in_ok-new.ensures.stops (λ from there can image now. subst (λ (v : ℕ). IsPlaceFilled c.args.files.now c.args.old v c.args.size c.args.offset c.args.bytes.now from image) (sym c.word_of-word.ensures) (c.in_ok-new.ensures.filled from there can image now)) c.in_ok-new.new c.word_of-word.ensures c.in_ok-new.ensures.stages c.in_ok-new.ensures.staged c.in-None.is c.in_err-name_place-in-None.ensures.stages from there
 
 pub returns-in_ok-name_place-in-None-clause-stages : goal.returns-in_ok-name_place-in-None-clause-stages
-returns-in_ok-name_place-in-None-clause-stages g c from there stored = name_stages c.args.files.now c.filled_place.new.files c.args.entry c.args.stream c.args.size c.args.old c.requires.kind c.requires.stands c.requires.stream c.filled_place.ensures.keeps c.requires.old c.requires.some c.requires.other c.word_of-word.result c.args.offset c.args.bytes.now c.args.record_bytes.now (subst (λ (v : ℕ). may_keep c.filled_place.new.files c.args.size v ≡ true) (sym c.word_of-word.ensures) c.in_ok-new.ensures.fits) (g.F.Folder.told c.args.f.now) (g.F.Folder.told c.filled_place.new.f) (g.F.Folder.told c.name_place.new.f) c.requires.agrees (told_is (HasWords c.args.entry c.args.stream c.args.old.size (unwrap_or c.args.old.addr 0)) from there stored.words) (told_is (λ image. c.args.record_bytes.now ≡ record_at image c.args.entry) from there stored.read) c.in_ok-new.ensures.stops (λ from there can image now. subst (λ (v : ℕ). IsPlaceFilled c.args.files.now c.args.old v c.args.size c.args.offset c.args.bytes.now from image) (sym c.word_of-word.ensures) (c.in_ok-new.ensures.filled from there can image now)) c.in_ok-new.new c.word_of-word.ensures c.in_ok-new.ensures.stages c.in_ok-new.ensures.staged c.in-None.is c.in_ok-name_place-in-None.ensures.stops from there
+returns-in_ok-name_place-in-None-clause-stages g c from there stored = name_stages c.args.files.now c.filled_place.new.files c.args.entry c.args.stream c.args.size c.args.old c.requires.kind c.requires.stands c.requires.stream c.filled_place.ensures.keeps c.requires.old c.requires.some c.requires.other c.word_of-word.result c.args.offset c.args.bytes.now c.args.record_bytes.now (subst (λ (v : ℕ). may_keep c.filled_place.new.files c.args.size v ≡ true) (sym c.word_of-word.ensures) c.in_ok-new.ensures.fits) (g.F.Folder.told c.args.f.now) (g.F.Folder.told c.filled_place.new.f) (g.F.Folder.told c.name_place.new.f) c.requires.agrees (told_is (HasWords c.args.entry c.args.stream c.args.old.size (unwrap_or c.args.old.addr 0)) from there stored.words) (told_is (λ image. c.args.record_bytes.now ≡ record_at image c.args.entry) from there stored.read) c.in_ok-new.ensures.stops (λ from there can image now. subst (λ (v : ℕ). IsPlaceFilled c.args.files.now c.args.old v c.args.size c.args.offset c.args.bytes.now from image) (sym c.word_of-word.ensures) (c.in_ok-new.ensures.filled from there can image now)) c.in_ok-new.new c.word_of-word.ensures c.in_ok-new.ensures.stages c.in_ok-new.ensures.staged c.in-None.is c.in_ok-name_place-in-None.ensures.stages from there
 
 pub returns-in_ok-name_place-in-None-clause-staged : goal.returns-in_ok-name_place-in-None-clause-staged
 returns-in_ok-name_place-in-None-clause-staged g c from there stored = name_staged c.args.files.now c.filled_place.new.files c.args.entry c.args.stream c.args.size c.args.old c.requires.kind c.requires.stands c.requires.stream c.filled_place.ensures.keeps c.requires.old c.requires.some c.requires.other c.word_of-word.result c.args.offset c.args.bytes.now c.args.record_bytes.now (subst (λ (v : ℕ). may_keep c.filled_place.new.files c.args.size v ≡ true) (sym c.word_of-word.ensures) c.in_ok-new.ensures.fits) (g.F.Folder.told c.args.f.now) (g.F.Folder.told c.filled_place.new.f) (g.F.Folder.told c.name_place.new.f) c.requires.agrees (told_is (HasWords c.args.entry c.args.stream c.args.old.size (unwrap_or c.args.old.addr 0)) from there stored.words) (told_is (λ image. c.args.record_bytes.now ≡ record_at image c.args.entry) from there stored.read) c.in_ok-new.ensures.stops (λ from there can image now. subst (λ (v : ℕ). IsPlaceFilled c.args.files.now c.args.old v c.args.size c.args.offset c.args.bytes.now from image) (sym c.word_of-word.ensures) (c.in_ok-new.ensures.filled from there can image now)) c.in_ok-new.new c.word_of-word.ensures c.in_ok-new.ensures.stages c.in_ok-new.ensures.staged c.in-None.is c.in_ok-name_place-in-None.ensures.stops c.in_ok-name_place-in-None.ensures.named c.in_ok-name_place-in-None.ensures.sealed from there
