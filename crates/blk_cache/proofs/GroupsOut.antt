@@ -1,6 +1,6 @@
 -- The last item that isn't pinned, by its record, and what is left once its group is out.
-use Rattle.std.proofs.Common.{◌≡◌, ℕ, ◌≤◌, Bool, true, false, List, [], ◌∷◌, length, map, take, Option, Some, None, Result, Ok, Err, inl, refl, sym, ap, subst, ◌∙◌, arith, append-nil, ⊎_elim}
-use Rattle.std.specs.Prelude.{◌&&◌, ◌==◌, IfOk, IfSome, OnOk, if◌then◌else◌, is_some, not, slice_set}
+use Rattle.std.proofs.Common.{◌≡◌, ℕ, ◌+◌, ◌≤◌, Bool, true, false, List, [], ◌∷◌, length, map, take, Option, Some, None, Result, Ok, Err, inl, refl, sym, ap, ap₂, subst, ◌∙◌, arith, append-nil, ⊎_elim}
+use Rattle.std.specs.Prelude.{◌&&◌, ◌==◌, IfOk, IfSome, OnOk, if◌then◌else◌, is_some, not, slice_index, slice_set}
 use Rattle.std.specs.List.{cons_option, filter_map, flat_map, sum_by}
 use Rattle.std.specs.Option.{option_and_then, option_map, option_map_or}
 use Rattle.std.specs.Str.{bytes_eq}
@@ -58,9 +58,11 @@ use Rattle.blk_cache.specs.declared.item_names.EntryKind.TheVariants as kinds
 use Rattle.blk_cache.specs.declared.item_names.Named.{Named}
 use Rattle.blk_cache.specs.declared.room_search.Unpinned.{Unpinned}
 use Rattle.blk_cache.specs.EvictingGroups.{GoesAs, IsGroupOut, IsNamedAs, alone_kind, kind_of_role, kind_said}
+use Rattle.blk_cache.specs.Looking.{charge_said}
 use Rattle.blk_cache.specs.RoomKept.{NamedObjectsStay}
 use Rattle.blk_cache.specs.RoomLaws.{IsLastUnpinned, group_for, item_charge}
 use Rattle.blk_cache.specs.RoomSearch.{IsLastAt}
+use Rattle.blk_cache.proofs.Looks.{loaded-charge}
 use Rattle.blk_cache.proofs.RoomApart.{alone-apart}
 use Rattle.blk_cache.proofs.RoomGroups.{parts-front}
 use Rattle.blk_cache.proofs.RoomLast.{in-middle}
@@ -126,7 +128,7 @@ part-kind IsPlain e = absurd (let z : false ≡ true = e in cc)
 part-kind (IsParent index) e = absurd (let z : false ≡ true = e in cc)
 part-kind (IsPart name index) e = refl
 
-role-kind : (e : RecordFields) (key : List ℕ) (streams : List (List ℕ)) (role : Role) → role_of e key streams ≡ Some role → kind_said e.flags ≡ kind_of_role role
+pub role-kind : (e : RecordFields) (key : List ℕ) (streams : List (List ℕ)) (role : Role) → role_of e key streams ≡ Some role → kind_said e.flags ≡ kind_of_role role
 unfolding role_of
 role-kind e key streams role is = go (e.flags == parent) (e.flags == child) refl refl is where
   go : (b c : Bool) → (e.flags == parent) ≡ b → (e.flags == child) ≡ c → (if b then parent_role e streams else if c then part_role key streams else Some IsPlain) ≡ Some role → (if b then kinds.Parent else if c then kinds.Part else kinds.Plain) ≡ kind_of_role role
@@ -195,7 +197,7 @@ module _ (state : State) (layout : Layout) (unlinked : List ℕ) (image : Image)
 -- ---- an item that goes alone
 
 -- the parts of an object that has none
-none-among : (key : List ℕ) (items : List Item) → ((n : ℕ) → is_in items (part key n) ≡ true → ⊥) → parts_among key items ≡ []
+pub none-among : (key : List ℕ) (items : List Item) → ((n : ℕ) → is_in items (part key n) ≡ true → ⊥) → parts_among key items ≡ []
 none-among key [] none = refl
 none-among key (main other ∷ items) none = none-among key items (λ n there. none n there)
 none-among key (part other n ∷ items) none = ⊎_elim
@@ -389,6 +391,11 @@ kind-read image entry head loaded is with_record = load-then (store_of image) wi
     let here : (store_of image).entry entry ≡ Some e = ap (store_of image).entry (sym with_record.contents ∙ f.facts.contents_is) ∙ f.entry in
     let flags = head-flags image entry head e is here in
     ap kind_said (sym flags) ∙ role-kind e loaded.key loaded.streams loaded.role f.facts.role)
+
+-- and the charge
+pub charge-read : (image : Image) (entry : ℕ) (head : Head) (loaded : Loaded) → IsRecordHead image entry head → LoadsWith entry loaded image → charge_said head ≡ charge_of loaded
+charge-read image entry head loaded is with_record =
+    ap₂ (λ (n : ℕ) (sizes : List ℕ). n + slice_index sizes 0 + slice_index sizes 1 + slice_index sizes 2) is.key_len is.sizes ∙ loaded-charge image entry loaded with_record
 
 pub key-read : (image : Image) (entry : ℕ) (loaded : Loaded) (old new : List ℕ) (len : ℕ) → LoadsWith entry loaded image → 32796 ≤ length old → ((stored : List ℕ) → key_at image entry ≡ Some stored → IsPiece stored 0 old new len) → take len new ≡ loaded.key
 key-read image entry loaded old new len with_record room piece =

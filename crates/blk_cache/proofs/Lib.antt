@@ -46,3 +46,11 @@ pub mod ReadSteps
 pub mod PrintedReads
 pub mod WholeGroups
 pub mod TrimSteps
+pub mod DoomedCounts
+pub mod DoomedNames
+pub mod DoomedPlaced
+pub mod DoomedTargets
+pub mod Dooms
+pub mod DoomSteps
+pub mod FoundTargets
+pub mod OpenTargets

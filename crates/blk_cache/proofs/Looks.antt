@@ -1,5 +1,5 @@
 -- What a search for a key finds where a state is kept.
-use Rattle.std.proofs.Common.{◌≡◌, ℕ, ◌+◌, List, [], sym, ◌∙◌, ap, subst, true, false, arith, Option, Some, None}
+use Rattle.std.proofs.Common.{◌≡◌, ℕ, ◌+◌, List, [], refl, sym, ◌∙◌, ap, subst, true, false, arith, Option, Some, None}
 use Rattle.std.specs.Prelude.{slice_index}
 use Rattle.std.specs.Option.{option_and_then}
 use Rattle.blk_image.specs.Image.{AreBytes, Image}
@@ -39,6 +39,7 @@ use Rattle.blk_verdict.proofs.KeyFacts.{key_length}
 use Rattle.blk_verdict.proofs.StreamFacts.{are_stored, stored_length}
 use Rattle.blk_kept.specs.Keeping.{KeepsUncounted}
 use Rattle.blk_kept.proofs.Free.{standing-at}
+use Rattle.blk_object.specs.Owning.{LoadsWith}
 use Rattle.blk_cache.specs.declared.looking.Live.{Live}
 use Rattle.blk_cache.specs.Looking.{IsLiveAt, charge_at}
 
@@ -52,10 +53,14 @@ chained : (words : List ℕ) (entry : ℕ) (before : Option ℕ) (prefix suffix 
 chained words entry None prefix suffix s = subst (λ (ws : List ℕ). is_among ws entry ≡ true) (sym s.1) (middle-there [] entry suffix)
 chained words entry (Some b) prefix suffix s = subst (λ (ws : List ℕ). is_among ws entry ≡ true) (sym s) (behind-there prefix b entry suffix)
 
--- the record of a node that loads says what that is charged
-pub said-charge : (image : Image) (state : State) (layout : Layout) → Represents (view_of image) state layout → (node : ℕ) (loaded : Loaded) → layout.at node ≡ Some loaded → charge_at image loaded.contents ≡ charge_of loaded
-said-charge image state layout r node loaded here =
-    load-then {P = charge_at image loaded.contents ≡ charge_of loaded} (store_of image) (rule_of layout node) node loaded (r.holds.shows.each node loaded here)
+-- so a record that was found is in the chain of its key
+pub chained-there : (image : Image) (key : List ℕ) (entry : ℕ) (before : Option ℕ) → IsFound key false entry before image → is_among (chained_for (store_of image) key) entry ≡ true
+chained-there image key entry before found = chained (chained_for (store_of image) key) entry before found.prefix found.suffix found.stands
+
+-- the record of what loads says what that is charged
+pub loaded-charge : (image : Image) (entry : ℕ) (loaded : Loaded) → LoadsWith entry loaded image → charge_at image entry ≡ charge_of loaded
+loaded-charge image entry loaded w =
+    load-then {P = charge_at image entry ≡ charge_of loaded} (store_of image) w.rule w.node loaded w.loads
     (λ n e facts.
     let stored = are_stored image e loaded.streams facts.facts.streams in
     let three = stored.three in
@@ -66,7 +71,11 @@ said-charge image state layout r node loaded here =
     let fields = shown-fields image n.contents e facts.entry in
     let at : (e.key_len + slice_index e.data_size 0 + slice_index e.data_size 1 + slice_index e.data_size 2) ≡ charge_of loaded = omega (arith, three, first, second, third, len) in
     let same : charge_at image n.contents ≡ (e.key_len + slice_index e.data_size 0 + slice_index e.data_size 1 + slice_index e.data_size 2) = ap (λ (z : RecordFields). z.key_len + slice_index z.data_size 0 + slice_index z.data_size 1 + slice_index z.data_size 2) fields in
-    ap (charge_at image) facts.facts.contents_is ∙ same ∙ at)
+    ap (charge_at image) (sym w.contents ∙ facts.facts.contents_is) ∙ same ∙ at)
+
+-- so that of a node of a state that is shown
+pub said-charge : (image : Image) (state : State) (layout : Layout) → Represents (view_of image) state layout → (node : ℕ) (loaded : Loaded) → layout.at node ≡ Some loaded → charge_at image loaded.contents ≡ charge_of loaded
+said-charge image state layout r node loaded here = loaded-charge image loaded.contents loaded (record { rule = rule_of layout node; node = node; loads = r.holds.shows.each node loaded here; contents = refl })
 
 module _ (state : State) (layout : Layout) (unlinked : List ℕ) (image : Image) (k : KeepsUncounted state layout unlinked image) where
   pub can-search : (key : List ℕ) → CanBeSearched key image
@@ -92,7 +101,7 @@ module _ (state : State) (layout : Layout) (unlinked : List ℕ) (image : Image)
   -- a record that is found is that of a live object
   module _ (key : List ℕ) (entry : ℕ) (before : Option ℕ) (found : IsFound key false entry before image) where
     there : is_among (chained_for (store_of image) key) entry ≡ true
-    there = chained (chained_for (store_of image) key) entry before found.prefix found.suffix found.stands
+    there = chained-there image key entry before found
 
     abbrev of-live : IsOfLive state layout key entry found.has_key.fields.rankings_node
     of-live = found-live (view_of image) state layout k.represents key entry there found.has_key

@@ -23,7 +23,7 @@ use Rattle.blk_cache.proofs.RoomGroups.{first-same, loose-for, parts-front}
 -- ---- sums over lists
 
 -- what goes and what stays
-split-sum : (w : Item → ℕ) (p : Item → Bool) (l : List Item) → sum_by w l ≡ sum_by w (filter (λ i. not (p i)) l) + sum_by w (filter p l)
+pub split-sum : (w : Item → ℕ) (p : Item → Bool) (l : List Item) → sum_by w l ≡ sum_by w (filter (λ i. not (p i)) l) + sum_by w (filter p l)
 split-sum w p [] = refl
 split-sum w p (i ∷ l) = sum_by-cons w i l ∙ go (p i) (split-sum w p l) where
   go : (b : Bool) → sum_by w l ≡ sum_by w (filter (λ i. not (p i)) l) + sum_by w (filter p l)
@@ -42,7 +42,7 @@ alone-none w x (i ∷ l) none = sum_by-cons (alone w x) i l ∙ go (same_item x 
   go true e more = absurd (omega (arith, e))
   go false e more = let z = more (omega (arith, e)) in omega (arith, z)
 
-alone-once : (w : Item → ℕ) (x : Item) (l : List Item) → times x l ≡ 1 → sum_by (alone w x) l ≡ w x
+pub alone-once : (w : Item → ℕ) (x : Item) (l : List Item) → times x l ≡ 1 → sum_by (alone w x) l ≡ w x
 alone-once w x [] once = absurd (let z : 0 ≡ 1 = once in omega (arith, z))
 alone-once w x (i ∷ l) once = sum_by-cons (alone w x) i l ∙ go (same_item x i) (sym (times-cons x i l) ∙ once) (alone-once w x l) where
   go : (b : Bool) → cond b 1 0 + times x l ≡ 1 → (times x l ≡ 1 → sum_by (alone w x) l ≡ w x) → cond b (w x) 0 + sum_by (alone w x) l ≡ w x
@@ -50,7 +50,7 @@ alone-once w x (i ∷ l) once = sum_by-cons (alone w x) i l ∙ go (same_item x 
   go false e more = let z = more (omega (arith, e)) in omega (arith, z)
 
 -- the items of a key: its main item, and its parts in their order
-of-key : (w : Item → ℕ) (key : List ℕ) (l : List Item) → sum_by w (filter (λ i. bytes_eq key (key_of i)) l) ≡ sum_by (alone w (main key)) l + sum_by w (map (part key) (parts_among key l))
+pub of-key : (w : Item → ℕ) (key : List ℕ) (l : List Item) → sum_by w (filter (λ i. bytes_eq key (key_of i)) l) ≡ sum_by (alone w (main key)) l + sum_by w (map (part key) (parts_among key l))
 of-key w key [] = refl
 of-key w key (main other ∷ l) = go (bytes_eq key other) refl (of-key w key l) ∙ ap (λ (n : ℕ). n + sum_by w (map (part key) (parts_among key l))) (sym (sum_by-cons (alone w (main key)) (main other) l)) where
   go : (b : Bool) → bytes_eq key other ≡ b → sum_by w (filter (λ i. bytes_eq key (key_of i)) l) ≡ sum_by (alone w (main key)) l + sum_by w (map (part key) (parts_among key l))
@@ -106,7 +106,7 @@ group-sum w (part key n) front all parts once =
 -- ---- rows
 
 -- what the rows of items are, item by item
-of-rows : (h : Row → ℕ) (f : Item → Option Row) (l : List Item) → sum_by h (filter_map f l) ≡ sum_by (λ i. option_map_or h (f i) 0) l
+pub of-rows : (h : Row → ℕ) (f : Item → Option Row) (l : List Item) → sum_by h (filter_map f l) ≡ sum_by (λ i. option_map_or h (f i) 0) l
 of-rows h f [] = refl
 of-rows h f (i ∷ l) = go (f i) (of-rows h f l) ∙ sym (sum_by-cons (λ i. option_map_or h (f i) 0) i l) where
   go : (o : Option Row) → sum_by h (filter_map f l) ≡ sum_by (λ i. option_map_or h (f i) 0) l → sum_by h (cons_option o (filter_map f l)) ≡ option_map_or h o 0 + sum_by (λ i. option_map_or h (f i) 0) l
@@ -114,7 +114,7 @@ of-rows h f (i ∷ l) = go (f i) (of-rows h f l) ∙ sym (sum_by-cons (λ i. opt
   go (Some row) e = let c = sum_by-cons h row (filter_map f l) in omega (arith, c, e)
 
 -- how many there are, where each item has one
-all-have : (f : Item → Option Row) (l : List Item) → ((i : Item) → 1 ≤ times i l → is_some (f i) ≡ true) → length (filter_map f l) ≡ length l
+pub all-have : (f : Item → Option Row) (l : List Item) → ((i : Item) → 1 ≤ times i l → is_some (f i) ≡ true) → length (filter_map f l) ≡ length l
 all-have f [] each = refl
 all-have f (i ∷ l) each =
     go (f i) (each i (let c = times-cons i i l in let s : ◌≡◌ {A = ℕ} (cond (same_item i i) 1 0) 1 = ap (λ (b : Bool). cond {A = ℕ} b 1 0) (same_item_self i) in omega (arith, c, s))) (all-have f l (λ j h. each j (let c = times-cons j i l in omega (arith, c, h))))
@@ -123,11 +123,11 @@ all-have f (i ∷ l) each =
     go None some e = absurd (let z : false ≡ true = some in cc)
     go (Some row) some e = ap suc e
 
-long-sum : (l : List Item) → sum_by (λ (i : Item). 1) l ≡ length l
+pub long-sum : (l : List Item) → sum_by (λ (i : Item). 1) l ≡ length l
 long-sum [] = refl
 long-sum (i ∷ l) = let c = sum_by-cons (λ (i : Item). 1) i l in let e = long-sum l in omega (arith, c, e)
 
-same-sum : (v w : Item → ℕ) (p : Item → Bool) (l : List Item) → ((i : Item) → p i ≡ true → v i ≡ w i) → sum_by v (filter p l) ≡ sum_by w (filter p l)
+pub same-sum : (v w : Item → ℕ) (p : Item → Bool) (l : List Item) → ((i : Item) → p i ≡ true → v i ≡ w i) → sum_by v (filter p l) ≡ sum_by w (filter p l)
 same-sum v w p [] same = refl
 same-sum v w p (i ∷ l) same = go (p i) refl (same-sum v w p l same) where
   go : (b : Bool) → p i ≡ b → sum_by v (filter p l) ≡ sum_by w (filter p l) → sum_by v (cond b (i ∷ filter p l) (filter p l)) ≡ sum_by w (cond b (i ∷ filter p l) (filter p l))
@@ -149,7 +149,7 @@ row-in-some object (part key n) has = go (part_at object n) (and_parts (object.l
   go None e = absurd (let z : false ≡ true = e in cc)
   go (Some value) e = refl
 
-has-row : (state : State) → IsValidState state → (item : Item) → 1 ≤ times item state.uses → is_some (row_of state item) ≡ true
+pub has-row : (state : State) → IsValidState state → (item : Item) → 1 ≤ times item state.uses → is_some (row_of state item) ≡ true
 unfolding row_of
 has-row state valid item there =
     let n = some-owner state valid item there in

@@ -43,7 +43,7 @@ use Rattle.blk_cache.proofs.RoomGroups.{parts-front}
 -- ---- what the items of a group are charged
 
 module _ (state : State) (layout : Layout) (unlinked : List ℕ) (image : Image) (k : KeepsUncounted state layout unlinked image) where
-  charges-are : (items : List Item) → AllByRecursion (λ item. is_listed state item ≡ true) items → charges_at layout (nodes_of layout items) ≡ sum_by (item_charge state) items
+  pub charges-are : (items : List Item) → AllByRecursion (λ item. is_listed state item ≡ true) items → charges_at layout (nodes_of layout items) ≡ sum_by (item_charge state) items
   charges-are [] all = refl
   charges-are (item ∷ items) all =
       let laid : IsPlacedAt state layout item = k.represents.holds.lies.laid item all.0 in
@@ -61,14 +61,14 @@ one-listed key all other n items within true e more =
 one-listed key all other n items within false e more =
     subst (λ (c : Bool). AllByRecursion (λ item. is_in all item ≡ true) (map (part key) (cons_option (if c then Some n else None) (filter_map (part_number key) items)))) (sym e) more
 
-parts-listed : (key : List ℕ) (all items : List Item) → ((item : Item) → is_in items item ≡ true → is_in all item ≡ true) → AllByRecursion (λ item. is_in all item ≡ true) (map (part key) (parts_among key items))
+pub parts-listed : (key : List ℕ) (all items : List Item) → ((item : Item) → is_in items item ≡ true → is_in all item ≡ true) → AllByRecursion (λ item. is_in all item ≡ true) (map (part key) (parts_among key items))
 parts-listed key all [] within = tt
 parts-listed key all (main other ∷ items) within = parts-listed key all items (λ item there. within item (or_right (same_item item (main other)) (is_in items item) there))
 parts-listed key all (part other n ∷ items) within = one-listed key all other n items within (bytes_eq key other) refl (parts-listed key all items (λ item there. within item (or_right (same_item item (part other n)) (is_in items item) there)))
 
 -- ---- as its record says
 
-parent-role : (role : Role) → kind_of_role role ≡ kinds.Parent → (index : ParentIndex) × (role ≡ IsParent index)
+pub parent-role : (role : Role) → kind_of_role role ≡ kinds.Parent → (index : ParentIndex) × (role ≡ IsParent index)
 parent-role IsPlain e = cc
 parent-role (IsParent index) e = (index, refl)
 parent-role (IsPart name index) e = cc
@@ -138,7 +138,7 @@ module _ (state : State) (layout : Layout) (image : Image) (found : Unpinned) (k
       here = whole-owner.here;
       of_key = sym own-key;
       live = owner_live whole-owner.object (main key) whole-owner.has;
-      unnamed = unnamed-is;
+      named = unnamed-is;
       lies = record {
         was = is.last.loaded;
         lies = subst (λ (i : Item). LiesBehind state layout i is.last.loaded before) whole-item lies;

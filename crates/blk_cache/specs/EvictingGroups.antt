@@ -9,6 +9,7 @@ use Rattle.blk_model.specs.Room.{Group, items_of_group, without}
 use Rattle.blk_model.specs.State.{State}
 use Rattle.blk_format.specs.Records.{child, parent}
 use Rattle.blk_volume.specs.Entries.{IsParent, IsPart, IsPlain, Role}
+use Rattle.blk_volume.specs.Found.{charge_of}
 use Rattle.blk_volume.specs.Layout.{Layout, is_listed}
 use Rattle.blk_volume.specs.Loads.{Loaded}
 use Rattle.blk_entry.specs.Keys.{key_bytes}
@@ -40,9 +41,10 @@ kind_said flags = if flags == parent then Parent else if flags == child then Par
 abbrev pub IsNameOf : (entry : ℕ) → List ℕ → Image → Type 0
 IsNameOf entry name image = key_bytes image entry ≡ name
 
--- the kind of what lies there is told, and its key is at the front of some bytes
+-- the kind of what lies there is told, and its charge, and its key is at the front of some bytes
 pub record IsNamedAs (loaded : Loaded) (named : Named) (bytes : List ℕ) : Type 0 where
   pub kind : named.kind ≡ kind_of_role loaded.role
+  pub charge : named.charge ≡ charge_of loaded
   pub key : take named.len bytes ≡ loaded.key
 
 -- what holds of each listed item of a kept state that has this as the key or the name in its record

@@ -20,3 +20,4 @@ pub mod Closing
 pub mod Asking
 pub mod Reading
 pub mod ReadPrinting
+pub mod Dooming

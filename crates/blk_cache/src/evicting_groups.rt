@@ -185,7 +185,7 @@ fn evict_parent<F: Folder, K: Sink>(
 }
 
 // Whether bytes are no key: none, or too many.
-fn is_no_key(key: &[u8]) -> bool
+pub(crate) fn is_no_key(key: &[u8]) -> bool
     ensures { result ≡ no_key key.now }
 {
     key.is_empty() || key.len() > LONGEST_KEY as usize
@@ -267,7 +267,7 @@ fn remove_alone<F: Folder>(
 
 // Finds the record of a listed item by its key or its name, and the one before it in its chain. Where it isn't found that
 // is a damage, of the hash of its record.
-fn find_listed<F: Folder>(
+pub(crate) fn find_listed<F: Folder>(
     f: &mut F,
     files: &BlockFiles,
     name: &[u8],

@@ -10,6 +10,7 @@ ghost use Rattle.blk_object.specs.FailedChecks.{IsFailedCheck};
 ghost use Rattle.blk_object.specs.Owning.{LoadsWith};
 ghost use Rattle.blk_cache.specs.EvictingGroups.{IsNameOf, IsNamedAs, kind_said};
 
+use crate::looking::charge_of;
 use blk_addr::Addr;
 use blk_disk::BlockFiles;
 use blk_entry::{key_piece, read_head};
@@ -32,14 +33,15 @@ pub(crate) enum EntryKind {
     Part,
 }
 
-/// What the record of an item says: the kind of its entry, and how many bytes its key or name has.
+/// What the record of an item says: the kind of its entry, how many bytes its key or name has, and what it is charged.
 #[derive(Clone, Copy, Debug)]
 pub(crate) struct Named {
     pub(crate) kind: EntryKind,
     pub(crate) len: usize,
+    pub(crate) charge: u64,
 }
 
-// Reads what an item is, and its key or name into the front of `room`: three folder calls.
+// Reads what an item is and what it is charged, and its key or name into the front of `room`: three folder calls.
 //
 // A damage is one of `read_head` or `key_piece`.
 pub(crate) fn read_name<F: Folder>(
@@ -64,11 +66,12 @@ pub(crate) fn read_name<F: Folder>(
     Ok(Named {
         kind: kind_said(head.flags),
         len,
+        charge: charge_of(&head),
     })
 }
 
 // What kind of entry the flags of a record say.
-fn kind_said(flags: u32) -> EntryKind
+pub(crate) fn kind_said(flags: u32) -> EntryKind
     ensures { result ≡ kind_said flags }
 {
     if flags == PARENT {

@@ -6,6 +6,8 @@ mod cache;
 mod close;
 mod create;
 mod create_laws;
+mod dooming;
+mod dooming_objects;
 mod ending;
 mod evicting;
 mod evicting_groups;

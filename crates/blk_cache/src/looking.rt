@@ -95,7 +95,7 @@ pub(crate) fn read_charge<F: Folder>(
 }
 
 // The bytes of the key and of the streams, as the words of a record say.
-fn charge_of(head: &Head) -> u64
+pub(crate) fn charge_of(head: &Head) -> u64
     ensures charge { result ≡ charge_said head.now }
     ensures few { result < 2 ^ 34 }
 {

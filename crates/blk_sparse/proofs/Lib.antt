@@ -4,4 +4,5 @@ pub mod PartsNext
 pub mod PartsDropped
 pub mod ParentsRead
 pub mod ParentsOut
+pub mod HeldParents
 pub mod ChildrenOut

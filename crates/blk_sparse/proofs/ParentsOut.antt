@@ -35,7 +35,7 @@ use Rattle.blk_object.proofs.FreedPlaces.{all-counted, all-out, going-finds-doom
 use Rattle.blk_object.proofs.GoingNext.{main-going, main-leaves}
 use Rattle.blk_object.proofs.OwnedPlaces.{kept-load}
 use Rattle.blk_sparse.specs.Dropping.{AreGone, AreLeft, HasSignature, IsCalledAtFront, IsWholeOut}
-use Rattle.blk_sparse.specs.Parents.{AreGoneBeside, IsGoneWhole, IsGroupTold, LoadsAsParent, MayGoWhole}
+use Rattle.blk_sparse.specs.Parents.{AreGoneBeside, IsGoneWhole, IsGroupTold, LiesAsParent, LoadsAsParent, MayGoWhole}
 use Rattle.blk_sparse.specs.declared.dropping.Gone.{Gone}
 
 -- ---- the places of the main item are freed
@@ -81,7 +81,7 @@ among-kept key keep none (i ∷ items) = ⊎_elim
 pub all-among : (key other : List ℕ) (items : List Item) → parts_among key (filter (keeps_but (λ i. true) (main other)) items) ≡ parts_among key items
 all-among key other items = among-kept key (keeps_but (λ i. true) (main other)) (main-unnumbered key other) items
 
-module _ (state : State) (layout : Layout) (unlinked : List ℕ) (number : ℕ) (object : Object) (key : List ℕ) (node entry : ℕ) (before : Option ℕ) (from : Image) (m : MayGoWhole state layout unlinked number object key node entry before from) where
+module _ {held : Bool} (state : State) (layout : Layout) (unlinked : List ℕ) (number : ℕ) (object : Object) (key : List ℕ) (node entry : ℕ) (before : Option ℕ) (from : Image) (m : LiesAsParent held state layout unlinked number object key node entry before from) where
   -- it lies there by the key of the object
   abbrev pub own-lies : LiesAsFound state layout object.key node entry before
   own-lies = record {
@@ -116,17 +116,7 @@ module _ (state : State) (layout : Layout) (unlinked : List ℕ) (number : ℕ) 
     others = subst (λ (k : List ℕ). LeavesOtherKeys k (keeps_but (λ item. true) (main object.key))) m.of_key (main-leaves object.key);
   }
 
-  -- in the end the object is gone
-  pub gone-whole : (image : Image) → IsWholeOut state layout unlinked key image → IsGoneWhole state layout unlinked number object image
-  gone-whole image out = subst (λ (k : List ℕ). IsWholeOut state layout unlinked k image → IsGoneWhole state layout unlinked number object image) m.of_key (λ (o : IsWholeOut state layout unlinked object.key image).
-      let valid = state_doomed state m.kept.entries.valid number object m.here m.live in
-      record {
-        chains = o.chains;
-        kept = subst (λ (s : State). Keeps s (layout_less layout (gone_nodes state layout (is_of_another object.key)) o.chains) unlinked image) (sym (same-state state number object m.kept.entries.valid m.here m.live m.unnamed valid))
-            (counted-out-ends state layout unlinked (doomed number state (Some object)).objects (is_of_another object.key) o.chains image o.kept o.counted (unheld-less state number object m.kept.entries.valid m.here m.live m.unnamed valid));
-      }) out
-
-  -- and its items are told
+  -- its items are told
   pub group-told : (charge : ℕ) (gone : Gone) → charge ≡ charge_of m.lies.was → AreGoneBeside layout (map (part key) (parts_among key state.uses)) charge gone → IsGroupTold state layout key gone
   group-told charge gone is beside_is =
       let parts : List Item = map (part key) (parts_among key state.uses) in
@@ -139,3 +129,14 @@ module _ (state : State) (layout : Layout) (unlinked : List ℕ) (number : ℕ) 
     where
       more : (xs : List Item) (n : ℕ) → n ≡ length xs + 1 → n ≡ length (main key ∷ xs)
       more xs n e = omega (arith, e)
+
+-- in the end an object that no handle names is gone
+pub gone-whole : (state : State) (layout : Layout) (unlinked : List ℕ) (number : ℕ) (object : Object) (key : List ℕ) (node entry : ℕ) (before : Option ℕ) (from : Image) (m : MayGoWhole state layout unlinked number object key node entry before from)
+    → (image : Image) → IsWholeOut state layout unlinked key image → IsGoneWhole state layout unlinked number object image
+gone-whole state layout unlinked number object key node entry before from m image out = subst (λ (k : List ℕ). IsWholeOut state layout unlinked k image → IsGoneWhole state layout unlinked number object image) m.of_key (λ (o : IsWholeOut state layout unlinked object.key image).
+    let valid = state_doomed state m.kept.entries.valid number object m.here m.live in
+    record {
+      chains = o.chains;
+      kept = subst (λ (s : State). Keeps s (layout_less layout (gone_nodes state layout (is_of_another object.key)) o.chains) unlinked image) (sym (same-state state number object m.kept.entries.valid m.here m.live m.named valid))
+          (counted-out-ends state layout unlinked (doomed number state (Some object)).objects (is_of_another object.key) o.chains image o.kept o.counted (unheld-less state number object m.kept.entries.valid m.here m.live m.named valid));
+    }) out

@@ -1,39 +1,51 @@
--- An object with an index, which no handle names, goes with its parts.
-use Rattle.std.specs.Prelude.{◌≡◌, ℕ, ◌+◌, List, ◌++◌, Bool, Option, Some, false, length, true}
+-- An object with an index goes with its parts; where a handle names it, its parts alone are freed.
+use Rattle.std.specs.Prelude.{◌≡◌, ℕ, ◌+◌, List, ◌++◌, Bool, Option, Some, false, length, map, true}
 use Rattle.blk_image.specs.Image.{Image}
 use Rattle.blk_model.specs.Effects.{doomed}
-use Rattle.blk_model.specs.Items.{Item}
+use Rattle.blk_model.specs.Items.{Item, part}
 use Rattle.blk_model.specs.Room.{items_of_group, parts_among, whole}
 use Rattle.blk_model.specs.State.{Object, State, is_named, object_at}
 use Rattle.blk_format.specs.SparseIndex.{ParentIndex}
 use Rattle.blk_volume.specs.Entries.{IsParent}
+use Rattle.blk_volume.specs.Found.{charge_of}
 use Rattle.blk_volume.specs.Layout.{Layout, nodes_of}
 use Rattle.blk_volume.specs.Loads.{Loaded}
 use Rattle.blk_volume.specs.Removal.{is_of_another}
 use Rattle.blk_kept.specs.CountsOfParts.{charges_at}
 use Rattle.blk_kept.specs.GroupLaws.{gone_nodes, layout_less}
 use Rattle.blk_kept.specs.Keeping.{Keeps}
+use Rattle.blk_kept.specs.WholeRemovals.{layout_doomed_whole}
 use Rattle.blk_object.specs.Owning.{LoadsWith}
 use Rattle.blk_object.specs.RemovingFound.{LiesAsFound}
 use Rattle.blk_sparse.specs.Dropping.{AreGone, AreLeft, HasSignature}
 use Rattle.blk_sparse.specs.declared.dropping.Gone.{Gone}
 
--- a live object with a key and an index, which no handle names, lies as its main item at this node with this record, behind this one in its chain
-pub record MayGoWhole (state : State) (layout : Layout) (unlinked : List ℕ) (number : ℕ) (object : Object) (key : List ℕ) (node entry : ℕ) (before : Option ℕ) (image : Image) : Type 0 where
+-- a live object with a key and an index, which a handle names or none does, lies as its main item at this node with this record, behind this one in its chain
+pub record LiesAsParent (held : Bool) (state : State) (layout : Layout) (unlinked : List ℕ) (number : ℕ) (object : Object) (key : List ℕ) (node entry : ℕ) (before : Option ℕ) (image : Image) : Type 0 where
   pub kept : Keeps state layout unlinked image
   pub here : object_at state number ≡ Some object
   pub of_key : object.key ≡ key
   pub live : object.live ≡ true
-  pub unnamed : is_named state number ≡ false
+  pub named : is_named state number ≡ held
   pub lies : LiesAsFound state layout key node entry before
   pub index : ParentIndex
   pub role : lies.was.role ≡ IsParent index
+
+-- it is one that no handle names
+abbrev pub MayGoWhole : (state : State) (layout : Layout) (unlinked : List ℕ) (number : ℕ) (object : Object) (key : List ℕ) (node entry : ℕ) (before : Option ℕ) (image : Image) → Type 0
+MayGoWhole state layout unlinked number object key node entry before image = LiesAsParent false state layout unlinked number object key node entry before image
 
 -- what holds wherever there is such an object
 abbrev pub ForEachParent : (key : List ℕ) (node entry : ℕ) (before : Option ℕ) → Image → (State → Layout → List ℕ → ℕ → Object → Type 0) → Type 0
 ForEachParent key node entry before from P =
     (state : State) (layout : Layout) (unlinked : List ℕ) (number : ℕ) (object : Object)
     → MayGoWhole state layout unlinked number object key node entry before from → P state layout unlinked number object
+
+-- what holds wherever there is one that a handle names, and what it is charged
+abbrev pub ForEachHeldParent : (key : List ℕ) (node entry : ℕ) (before : Option ℕ) (charge : ℕ) → Image → (State → Layout → List ℕ → ℕ → Object → Type 0) → Type 0
+ForEachHeldParent key node entry before charge from P =
+    (state : State) (layout : Layout) (unlinked : List ℕ) (number : ℕ) (object : Object)
+    → (m : LiesAsParent true state layout unlinked number object key node entry before from) → charge ≡ charge_of m.lies.was → P state layout unlinked number object
 
 -- what a node names by some rule, with this record, is a parent's
 pub record LoadsAsParent (entry : ℕ) (image : Image) : Type 0 where
@@ -62,3 +74,14 @@ IsGroupTold state layout key gone = AreGone layout (items_of_group (whole key (p
 pub record IsGoneWhole (state : State) (layout : Layout) (unlinked : List ℕ) (number : ℕ) (object : Object) (image : Image) : Type 0 where
   pub chains : ℕ → List ℕ
   pub kept : Keeps (doomed number state (Some object)) (layout_less layout (gone_nodes state layout (is_of_another object.key)) chains) unlinked image
+
+-- Of an object that a handle names.
+
+-- its parts are told, with their charges
+abbrev pub ArePartsTold : State → Layout → (key : List ℕ) → Gone → Type 0
+ArePartsTold state layout key gone = AreGone layout (map (part key) (parts_among key state.uses)) gone
+
+-- the state with the object doomed is kept, by the layout without its parts
+pub record IsHeldWhole (state : State) (layout : Layout) (unlinked : List ℕ) (number : ℕ) (object : Object) (image : Image) : Type 0 where
+  pub chains : ℕ → List ℕ
+  pub kept : Keeps (doomed number state (Some object)) (layout_doomed_whole state layout number object.key chains) unlinked image

@@ -1,4 +1,4 @@
-// An object with an index goes with its parts.
+// An object with an index goes with its parts, or is doomed.
 ghost use Rattle.std.specs.Prelude.{◌≡◌, ◌≤◌, ◌<◌, ◌^◌, ℕ, All, IfOk, IfSome, IsTrue, List, None, OnOk, Some, filter, length, map};
 ghost use Rattle.std.specs.Int.{cast_unsigned, w64};
 ghost use Rattle.std.specs.List.{FoldsTo};
@@ -23,7 +23,7 @@ ghost use Rattle.blk_object.specs.Freeing.{IsPlaceAmong, words_at};
 ghost use Rattle.blk_object.specs.Owning.{LoadsWith};
 ghost use Rattle.blk_object.specs.RemovingObjects.{FindsEither};
 ghost use Rattle.blk_sparse.specs.Dropping.{IsCalledAtFront, IsWholeOut};
-ghost use Rattle.blk_sparse.specs.Parents.{AreGoneBeside, ForEachParent, ForEachRest, IsGoneWhole, IsGroupTold, LoadsAsParent};
+ghost use Rattle.blk_sparse.specs.Parents.{AreGoneBeside, ArePartsTold, ForEachHeldParent, ForEachParent, ForEachRest, IsGoneWhole, IsGroupTold, IsHeldWhole, LoadsAsParent};
 
 use crate::dropping::{Gone, drop_parts_with};
 use blk_addr::Addr;
@@ -31,7 +31,7 @@ use blk_chain::Found;
 use blk_disk::BlockFiles;
 use blk_entry::record_damage;
 use blk_io::{Fault, Folder};
-use blk_object::{Owned, free_owned, read_owned, take_main};
+use blk_object::{Owned, doom_record, free_owned, read_owned, take_main};
 use blk_ranges::ParentHead;
 use blk_record::EntryView;
 use blk_stream::read;
@@ -100,6 +100,57 @@ pub fn remove_parent_with<F: Folder, E: FnMut(u32)>(
     let signature = read_signature(f, files, found.entry, room)?;
     take_main(f, files, found, node, owned.charge)?;
     drop_and_free(f, files, key, signature, &owned, room, each)
+}
+
+/// Dooms an object with an index, a parent, which a handle names: its main item is taken out and counted no longer, with
+/// its charge; then each part goes, as `drop_parts_with` says; and its record gets the state of a doomed object last.
+/// Nothing of the main item is freed: its places stay its until the last handle is closed. How many parts went is given,
+/// and what they were charged.
+///
+/// Its record stands in its chain behind the record before, or is the first; and it names this node. The index is
+/// read into `room`, and then the names of parts are made there. This takes as many folder calls as `take_main` and
+/// `drop_parts_with`, two more, and four for the record.
+pub fn doom_parent<F: Folder>(
+    f: &mut F,
+    files: &BlockFiles,
+    found: &Found,
+    node: Addr,
+    key: &[u8],
+    charge: u64,
+    room: &mut [u8],
+) -> Result<Gone, Fault>
+    requires node { IsTrue (is_node_among files.now node) }
+    requires kind { kind_of found.now.entry ≡ blocks_256 }
+    requires stands { IsTrue (stands_among files.now found.now.entry) }
+    requires kind_before { IfSome found.now.before (λ before. kind_of before ≡ blocks_256) }
+    requires stands_before { IfSome found.now.before (λ before. IsTrue (stands_among files.now before)) }
+    requires some { 1 ≤ length key.now }
+    requires short { length key.now ≤ longest_key }
+    requires room { longest_name ≤ length room.old }
+    requires is_open { ForSome (F.told f.old).files (IsOpen files.now) }
+
+    // Where there is such an object in a state that is kept, and this is its charge, the state with it doomed is kept in the end, in the same session. How many parts went is told, and what they were charged.
+    ensures doomed { OnOk result (ForSome (F.told f.old).files (λ from. ForEachHeldParent key.now node found.now.entry found.now.before charge from (λ state layout unlinked number object. ForSome (F.told f.new).files (IsHeldWhole state layout unlinked number object)))) }
+    ensures gone { IfOk result (λ gone. ForSome (F.told f.old).files (λ from. ForEachHeldParent key.now node found.now.entry found.now.before charge from (λ state layout unlinked number object. ArePartsTold state layout key.now gone))) }
+    ensures session { OnOk result (ForSome (F.told f.old).files (λ from. ForEachHeldParent key.now node found.now.entry found.now.before charge from (λ state layout unlinked number object. ForSome (F.told f.new).files (SameSession from)))) }
+
+    // At each word what was at rest is found, or what is at rest with the object doomed.
+    ensures stops { ForSome (F.told f.old).files (λ from. ForEachHeldParent key.now node found.now.entry found.now.before charge from (λ state layout unlinked number object. Passes (F.told f.old) (F.told f.new) (FindsEither state (doomed number state (Some object))))) }
+
+    ensures is_open { ForSome (F.told f.new).files (IsOpen files.now) }
+
+    // A folder that tells its files, with such an object, gives no damage.
+    ensures untold { ForSome (F.told f.old).files (λ from. ForEachHeldParent key.now node found.now.entry found.now.before charge from (λ state layout unlinked number object. IfDamaged result (λ _. (F.told f.old).files ≡ None))) }
+
+    ensures silent { (F.told f.old).files ≡ None → (F.told f.new).files ≡ None }
+    ensures later { F.faults f.old ≤ F.faults f.new }
+    ensures device { IfDevice result (Rises (F.faults f.old) (F.faults f.new)) }
+{
+    let signature = read_signature(f, files, found.entry, room)?;
+    take_main(f, files, found, node, charge)?;
+    let parts = drop_parts_with(f, files, key, signature, room, &mut |_| ())?;
+    doom_record(f, files, found.entry)?;
+    Ok(parts)
 }
 
 // Reads the signature of the index of a parent, by two folder calls. The index is read into `room`.

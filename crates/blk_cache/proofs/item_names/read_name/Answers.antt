@@ -6,7 +6,7 @@ use Rattle.blk_chain.proofs.Heads.{names-parts}
 use Rattle.blk_lru.proofs.Conditions.{told_now}
 use Rattle.blk_object.proofs.OwnedPlaces.{loaded-checks}
 use Rattle.blk_object.proofs.PartNames.{key-readable}
-use Rattle.blk_cache.proofs.GroupsOut.{key-read, kind-read}
+use Rattle.blk_cache.proofs.GroupsOut.{charge-read, key-read, kind-read}
 use Rattle.blk_object.proofs.DamageChecks.{handed, head-checked, moved, part-checked, whole-key}
 use Rattle.blk_cache.proofs.item_names.read_name.Goals as goal
 
@@ -42,6 +42,7 @@ returns-in_err-len-clause-untold g c agrees lies =
 pub returns-clause-named : goal.returns-clause-named
 returns-clause-named g c image there loaded lies = record {
   kind = c.kind_said.ensures ∙ kind-read image c.args.entry c.in_ok-head.head loaded (c.in_ok-head.ensures.head image there) lies;
+  charge = c.charge_of.ensures.charge ∙ charge-read image c.args.entry c.in_ok-head.head loaded (c.in_ok-head.ensures.head image there) lies;
   key = key-read image c.args.entry loaded c.args.room.now c.key_piece.new.out c.in_ok-len.len lies c.requires.room (c.in_ok-len.ensures.piece image (told_now image c.in_ok-head.ensures.stays there));
 }
 

@@ -1,0 +1,31 @@
+use Rattle.std.proofs.Common.{◌≡◌, ◌+◌, true, false, None, inr, refl, sym, ◌∙◌, subst, ℕ}
+use Rattle.blk_image.specs.Image.{Block as block, word}
+use Rattle.blk_format.specs.Address.{file_selector, place}
+use Rattle.blk_io.proofs.Carried.{untold_where}
+use Rattle.blk_disk.specs.Tables.{is_node_among}
+use Rattle.blk_entry.specs.Keys.{node_place}
+use Rattle.blk_entry.proofs.KeyPlaces.{clash, err_damaged}
+use Rattle.blk_entry.proofs.Windows.{node_read, none_named}
+use Rattle.blk_cache.specs.declared.dooming_objects.Target.{Target}
+use Rattle.blk_cache.specs.Looking.{IsEntryDamage}
+use Rattle.blk_cache.proofs.dooming_objects.read_target.Goals as goal
+
+pub returns-in_default-clause-damaged : goal.returns-in_default-clause-damaged
+returns-in_default-clause-damaged g c =
+    let found = c.record_damage.ensures.word.of_word in
+    err_damaged Target c.record_damage.result c.record_damage.ensures.damage (IsEntryDamage c.args.files.now (g.F.Folder.told c.args.f.now) c.args.found.now.entry) c.record_damage.ensures.is
+    (inr (inr (record {
+      of_file = c.record_damage.ensures.word.of_file;
+      at_place = c.record_damage.ensures.word.at_place;
+      there = λ image there. found ∙ (c.in_ok-head.ensures.head image there).node ∙ sym (node_read image c.args.found.now.entry (word image (block (file_selector c.args.found.now.entry)) (place c.args.found.now.entry + node_place)) refl);
+      unlike = subst (λ (w : ℕ). is_node_among c.args.files.now w ≡ false) (sym found) (none_named (is_node_among c.args.files.now c.in_ok-head.head.node) c.in_ok-head.head.node (sym c.in_default.is ∙ c.node.ensures.node));
+    })))
+
+pub returns-in_default-clause-untold : goal.returns-in_default-clause-untold
+returns-in_default-clause-untold g c agrees checks names =
+    err_damaged Target c.record_damage.result c.record_damage.ensures.damage (λ _. (g.F.Folder.told c.args.f.now).files ≡ None) c.record_damage.ensures.is
+    (untold_where (g.F.Folder.told c.args.f.now).files
+    (λ image there.
+    let none : is_node_among c.args.files.now c.in_ok-head.head.node ≡ false = none_named (is_node_among c.args.files.now c.in_ok-head.head.node) c.in_ok-head.head.node (sym c.in_default.is ∙ c.node.ensures.node) in
+    let some : is_node_among c.args.files.now c.in_ok-head.head.node ≡ true = subst (λ (w : ℕ). is_node_among c.args.files.now w ≡ true) (sym (c.in_ok-head.ensures.head image there).node) (names image there) in
+    clash (sym none ∙ some)))

@@ -1,0 +1,158 @@
+// The commands Doom and DoomKey.
+ghost use Rattle.std.specs.Prelude.{◌≡◌, ◌≤◌, ◌<◌, ◌^◌, ℕ, IfOk, IfSome, IsTrue, None, Ok, OnOk, Some, length, true};
+ghost use Rattle.std.specs.Option.{ForSome};
+ghost use Rattle.blk_image.specs.Told.{Passes, Rises, Stays};
+ghost use Rattle.blk_io.specs.Faults.{IfDamaged, IfDevice};
+ghost use Rattle.blk_model.specs.Effects.{doomed};
+ghost use Rattle.blk_model.specs.Refusals.{no_key};
+ghost use Rattle.blk_model.specs.Request.{to_doom, to_doom_key};
+ghost use Rattle.blk_model.specs.Sizes.{longest_key};
+ghost use Rattle.blk_model.specs.declared.Answer.TheVariants as answer;
+ghost use Rattle.blk_model.specs.declared.Refusal.TheVariants as refusal;
+ghost use Rattle.blk_format.specs.Address.{blocks_256, kind_of};
+ghost use Rattle.blk_disk.specs.Open.{IsOpen};
+ghost use Rattle.blk_disk.specs.Tables.{is_node_among, is_record_among, stands_among};
+ghost use Rattle.blk_kept.specs.Commands.{Does, MayStopAtEach};
+ghost use Rattle.blk_object.specs.RemovingObjects.{FindsEither};
+ghost use Rattle.blk_cache.specs.CacheKeeping.{KeepsState};
+ghost use Rattle.blk_cache.specs.CommandClauses.{IsRefused, KeepsAny};
+ghost use Rattle.blk_cache.specs.Dooming.{CountsDoomed, ForEachKept, ForEachOpen, doom_refusal};
+ghost use Rattle.blk_cache.specs.Stepping.{HasLine};
+
+use crate::cache::Cache;
+use crate::dooming_objects::{Target, doom_named, doom_target, find_target};
+use crate::evicting_groups::is_no_key;
+use blk_addr::Addr;
+use blk_io::{Fault, Folder};
+use blk_model::{Answer, Refusal};
+use blk_sparse::Gone;
+
+impl Cache {
+    /// Dooms the object that a handle names: its items leave the list and their chains, its parts are freed, and its record
+    /// and its places stay until its last handle is closed.
+    ///
+    /// It is refused with `BadHandle` where the name is free, or 4096 or more, and `Doomed` where its object is doomed.
+    /// An object without parts takes 39 folder calls at most where its record is the first of its chain. After a fault
+    /// nothing is promised of the cache but that it may be let go.
+    pub(crate) fn doom<F: Folder>(&mut self, f: &mut F, handle: u16) -> Result<Answer, Fault>
+        requires is_open { ForSome (F.told f.old).files (IsOpen self.old.files) }
+        ensures does { (moment : ℕ) → IfOk result (λ answer. Does (KeepsState self.old) (KeepsState self.new) (F.told f.old) (F.told f.new) moment (to_doom handle) answer) }
+        ensures stops { (moment : ℕ) → MayStopAtEach (KeepsState self.old) (F.told f.old) (F.told f.new) moment (to_doom handle) }
+
+        // What the name is bound to is refused on every folder, and a refusal does nothing.
+        ensures refuses { IfSome (doom_refusal self.old.handles handle) (λ why. result ≡ Ok (answer.Refused why)) }
+        ensures quiet { IfOk result (λ answer. IsRefused answer → Stays (F.told f.old) (F.told f.new)) }
+        ensures unchanged { IfOk result (λ answer. IsRefused answer → self.new ≡ self.old) }
+
+        ensures is_open { ForSome (F.told f.new).files (IsOpen self.new.files) }
+        ensures has_line { IfOk result HasLine }
+        ensures notes { self.new.notes ≡ self.old.notes }
+
+        // A folder that tells its files gives no damage where the cache keeps a state.
+        ensures untold { ForSome (F.told f.old).files (KeepsAny self.old) → IfDamaged result (λ _. (F.told f.old).files ≡ None) }
+        ensures silent { (F.told f.old).files ≡ None → (F.told f.new).files ≡ None }
+        ensures later { F.faults f.old ≤ F.faults f.new }
+        ensures device { IfDevice result (Rises (F.faults f.old) (F.faults f.new)) }
+    {
+        let Some(object) = self.handles.object(handle) else {
+            return Ok(Answer::Refused(Refusal::BadHandle));
+        };
+        if object.doomed {
+            return Ok(Answer::Refused(Refusal::Doomed));
+        }
+        self.doom_open(f, object.entry, object.node)?;
+        Ok(Answer::Done)
+    }
+
+    /// Dooms the live object with a key: an open one as `doom` does, and of another all goes, with its parts.
+    ///
+    /// It is refused with `BadKey` where the key has no bytes or more than 32768, and `Missing` where no live object has
+    /// the key. After a fault nothing is promised of the cache but that it may be let go.
+    pub(crate) fn doom_key<F: Folder>(&mut self, f: &mut F, key: &[u8]) -> Result<Answer, Fault>
+        requires is_open { ForSome (F.told f.old).files (IsOpen self.old.files) }
+        ensures does { (moment : ℕ) → IfOk result (λ answer. Does (KeepsState self.old) (KeepsState self.new) (F.told f.old) (F.told f.new) moment (to_doom_key key.now) answer) }
+        ensures stops { (moment : ℕ) → MayStopAtEach (KeepsState self.old) (F.told f.old) (F.told f.new) moment (to_doom_key key.now) }
+
+        // A key that is none is refused on every folder, and a refusal does nothing.
+        ensures refuses { IsTrue (no_key key.now) → result ≡ Ok (answer.Refused refusal.BadKey) }
+        ensures quiet { IfOk result (λ answer. IsRefused answer → Stays (F.told f.old) (F.told f.new)) }
+        ensures unchanged { IfOk result (λ answer. IsRefused answer → self.new ≡ self.old) }
+
+        ensures is_open { ForSome (F.told f.new).files (IsOpen self.new.files) }
+        ensures has_line { IfOk result HasLine }
+        ensures notes { self.new.notes ≡ self.old.notes }
+
+        // A folder that tells its files gives no damage where the cache keeps a state.
+        ensures untold { ForSome (F.told f.old).files (KeepsAny self.old) → IfDamaged result (λ _. (F.told f.old).files ≡ None) }
+        ensures silent { (F.told f.old).files ≡ None → (F.told f.new).files ≡ None }
+        ensures later { F.faults f.old ≤ F.faults f.new }
+        ensures device { IfDevice result (Rises (F.faults f.old) (F.faults f.new)) }
+    {
+        if is_no_key(key) {
+            return Ok(Answer::Refused(Refusal::BadKey));
+        }
+        let Some(target) = find_target(f, &self.files, key)? else {
+            return Ok(Answer::Refused(Refusal::Missing));
+        };
+        self.doom_found(f, &target, key)?;
+        Ok(Answer::Done)
+    }
+
+    // Dooms a live object that a handle names, by its record and its node.
+    fn doom_open<F: Folder>(&mut self, f: &mut F, entry: Addr, node: Addr) -> Result<(), Fault>
+        requires names { IsTrue (is_record_among self.old.files entry) }
+        requires node { IsTrue (is_node_among self.old.files node) }
+        requires is_open { ForSome (F.told f.old).files (IsOpen self.old.files) }
+        ensures dooms { OnOk result (ForSome (F.told f.old).files (λ from. ForEachOpen self.old node entry from (λ state number object. ForSome (F.told f.new).files (KeepsState self.new (doomed number state (Some object)))))) }
+        ensures stops { ForSome (F.told f.old).files (λ from. ForEachOpen self.old node entry from (λ state number object. Passes (F.told f.old) (F.told f.new) (FindsEither state (doomed number state (Some object))))) }
+        ensures is_open { ForSome (F.told f.new).files (IsOpen self.new.files) }
+        ensures notes { self.new.notes ≡ self.old.notes }
+        ensures untold { ForSome (F.told f.old).files (λ from. ForEachOpen self.old node entry from (λ state number object. IfDamaged result (λ _. (F.told f.old).files ≡ None))) }
+        ensures silent { (F.told f.old).files ≡ None → (F.told f.new).files ≡ None }
+        ensures later { F.faults f.old ≤ F.faults f.new }
+        ensures device { IfDevice result (Rises (F.faults f.old) (F.faults f.new)) }
+    {
+        let gone = doom_named(f, &self.files, &mut self.name, entry, node)?;
+        self.count_doomed(entry, &gone);
+        Ok(())
+    }
+
+    // Dooms a live object with a key, as it was found.
+    fn doom_found<F: Folder>(
+        &mut self,
+        f: &mut F,
+        target: &Target,
+        key: &[u8],
+    ) -> Result<(), Fault>
+        requires short { length key.now ≤ longest_key }
+        requires node { IsTrue (is_node_among self.old.files target.now.node) }
+        requires kind { kind_of target.now.found.entry ≡ blocks_256 }
+        requires stands { IsTrue (stands_among self.old.files target.now.found.entry) }
+        requires kind_before { IfSome target.now.found.before (λ before. kind_of before ≡ blocks_256) }
+        requires stands_before { IfSome target.now.found.before (λ before. IsTrue (stands_among self.old.files before)) }
+        requires is_open { ForSome (F.told f.old).files (IsOpen self.old.files) }
+        ensures dooms { OnOk result (ForSome (F.told f.old).files (λ from. ForEachKept self.old key.now target.now from (λ state number object. ForSome (F.told f.new).files (KeepsState self.new (doomed number state (Some object)))))) }
+        ensures stops { ForSome (F.told f.old).files (λ from. ForEachKept self.old key.now target.now from (λ state number object. Passes (F.told f.old) (F.told f.new) (FindsEither state (doomed number state (Some object))))) }
+        ensures is_open { ForSome (F.told f.new).files (IsOpen self.new.files) }
+        ensures notes { self.new.notes ≡ self.old.notes }
+        ensures untold { ForSome (F.told f.old).files (λ from. ForEachKept self.old key.now target.now from (λ state number object. IfDamaged result (λ _. (F.told f.old).files ≡ None))) }
+        ensures silent { (F.told f.old).files ≡ None → (F.told f.new).files ≡ None }
+        ensures later { F.faults f.old ≤ F.faults f.new }
+        ensures device { IfDevice result (Rises (F.faults f.old) (F.faults f.new)) }
+    {
+        let entry = target.found.entry;
+        let is_held = self.handles.is_pinned(entry);
+        let gone = doom_target(f, &self.files, target, key, &mut self.name, is_held)?;
+        self.count_doomed(entry, &gone);
+        Ok(())
+    }
+
+    // Counts what went of a doomed object no longer, and marks the object as doomed where it is open.
+    fn count_doomed(&mut self, entry: Addr, gone: &Gone)
+        ensures counts { CountsDoomed self.old self.new entry gone.now }
+    {
+        self.handles.doom_entry(entry);
+        self.items = self.items.saturating_sub(gone.items);
+        self.bytes = self.bytes.saturating_sub(gone.bytes);
+    }
+}
