@@ -42,3 +42,4 @@ pub mod WrittenWords
 pub mod WrittenStored
 pub mod WrittenStages
 pub mod StreamsThere
+pub mod WriteChecks
