@@ -40,4 +40,5 @@ pub mod WritingPlaces
 pub mod WrittenWords
 pub mod WrittenStored
 pub mod WrittenStages
+pub mod WrittenCalls
 pub mod StreamsThere
