@@ -41,4 +41,6 @@ pub mod WritingPlaces
 pub mod WrittenWords
 pub mod WrittenStored
 pub mod WrittenStages
+pub mod WrittenCalls
 pub mod StreamsThere
+pub mod WriteChecks
