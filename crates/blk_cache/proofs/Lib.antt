@@ -45,3 +45,7 @@ pub mod ReadSteps
 pub mod PrintedReads
 pub mod WholeGroups
 pub mod TrimSteps
+pub mod ChangedObjects
+pub mod Unsettles
+pub mod UnsettleSteps
+pub mod WriteRoom

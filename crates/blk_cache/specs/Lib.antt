@@ -20,3 +20,6 @@ pub mod Closing
 pub mod Asking
 pub mod Reading
 pub mod ReadPrinting
+pub mod Unsettling
+pub mod Writing
+pub mod WritingLaws
