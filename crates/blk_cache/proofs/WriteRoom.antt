@@ -135,11 +135,11 @@ module _ (state : State) (moment handle stream offset : ℕ) (cut : Bool) (bytes
   abbrev base : State
   base = with_room state moment (to_write handle stream offset cut bytes)
 
-  bound : names_none state handle ≡ false
+  pub bound : names_none state handle ≡ false
   unfolding refusals
   bound = let p = none_comes (refusals moment (to_write handle stream offset cut bytes) state) passes in p.0
 
-  kept-apart : is_kept_from_streams state handle stream ≡ false
+  pub kept-apart : is_kept_from_streams state handle stream ≡ false
   unfolding refusals
   kept-apart = let p = none_comes (refusals moment (to_write handle stream offset cut bytes) state) passes in p.1.1.1.0
 
@@ -151,10 +151,10 @@ module _ (state : State) (moment handle stream offset : ℕ) (cut : Bool) (bytes
   unfolding evicted
   evicts = refl
 
-  abbrev first : Named state handle
+  abbrev pub first : Named state handle
   first = named_object state valid handle bound
 
-  first-names : Names state handle first.number first.object
+  pub first-names : Names state handle first.number first.object
   first-names = record { names = first.by_name; here = first.here }
 
   loose : AllByRecursion (IsLoose (is_pinned state [])) (evicted moment (to_write handle stream offset cut bytes) state)
@@ -171,7 +171,7 @@ module _ (state : State) (moment handle stream offset : ℕ) (cut : Bool) (bytes
     pub ready-apart : (is_sparse object.shape && nat_lt 0 stream) ≡ false
     ready-apart = ap (λ (o : Object). is_sparse o.shape && nat_lt 0 stream) left-is ∙ its-stream state handle stream first.number first.object first-names kept-apart
 
-    same-stream : stream_of object stream ≡ stream_of first.object stream
+    pub same-stream : stream_of object stream ≡ stream_of first.object stream
     same-stream = ap (λ (o : Object). stream_of o stream) left-is
 
     abbrev before : ℕ
