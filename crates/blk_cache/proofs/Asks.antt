@@ -70,7 +70,7 @@ handle-bound cache handle stream passes = by (binding_of cache.handles handle) r
 
 module _ (cache : Cache) (state : State) (image : Image) (k : KeepsState cache state image) (handle stream : ℕ) where
   -- a handle names no object where its name is free
-  none-named : names_none state handle ≡ is_none (binding_of cache.handles handle)
+  pub none-named : names_none state handle ≡ is_none (binding_of cache.handles handle)
   none-named = by (no_name handle) refl ∙ none-not (named_by state handle) ∙ ap not (sym (busy cache state image k handle)) ∙ sym (none-not (binding_of cache.handles handle)) where
     by : (t : Bool) → no_name handle ≡ t → (no_name handle || is_none (named_by state handle)) ≡ is_none (named_by state handle)
     by true e =

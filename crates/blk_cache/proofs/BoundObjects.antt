@@ -99,7 +99,7 @@ module _ (state : State) (layout : Layout) (unlinked : List ℕ) (image : Image)
       one-object m n of-m.object of-n.object of-m.here of-n.here (one-node (node_of_object layout m of-m.object) (node_of_object layout n of-n.object) of-m.loaded of-n.loaded of-m.at of-n.at (sym of-m.entry ∙ same ∙ of-n.entry))
 
   -- and those of one object have one record
-  same-entry : (n : ℕ) (b d : Binding) → IsBoundTo state layout n b → IsBoundTo state layout n d → b.entry ≡ d.entry
+  pub same-entry : (n : ℕ) (b d : Binding) → IsBoundTo state layout n b → IsBoundTo state layout n d → b.entry ≡ d.entry
   same-entry n b d one two =
       let objects : one.object ≡ two.object = some_inj (sym one.here ∙ two.here) in
       let loads : one.loaded ≡ two.loaded = some_inj (sym one.at ∙ ap (λ (o : Object). layout.at (node_of_object layout n o)) objects ∙ two.at) in

@@ -1,5 +1,5 @@
 -- A Close of a cache that keeps a state.
-use Rattle.std.proofs.Common.{◌≡◌, ◌≢◌, ℕ, zero, suc, ◌+◌, ◌-◌, ◌<◌, Bool, true, false, List, [], ◌∷◌, length, length-set, set, get_or, get_or-set_other, Option, Some, None, refl, sym, ap, subst, ◌∙◌, arith, cond}
+use Rattle.std.proofs.Common.{◌≡◌, ◌≢◌, ℕ, zero, suc, ◌+◌, ◌-◌, ◌<◌, ◌≤◌, Bool, true, false, List, [], ◌∷◌, length, length-set, set, get_or, get_or-set_other, Option, Some, None, refl, sym, ap, subst, ◌∙◌, arith, cond}
 use Rattle.std.specs.Prelude.{◌==◌, IfSome, if◌then◌else◌, sum_by}
 use Rattle.std.proofs.lemmas.Bool.{eqb-true}
 use Rattle.blk_image.specs.Image.{Image, Index, byte}
@@ -137,6 +137,7 @@ module _ (cache : Cache) (state : State) (from : Image) (k : KeepsState cache st
     limits : new.limits ≡ cache.limits
     items_are : new.items ≡ items next
     bytes_are : new.bytes ≡ total next
+    fewer : items next ≤ items state
     files : new.files ≡ cache.files
     mark : new.mark ≡ cache.mark
     handles : new.handles ≡ bindings
@@ -152,6 +153,7 @@ module _ (cache : Cache) (state : State) (from : Image) (k : KeepsState cache st
         limits = limits ∙ k.limits ∙ ap bounds_of (sym so.limits);
         items_are = so.items_are;
         bytes_are = so.bytes_are;
+        few = (let fewer = so.fewer in let few = k.few in omega (arith, fewer, few));
         open_objects = ap open_count so.handles ∙ left.objects ∙ ap length (sym same-named);
         open_bytes = left.bytes ∙ ap (λ (l : List Object). sum_by own_charge l) (sym same-named);
         names = λ name. subst (λ (bs : Bindings). IsBoundAs next layout (named_by next name) (binding_of bs name)) (sym so.handles) (names name);
@@ -166,6 +168,7 @@ module _ (cache : Cache) (state : State) (from : Image) (k : KeepsState cache st
     limits = others.limits;
     items_are = others.items ∙ k.items_are ∙ sym same-items;
     bytes_are = others.bytes ∙ k.bytes_are ∙ sym same-total;
+    fewer = omega (arith, same-items);
     files = others.files;
     mark = others.mark;
     handles = frees;
@@ -301,6 +304,7 @@ module _ (cache : Cache) (state : State) (from : Image) (k : KeepsState cache st
           limits = counts.limits;
           items_are = omega (arith, one, items-was, items-now);
           bytes_are = omega (arith, bytes, bytes-was, bytes-now);
+          fewer = omega (arith, one);
           files = counts.files;
           mark = counts.mark;
           handles = frees;

@@ -240,6 +240,7 @@ module _ (cache : Cache) (state : State) (from image : Image) (k : KeepsState ca
           limits = limits-after state handle key ∙ k.limits ∙ ap bounds_of (sym limits-now);
           items_are = omega (arith, few, items-was, items-now, items-next);
           bytes_are = omega (arith, room, most, limit, bytes-was, bytes-now, total-next);
+          few = omega (arith, few, items-next);
           open_objects = omega (arith, counted, count-was, one);
           open_bytes = omega (arith, room, most, limit, open-was, open-now, own, all, two);
           names = λ name. subst (λ (bs : Bindings). IsBoundAs next layout (named_by next name) (binding_of bs name)) (sym binds-new) (names-now name);

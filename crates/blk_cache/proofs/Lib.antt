@@ -54,3 +54,7 @@ pub mod Dooms
 pub mod DoomSteps
 pub mod FoundTargets
 pub mod OpenTargets
+pub mod ChangedObjects
+pub mod Unsettles
+pub mod UnsettleSteps
+pub mod WriteRoom

@@ -36,6 +36,7 @@ kept-on old new state image same k = record {
   limits = k.limits ∙ ap bounds_of (sym same.limits);
   items_are = same.items ∙ k.items_are;
   bytes_are = same.bytes ∙ k.bytes_are;
+  few = k.few;
   open_objects = ap open_count same.handles ∙ k.open_objects;
   open_bytes = same.open_bytes ∙ k.open_bytes;
   names = λ name. subst (λ (bs : Bindings). IsBoundAs state k.layout (named_by state name) (binding_of bs name)) (sym same.handles) (k.names name);

@@ -165,6 +165,7 @@ module _ (cache : Cache) (state : State) (from : Image) (k : KeepsState cache st
             limits = k.limits ∙ ap bounds_of (sym others.limits);
             items_are = others.items ∙ k.items_are;
             bytes_are = others.bytes ∙ k.bytes_are;
+            few = k.few;
             open_objects = ap open_count binds ∙ open_.objects;
             open_bytes = open_.bytes;
             names = λ name. subst (λ (bs : Bindings). IsBoundAs next k.layout (named_by next name) (binding_of bs name)) (sym binds)

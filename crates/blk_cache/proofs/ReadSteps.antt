@@ -88,6 +88,7 @@ keeps-in-order cache state from image k uses keeps files id =
       limits = k.limits;
       items_are = k.items_are;
       bytes_are = k.bytes_are;
+      few = k.few;
       open_objects = k.open_objects ∙ ap length (sym same);
       open_bytes = subst (λ (l : List Object). cache.open_bytes ≡ sum_by own_charge l) (sym same) k.open_bytes;
       names = λ name. in-order-as state k.layout uses (named_by state name) (binding_of cache.handles name) (k.names name);

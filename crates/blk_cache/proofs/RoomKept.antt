@@ -126,6 +126,7 @@ evicted-kept state front item behind there old new from image k is gone =
     let fewer_bytes = gone.fewer.bytes_less in
     let items_were = k.items_are in
     let bytes_were = k.bytes_are in
+    let few = k.few in
     record {
       layout_is = refl;
       kept = record {
@@ -134,6 +135,7 @@ evicted-kept state front item behind there old new from image k is gone =
         limits = limits-left state (group_for item front) ∙ k.limits ∙ ap bounds_of (sym gone.fewer.limits);
         items_are = omega (arith, less_items, fewer_items, items_were);
         bytes_are = omega (arith, less_bytes, fewer_bytes, bytes_were);
+        few = omega (arith, less_items, few);
         open_objects = ap open_count gone.fewer.handles ∙ k.open_objects ∙ sym same.0;
         open_bytes = gone.fewer.open_bytes ∙ k.open_bytes ∙ sym same.1;
         names = λ name. subst (λ (o : Option ℕ). IsBoundAs (without (group_for item front ∷ []) state) there o (binding_of new.handles name)) (names-left state (group_for item front) name)

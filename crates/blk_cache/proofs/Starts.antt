@@ -16,7 +16,7 @@ use Rattle.blk_cache.specs.declared.opening.Opened.{Opened}
 use Rattle.blk_cache.specs.BoundNames.{AreAllFree, AreBoundAmong}
 use Rattle.blk_cache.specs.CacheKeeping.{IsBoundAs, KeepsState, named_objects}
 use Rattle.blk_cache.specs.Opened.{IsOpenedAs}
-use Rattle.blk_cache.proofs.Unnamed.{none-bound, none-named, none-open, opened-names, opened-unnamed}
+use Rattle.blk_cache.proofs.Unnamed.{few-unnamed, none-bound, none-named, none-open, opened-names, opened-unnamed}
 
 pub all-free : (bindings : Bindings) → bindings ≡ all_free → AreAllFree bindings
 all-free bindings is name = ap (λ (bs : Bindings). binding_of bs name) is ∙ none-bound name
@@ -49,6 +49,7 @@ started cache opened from image free i b o f m left =
       limits = opened-limits from bounds state refl;
       items_are = i ∙ left.items_are bounds;
       bytes_are = b ∙ left.bytes_are bounds;
+      few = few-unnamed state k.0 [] image k.1.entries (opened-unnamed (found from) bounds);
       open_objects = ap open_count free ∙ none-open ∙ sym (ap length none);
       open_bytes = o ∙ sym (ap (λ (l : List Object). sum_by own_charge l) none);
       names = λ name. unbound state k.0 (named_by state name) (binding_of cache.handles name) (opened-names (found from) bounds name) (all-free cache.handles free name);

@@ -1,10 +1,21 @@
 -- What no handle names, and names that are free.
-use Rattle.std.proofs.Common.{◌≡◌, ℕ, zero, suc, ◌+◌, Bool, true, false, ◌&&◌, List, [], ◌∷◌, Option, Some, None, IfSome, get_or, replicate, refl, sym, ◌∙◌}
+use Rattle.std.proofs.Common.{◌≡◌, ℕ, zero, suc, ◌+◌, ◌≤◌, Bool, true, false, not, ◌&&◌, cond, List, [], ◌∷◌, length, map, Option, Some, None, IfSome, get_or, replicate, refl, sym, ap, ◌∙◌, arith}
+use Rattle.std.specs.List.{count_by, filter_map, cons_option}
+use Rattle.std.proofs.lemmas.Bool.{and_parts}
+use Rattle.std.proofs.lemmas.List.{length-map}
+use Rattle.std.proofs.lemmas.List.Sums.{sum_by-cons}
 use Rattle.std.specs.List.{list_any}
 use Rattle.blk_model.specs.Sizes.{handle_names}
-use Rattle.blk_model.specs.Items.{Row}
+use Rattle.blk_model.specs.Items.{Item, Row}
 use Rattle.blk_model.specs.State.{State, Object, Bounds, IsValidState, is_named, is_number, named_by, object_at}
-use Rattle.blk_model.specs.Holding.{open_state}
+use Rattle.blk_model.specs.Holding.{open_state, row_of, rows}
+use Rattle.blk_model.specs.Room.{items}
+use Rattle.blk_model.specs.Sizes.{most_items}
+use Rattle.blk_model.specs.Totals.{is_doomed_slot}
+use Rattle.blk_model.proofs.Sums.{totals_are_sums}
+use Rattle.blk_image.specs.Image.{Image}
+use Rattle.blk_volume.specs.Layout.{Layout, order}
+use Rattle.blk_kept.specs.Keeping.{KeepsUncounted}
 use Rattle.blk_kept.specs.KeepingLaws.{AllAreAtRest}
 use Rattle.blk_handles.specs.Bindings.{Binding, all_free, binding_of, distinct_count, entries_of, open_count}
 use Rattle.blk_cache.specs.CacheKeeping.{named_from, named_objects}
@@ -63,3 +74,31 @@ unnamed-rests state valid all number = go (object_at state number) (valid.held n
   go : (o : Option Object) → IfSome o (λ object. (object.live && object.settled ≡ false) → is_named state number ≡ true) → IfSome o (λ object. (object.live && object.settled) ≡ true)
   go None h = tt
   go (Some object) h = both (object.live && object.settled) h
+
+-- so it has no more items than it lists
+no-doomed : (slots : List (Option Object)) → ((n : ℕ) → IfSome (get_or slots n None) (λ object. (object.live && object.settled) ≡ true)) → count_by is_doomed_slot slots ≡ 0
+no-doomed [] all = refl
+no-doomed (None ∷ slots) all = no-doomed slots (λ n. all (suc n))
+no-doomed (Some object ∷ slots) all =
+    let live : object.live ≡ true = (and_parts object.live object.settled (all 0)).0 in
+    let rest = no-doomed slots (λ n. all (suc n)) in
+    let sum = sum_by-cons (λ (slot : Option Object). cond (is_doomed_slot slot) 1 0) (Some object) slots in
+    let none : ◌≡◌ {A = ℕ} (cond (is_doomed_slot (Some object)) 1 0) 0 = ap (λ (b : Bool). cond {A = ℕ} (not b) 1 0) live in
+    omega (arith, rest, sum, none)
+
+rows-few : (f : Item → Option Row) (uses : List Item) → length (filter_map f uses) ≤ length uses
+rows-few f [] = omega arith
+rows-few f (item ∷ uses) = go (f item) (rows-few f uses) where
+  go : (o : Option Row) → length (filter_map f uses) ≤ length uses → length (cons_option o (filter_map f uses)) ≤ length (item ∷ uses)
+  go None few = omega (arith, few)
+  go (Some row) few = omega (arith, few)
+
+pub few-unnamed : (state : State) (layout : Layout) (unlinked : List ℕ) (image : Image) → KeepsUncounted state layout unlinked image → ((n : ℕ) → is_named state n ≡ false) → items state ≤ most_items
+unfolding rows
+few-unnamed state layout unlinked image k none =
+    let sum = (totals_are_sums state k.valid).count in
+    let dead = no-doomed state.objects (unnamed-rests state k.valid none) in
+    let rows_few = rows-few (row_of state) state.uses in
+    let long = length-map state.uses layout.place in
+    let few = k.represents.list.few in
+    omega (arith, sum, dead, rows_few, long, few)

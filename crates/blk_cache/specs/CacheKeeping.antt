@@ -1,5 +1,5 @@
 -- When a cache keeps a state of the map on an image.
-use Rattle.std.specs.Prelude.{◌≡◌, ℕ, ◌+◌, not, List, [], ◌∷◌, length, sum_by, if◌then◌else◌}
+use Rattle.std.specs.Prelude.{◌≡◌, ◌≤◌, ℕ, ◌+◌, not, List, [], ◌∷◌, length, sum_by, if◌then◌else◌}
 use Rattle.std.specs.declared.option.Option.{Option}
 use Rattle.std.specs.declared.option.Option.TheVariants.{None, Some}
 use Rattle.blk_image.specs.Image.{Image, Index, byte}
@@ -7,6 +7,7 @@ use Rattle.blk_model.specs.Items.{main}
 use Rattle.blk_model.specs.State.{Object, State, is_named, named_by, object_at}
 use Rattle.blk_model.specs.Bounds.{bounds_of}
 use Rattle.blk_model.specs.Room.{items, own_charge, total}
+use Rattle.blk_model.specs.Sizes.{most_items}
 use Rattle.blk_format.specs.Headers.{this_id_of}
 use Rattle.blk_volume.specs.Layout.{Layout}
 use Rattle.blk_volume.specs.Loads.{Loaded}
@@ -64,6 +65,8 @@ pub record KeepsState (cache : Cache) (state : State) (image : Image) : Type 0 w
   pub limits : state.limits ≡ bounds_of cache.limits
   pub items_are : cache.items ≡ items state
   pub bytes_are : cache.bytes ≡ total state
+  -- and they are no more items than any cache may keep, whatever its own limit is
+  pub few : items state ≤ most_items
   -- so many objects have a name, with these charges as main items
   pub open_objects : open_count cache.handles ≡ length (named_objects state)
   pub open_bytes : cache.open_bytes ≡ sum_by own_charge (named_objects state)

@@ -21,3 +21,6 @@ pub mod Asking
 pub mod Reading
 pub mod ReadPrinting
 pub mod Dooming
+pub mod Unsettling
+pub mod Writing
+pub mod WritingLaws

@@ -31,6 +31,8 @@ mod starting;
 mod stepping;
 mod total;
 mod trim;
+mod unsettling;
+mod write;
 
 pub use cache::Cache;
 pub use create_laws::creates_have_room;

@@ -62,7 +62,7 @@ impl Cache {
 }
 
 // Whether a number and one more exceed a limit.
-fn exceeds(number: u64, more: u64, most: u64) -> bool
+pub(crate) fn exceeds(number: u64, more: u64, most: u64) -> bool
     requires small { most < 2 ^ 63 }
     ensures { result ≡ nat_lt most (number + more) }
 {

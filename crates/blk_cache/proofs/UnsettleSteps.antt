@@ -1,0 +1,120 @@
+-- An object of a handle is unsettled, from the moments of its dirty word.
+use Rattle.std.proofs.Common.{◌≡◌, ℕ, ◌<◌, ◌^◌, Bool, true, false, not, [], inl, Option, Some, None, Result, refl, sym, ap, subst, ◌∙◌}
+use Rattle.std.specs.Prelude.{◌⊎◌, ◌==◌, IfSome, IsSome, OnOk, if◌then◌else◌}
+use Rattle.std.specs.Option.{ForSome, option_map}
+use Rattle.blk_image.specs.Image.{Image, Index, byte}
+use Rattle.blk_image.specs.Told.{Applies, Passes, TellsBytes, Told}
+use Rattle.blk_image.proofs.Words.{word-fits}
+use Rattle.blk_image.proofs.Runs.{passes_none, passes_weaker, some_inj}
+use Rattle.blk_io.specs.declared.fault.Fault.{Fault}
+use Rattle.blk_model.specs.Holding.{rest}
+use Rattle.blk_model.specs.State.{Object, State}
+use Rattle.blk_format.specs.BlockFiles.{IsWellFormed}
+use Rattle.blk_format.specs.Sealed.{RecordChecks}
+use Rattle.blk_volume.specs.View.{list_of}
+use Rattle.blk_laws.specs.CommandLaws.{marked}
+use Rattle.blk_disk.specs.declared.tables.BlockFiles.{BlockFiles}
+use Rattle.blk_disk.specs.Open.{IsOpen}
+use Rattle.blk_disk.specs.Tables.{is_node_among, is_record_among}
+use Rattle.blk_lru.proofs.NodeWords.{node_kind}
+use Rattle.blk_entry.specs.Marks.{SetsDirty, mark_steps}
+use Rattle.blk_handles.specs.Bindings.{Binding, Bindings, binding_of, with_change, with_status}
+use Rattle.blk_handles.proofs.BindingLemmas.{binding_of-change}
+use Rattle.blk_kept.specs.Changes.{Finds}
+use Rattle.blk_kept.specs.OneCallLaws.{Names}
+use Rattle.blk_kept.specs.RecordLaws.{IsMarked, IsMarking}
+use Rattle.blk_kept.proofs.Keeping.{kept-found}
+use Rattle.blk_kept_calls.proofs.Marks.{being-set, check-as-records, marks-set, nodes-check}
+use Rattle.blk_cache.specs.declared.cache.Cache.{Cache}
+use Rattle.blk_cache.specs.BoundNames.{AreBoundAmong}
+use Rattle.blk_cache.specs.CacheKeeping.{IsBoundTo, KeepsState}
+use Rattle.blk_cache.specs.CommandClauses.{KeepsAny, OnlyNamesChange}
+use Rattle.blk_cache.specs.Unsettling.{ForEachNamed}
+use Rattle.blk_cache.proofs.BoundObjects.{number-of}
+use Rattle.blk_cache.proofs.ChangedObjects.{bound-to, its-object}
+use Rattle.blk_cache.proofs.Unsettles.{at-node, marked-same, node-is, unsettled-keeps, unsettling-finds}
+
+-- what is at rest is found, before and after
+abbrev Either : State → ℕ → Object → Image → Type 0
+Either state number object image = Finds (rest state) image ⊎ Finds (rest (marked state number object false)) image
+
+-- ---- names
+
+-- names with other marks stand where they stood
+pub change-stands : (files : BlockFiles) (bindings : Bindings) (doomed dirty : Bool) (entry : ℕ) → AreBoundAmong files bindings → AreBoundAmong files (with_change (with_status doomed dirty) entry bindings)
+change-stands files bindings doomed dirty entry stand name binding is = by (binding_of bindings name) refl (sym (binding_of-change (with_status doomed dirty) entry bindings name) ∙ is) where
+  with-marks : (d : Binding) (t : Bool) → (is_node_among files d.node ≡ true) × (is_record_among files d.entry ≡ true) → (is_node_among files (if t then with_status doomed dirty d else d).node ≡ true) × (is_record_among files (if t then with_status doomed dirty d else d).entry ≡ true)
+  with-marks d true both = both
+  with-marks d false both = both
+
+  by : (o : Option Binding) → binding_of bindings name ≡ o → option_map (λ (z : Binding). if entry == z.entry then with_status doomed dirty z else z) o ≡ Some binding → (is_node_among files binding.node ≡ true) × (is_record_among files binding.entry ≡ true)
+  by None e h = absurd (let c : ◌≡◌ {A = Option Binding} None (Some binding) = h in cc)
+  by (Some d) e h = subst (λ (z : Binding). (is_node_among files z.node ≡ true) × (is_record_among files z.entry ≡ true)) (some_inj h) (with-marks d (entry == d.entry) (stand name d e))
+
+-- the names of an object with a bound name get marks
+pub change-is : (bindings new : Bindings) (handle : ℕ) (b : Binding) → binding_of bindings handle ≡ Some b → (doomed dirty : Bool) → IfSome (binding_of bindings handle) (λ object. new ≡ with_change (with_status doomed dirty) object.entry bindings) → new ≡ with_change (with_status doomed dirty) b.entry bindings
+change-is bindings new handle b bound doomed dirty says = subst (λ (o : Option Binding). IfSome o (λ object. new ≡ with_change (with_status doomed dirty) object.entry bindings)) bound says
+
+-- a bound name stays bound
+pub change-bound : (bindings : Bindings) (change : Binding → Binding) (entry name : ℕ) → IsSome (binding_of bindings name) → IsSome (binding_of (with_change change entry bindings) name)
+change-bound bindings change entry name some = subst (λ (o : Option Binding). IsSome o) (sym (binding_of-change change entry bindings name)) (by (binding_of bindings name) some) where
+  by : (o : Option Binding) → IsSome o → IsSome (option_map (λ (z : Binding). if entry == z.entry then change z else z) o)
+  by None e = absurd (let c : false ≡ true = e in cc)
+  by (Some d) e = refl
+
+-- ---- the object
+
+module _ (cache : Cache) (handle : ℕ) (b : Binding) (bound : binding_of cache.handles handle ≡ Some b) where
+  -- one that isn't settled stays as it is
+  module _ (loose : b.dirty ≡ true) (told : Told) where
+    its-loose : (from : Image) (state : State) (number : ℕ) (object : Object) → KeepsState cache state from → Names state handle number object → object.settled ≡ false
+    its-loose from state number object k names =
+        let it : IsBoundTo state k.layout number b = bound-to cache state from k handle number object names b bound in
+        not-true object.settled (sym loose ∙ it.dirty ∙ ap (λ (o : Object). not o.settled) (its-object cache state from k handle number object names b it))
+      where
+        not-true : (t : Bool) → true ≡ not t → t ≡ false
+        not-true false e = refl
+        not-true true e = e
+
+    pub loose-keeps : ForSome told.files (λ from. ForEachNamed cache handle from (λ state number object. ForSome told.files (KeepsState cache (marked state number object false))))
+    loose-keeps from here state number object k names i there =
+        subst (KeepsState cache (marked state number object false)) (some_inj (sym here ∙ there))
+        (subst (λ (s : State). KeepsState cache s from) (sym (marked-same state number object names.here (its-loose from state number object k names))) k)
+
+    pub loose-stops : ForSome told.files (λ from. ForEachNamed cache handle from (λ state number object. Passes told told (Either state number object)))
+    loose-stops from here state number object k names =
+        passes_none (Either state number object) refl (λ i there. inl (subst (λ (z : Image). Finds (rest state) z) (some_inj (sym here ∙ there)) (k.kept.entries.well_formed, kept-found state k.layout [] from k.kept.entries)))
+
+  -- its node checks
+  module _ (old : Told) (bytes : TellsBytes old) (stands : is_node_among cache.files b.node ≡ true) where
+    node-good : (from : Image) (state : State) (number : ℕ) (object : Object) (k : KeepsState cache state from) → Names state handle number object → (list_of from).checks b.node ≡ true
+    node-good from state number object k names =
+        let it : IsBoundTo state k.layout number b = bound-to cache state from k handle number object names b bound in
+        nodes-check state k.layout [] from b.node it.loaded k.kept.entries
+        (ap k.layout.at (node-is cache state from k handle number object names b bound) ∙ at-node cache state from k handle number object names b bound)
+
+    node-checks : (from : Image) → old.files ≡ Some from → (state : State) (number : ℕ) (object : Object) (k : KeepsState cache state from) → Names state handle number object → RecordChecks b.node from
+    node-checks from here state number object k names = check-as-records from b.node (bytes from here) (node_kind cache.files b.node stands) (node-good from state number object k names)
+
+    pub node-may : ForSome old.files (KeepsAny cache) → ForSome old.files (RecordChecks b.node)
+    node-may any from here =
+        let one : KeepsAny cache from = any from here in
+        let n = number-of one.0 one.1.layout [] from one.1.kept.entries one.0.names cache.handles one.1.names handle b bound in
+        node-checks from here one.0 n.0 n.2.object one.1 (record { names = n.1; here = n.2.here })
+
+    module _ {A : Type 0} (now : Told) (result : Result A Fault) (sets : SetsDirty cache.files old now b.node cache.mark result) where
+      pub mark-stops : ForSome old.files (λ from. ForEachNamed cache handle from (λ state number object. Passes old now (Either state number object)))
+      mark-stops from here state number object k names =
+          let checks : ForSome old.files (RecordChecks b.node) = λ i there. subst (RecordChecks b.node) (some_inj (sym here ∙ there)) (node-checks from here state number object k names) in
+          let run : Passes old now (IsMarking from b.node cache.mark) = being-set b.node cache.mark old now checks sets.stops from here in
+          let may : (i : Image) → IsMarking from b.node cache.mark i → Either state number object i = λ i m. unsettling-finds cache state from k handle number object names b bound i m in
+          passes_weaker run may may
+
+      module _ (ok : (P : Type 0) → OnOk result P → P) (still : ForSome now.files (IsOpen cache.files)) (new : Cache) (changes : new.handles ≡ with_change (with_status b.doomed true) b.entry cache.handles) (others : OnlyNamesChange cache new) (charged : new.open_bytes ≡ cache.open_bytes) where
+        pub mark-keeps : ForSome old.files (λ from. ForEachNamed cache handle from (λ state number object. ForSome now.files (KeepsState new (marked state number object false))))
+        mark-keeps from here state number object k names i there =
+            let small : cache.mark < 2 ^ 32 = subst (λ (n : ℕ). n < 2 ^ 32) (sym k.mark) (word-fits (byte from Index) (bytes from here Index) 20) in
+            let well = λ (z : Image) (at : old.files ≡ Some z). subst IsWellFormed (some_inj (sym here ∙ at)) k.kept.entries.well_formed in
+            let good = λ (z : Image) (at : old.files ≡ Some z). subst (λ (y : Image). (list_of y).checks b.node ≡ true) (some_inj (sym here ∙ at)) (node-good from state number object k names) in
+            let done : IsMarked from b.node cache.mark i = marks-set b.node cache.mark old now bytes well good small (ok (ForSome old.files (λ z. Applies old now (mark_steps z b.node cache.mark))) sets.steps) from here i there in
+            unsettled-keeps cache state from k handle number object names b bound i done new changes others charged (still i there).agrees

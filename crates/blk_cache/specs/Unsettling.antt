@@ -1,0 +1,11 @@
+-- An open object that is settled is marked as one that isn't.
+use Rattle.std.specs.Prelude.{ℕ}
+use Rattle.blk_image.specs.Image.{Image}
+use Rattle.blk_model.specs.State.{Object, State}
+use Rattle.blk_kept.specs.OneCallLaws.{Names}
+use Rattle.blk_cache.specs.declared.cache.Cache.{Cache}
+use Rattle.blk_cache.specs.CacheKeeping.{KeepsState}
+
+-- what holds of the object that a handle names, by its number, in each state that a cache keeps
+abbrev pub ForEachNamed : Cache → (handle : ℕ) → Image → (State → ℕ → Object → Type 0) → Type 0
+ForEachNamed cache handle from P = (state : State) (number : ℕ) (object : Object) → KeepsState cache state from → Names state handle number object → P state number object

@@ -1,0 +1,74 @@
+// An open object that is settled is marked as one that isn't.
+ghost use Rattle.std.specs.Prelude.{◌≡◌, ◌≤◌, IsSome, IsTrue, None, OnOk, false};
+ghost use Rattle.std.specs.Option.{ForSome};
+ghost use Rattle.blk_image.specs.Told.{Passes, Rises};
+ghost use Rattle.blk_io.specs.Faults.{IfDamaged, IfDevice};
+ghost use Rattle.blk_laws.specs.CommandLaws.{marked};
+ghost use Rattle.blk_disk.specs.Open.{IsOpen};
+ghost use Rattle.blk_disk.specs.Tables.{is_node_among};
+ghost use Rattle.blk_handles.specs.Bindings.{binding_of};
+ghost use Rattle.blk_entry.specs.Marks.{SetsDirty};
+ghost use Rattle.blk_object.specs.RemovingObjects.{FindsEither};
+ghost use Rattle.blk_cache.specs.CacheKeeping.{KeepsState};
+ghost use Rattle.blk_cache.specs.CommandClauses.{KeepsAny, OnlyNamesChange};
+ghost use Rattle.blk_cache.specs.Unsettling.{ForEachNamed};
+
+use crate::cache::Cache;
+use blk_addr::Addr;
+use blk_disk::BlockFiles;
+use blk_io::{Fault, Folder};
+use blk_record::NodeView;
+
+impl Cache {
+    /// Unsettles the object that a handle names, live or doomed, where it is settled: the dirty word of its node becomes
+    /// the number of the session, and its names are marked so.
+    ///
+    /// This takes four folder calls, and none where it isn't settled.
+    pub(crate) fn unsettle<F: Folder>(&mut self, f: &mut F, handle: u16) -> Result<(), Fault>
+        requires bound { IsSome (binding_of self.old.handles handle) }
+        requires is_open { ForSome (F.told f.old).files (IsOpen self.old.files) }
+
+        // In the end each state that was kept is kept with its object unsettled.
+        ensures unsettled { OnOk result (ForSome (F.told f.old).files (λ from. ForEachNamed self.old handle from (λ state number object. ForSome (F.told f.new).files (KeepsState self.new (marked state number object false))))) }
+
+        // At each word what was at rest is found, or what is at rest then.
+        ensures stops { ForSome (F.told f.old).files (λ from. ForEachNamed self.old handle from (λ state number object. Passes (F.told f.old) (F.told f.new) (FindsEither state (marked state number object false)))) }
+
+        ensures stays_bound { IsSome (binding_of self.new.handles handle) }
+        ensures others { OnlyNamesChange self.old self.new }
+        ensures charged { self.new.open_bytes ≡ self.old.open_bytes }
+        ensures is_open { ForSome (F.told f.new).files (IsOpen self.new.files) }
+
+        // A folder that tells its files gives no damage where the cache keeps a state.
+        ensures untold { ForSome (F.told f.old).files (KeepsAny self.old) → IfDamaged result (λ _. (F.told f.old).files ≡ None) }
+        ensures silent { (F.told f.old).files ≡ None → (F.told f.new).files ≡ None }
+        ensures later { F.faults f.old ≤ F.faults f.new }
+        ensures device { IfDevice result (Rises (F.faults f.old) (F.faults f.new)) }
+    {
+        let Some(object) = self.handles.object(handle) else {
+            unreachable!();
+        };
+        if object.dirty {
+            return Ok(());
+        }
+        set_mark(f, &self.files, object.node, self.mark)?;
+        self.handles.mark(handle, object.doomed, true);
+        Ok(())
+    }
+}
+
+// Makes the dirty word of a node this one, by a sealed update: one folder call reads the node, and three write.
+//
+// Where a state is kept the number of the session isn't 0; of another folder that isn't known, nor asked.
+fn set_mark<F: Folder>(f: &mut F, files: &BlockFiles, node: Addr, mark: u32) -> Result<(), Fault>
+    requires stands { IsTrue (is_node_among files.now node) }
+    requires is_open { ForSome (F.told f.old).files (IsOpen files.now) }
+    ensures sets { SetsDirty files.now (F.told f.old) (F.told f.new) node mark result }
+    ensures is_open { ForSome (F.told f.new).files (IsOpen files.now) }
+    ensures later { F.faults f.old ≤ F.faults f.new }
+    ensures device { IfDevice result (Rises (F.faults f.old) (F.faults f.new)) }
+{
+    // That the word is one of an address is known once it is read.
+    let _word = node.word();
+    files.update_sealed(f, node, &[(NodeView::DIRTY, mark)])
+}

@@ -1,0 +1,276 @@
+// The command Write.
+ghost use Rattle.std.specs.Prelude.{◌≡◌, ◌≤◌, ◌<◌, ◌+◌, ◌-◌, ◌^◌, IfOk, IfSome, IsSome, IsTrue, None, Ok, OnOk, false, length, nat_lt, true, ℕ, Bool};
+ghost use Rattle.std.specs.Option.{ForSome};
+ghost use Rattle.blk_image.specs.Told.{Passes, Rises, Stays};
+ghost use Rattle.blk_io.specs.Faults.{IfDamaged, IfDevice};
+ghost use Rattle.blk_model.specs.Effects.{written};
+ghost use Rattle.blk_model.specs.Holding.{rest};
+ghost use Rattle.blk_model.specs.Request.{to_write};
+ghost use Rattle.blk_model.specs.Sizes.{stream_count, stream_share};
+ghost use Rattle.blk_model.specs.State.{State};
+ghost use Rattle.blk_model.specs.declared.Answer.TheVariants as answer;
+ghost use Rattle.blk_volume.specs.Entries.{most_stream_bytes};
+ghost use Rattle.blk_disk.specs.Open.{IsOpen};
+ghost use Rattle.blk_disk.specs.Tables.{is_node_among};
+ghost use Rattle.blk_handles.specs.Bindings.{binding_of};
+ghost use Rattle.blk_lru.specs.Lists.{IsListed};
+ghost use Rattle.blk_stream.specs.Writing.{size_after};
+ghost use Rattle.blk_kept.specs.Changes.{Finds};
+ghost use Rattle.blk_kept.specs.Commands.{Does, IsDone, MayStop, MayStopAtEach};
+ghost use Rattle.blk_cache.specs.declared.asking.Asked.TheVariants as asked;
+ghost use Rattle.blk_cache.specs.CacheKeeping.{KeepsState};
+ghost use Rattle.blk_cache.specs.CommandClauses.{IsRefused, KeepsAny};
+ghost use Rattle.blk_cache.specs.RoomPrinting.{FailsWhereItRose};
+ghost use Rattle.blk_cache.specs.Stepping.{SaysEvicted, SaysFront};
+ghost use Rattle.blk_cache.specs.Writing.{CanGetBytes, CountsRise, ForEachToUse, GoesOn, IsAskedToWrite, IsReadyToWrite, IsReadyToWriteSome, IsUsedAndCounted, KeepsToWrite, early_write_refusal};
+
+use crate::asking::{Asked, NamedStream};
+use crate::cache::Cache;
+use crate::making_room::Room;
+use crate::room::exceeds;
+use blk_disk::BlockFiles;
+use blk_io::{Fault, Folder, Sink};
+use blk_lru::touch;
+use blk_model::{Answer, Refusal};
+use blk_object::{count_rise, write_object};
+
+// A stream has at most this share of the bytes that a cache keeps.
+const STREAM_SHARE: u64 = 8;
+
+impl Cache {
+    /// Writes bytes over a stream of the object that a handle names, from an offset on, with zeros before them where it
+    /// ends there; it ends with them where it is cut, and else keeps what lies behind them. Room for what it gets longer
+    /// is made first; what is evicted for that is printed as it goes. Then the object is unsettled, and once it is
+    /// written its item is put in front of the use list. A doomed object has no item.
+    ///
+    /// It is refused with `BadHandle` where the name is free, or 4096 or more, `BadStream` where the number of the stream
+    /// is 3 or more, `TooLarge` where the bytes end behind an eighth of the limit, `SparseStream` where the object is
+    /// sparse and the number isn't 0, and `Full` where the open objects and what is added exceed a limit, the first of
+    /// these. After a fault nothing is promised of the cache but that it may be let go.
+    pub(crate) fn write<F: Folder, K: Sink>(
+        &mut self,
+        f: &mut F,
+        out: &mut K,
+        failed: &mut bool,
+        handle: u16,
+        stream: u8,
+        offset: u64,
+        cut: bool,
+        bytes: &[u8],
+        moment: u64,
+    ) -> Result<Answer, Fault>
+        requires is_open { ForSome (F.told f.old).files (IsOpen self.old.files) }
+        ensures does { IfOk result (λ answer. Does (KeepsState self.old) (KeepsState self.new) (F.told f.old) (F.told f.new) moment (to_write handle stream offset cut bytes.now) answer) }
+        ensures stops { MayStopAtEach (KeepsState self.old) (F.told f.old) (F.told f.new) moment (to_write handle stream offset cut bytes.now) }
+
+        // What it evicts is printed, and on any answer a front of that.
+        ensures says { OnOk result (SaysEvicted self.old (F.told f.old) moment (to_write handle stream offset cut bytes.now) failed.old failed.new (K.written out.old) (K.written out.new)) }
+        ensures front { SaysFront self.old (F.told f.old) moment (to_write handle stream offset cut bytes.now) (K.written out.old) (K.written out.new) }
+        ensures fails { FailsWhereItRose failed.old failed.new (K.faults out.old) (K.faults out.new) }
+
+        // What the names, the stream and the length tell is refused on every folder, and a refusal does nothing.
+        ensures refuses { IfSome (early_write_refusal self.old handle stream offset (length bytes.now)) (λ why. result ≡ Ok (answer.Refused why)) }
+        ensures quiet { IfOk result (λ answer. IsRefused answer → Stays (F.told f.old) (F.told f.new)) }
+        ensures unchanged { IfOk result (λ answer. IsRefused answer → self.new ≡ self.old) }
+
+        ensures is_open { OnOk result (ForSome (F.told f.new).files (IsOpen self.new.files)) }
+        ensures notes { self.new.notes ≡ self.old.notes }
+
+        // A folder that tells its files gives no damage where the cache keeps a state.
+        ensures untold { ForSome (F.told f.old).files (KeepsAny self.old) → IfDamaged result (λ _. (F.told f.old).files ≡ None) }
+        ensures silent { (F.told f.old).files ≡ None → (F.told f.new).files ≡ None }
+        ensures later { F.faults f.old ≤ F.faults f.new }
+        ensures sink_later { K.faults out.old ≤ K.faults out.new }
+        ensures device { IfDevice result (Rises (F.faults f.old) (F.faults f.new)) }
+    {
+        let asked = self.refuses_write(f, handle, stream, offset, bytes)?;
+        match asked {
+            Asked::Refused(why) => Ok(Answer::Refused(why)),
+            Asked::Stream(named) => {
+                let rise = rise(cut, named.size, offset, bytes);
+                match self.make_room(f, out, failed, rise, 0)? {
+                    Room::Full => Ok(Answer::Refused(Refusal::Full)),
+                    Room::Made => {
+                        self.end_write(f, handle, stream, offset, cut, bytes, named.size, moment)
+                    }
+                }
+            }
+        }
+    }
+
+    // Ends a Write that isn't refused, once all that it evicts is out: its object is unsettled, and then written.
+    pub(crate) fn end_write<F: Folder>(
+        &mut self,
+        f: &mut F,
+        handle: u16,
+        stream: u8,
+        offset: u64,
+        cut: bool,
+        bytes: &[u8],
+        size: u32,
+        moment: u64,
+    ) -> Result<Answer, Fault>
+        requires passes { early_write_refusal self.old handle stream offset (length bytes.now) ≡ None }
+        requires is_open { ForSome (F.told f.old).files (IsOpen self.old.files) }
+
+        // It is done, whatever state the Write began with, and may be stopped at each word.
+        ensures does { IfOk result (λ answer. ForSome (F.told f.old).files (λ from. (state : State) → IsReadyToWrite self.old state moment handle stream offset cut bytes.now size from → IsDone (KeepsState self.new) (F.told f.new) moment (to_write handle stream offset cut bytes.now) answer state)) }
+        ensures stops { ForSome (F.told f.old).files (λ from. (state : State) → IsReadyToWrite self.old state moment handle stream offset cut bytes.now size from → Passes (F.told f.old) (F.told f.new) (MayStop state moment (to_write handle stream offset cut bytes.now))) }
+
+        ensures wrote { IfOk result (λ given. given ≡ answer.Wrote (length bytes.now)) }
+        ensures notes { self.new.notes ≡ self.old.notes }
+        ensures is_open { OnOk result (ForSome (F.told f.new).files (IsOpen self.new.files)) }
+        ensures untold { ForSome (F.told f.old).files (IsReadyToWriteSome self.old handle stream offset cut bytes.now size) → IfDamaged result (λ _. (F.told f.old).files ≡ None) }
+        ensures silent { (F.told f.old).files ≡ None → (F.told f.new).files ≡ None }
+        ensures later { F.faults f.old ≤ F.faults f.new }
+        ensures device { IfDevice result (Rises (F.faults f.old) (F.faults f.new)) }
+    {
+        self.unsettle(f, handle)?;
+        self.write_unsettled(f, handle, stream, offset, cut, bytes, size, moment)?;
+        Ok(Answer::Wrote(bytes.len() as u64))
+    }
+
+    // Writes bytes over a stream of so many of the object that a handle names, which isn't settled: then the item of a live
+    // object is used, and its rise is counted in the index; and that of any in the cache.
+    fn write_unsettled<F: Folder>(
+        &mut self,
+        f: &mut F,
+        handle: u16,
+        stream: u8,
+        offset: u64,
+        cut: bool,
+        bytes: &[u8],
+        size: u32,
+        moment: u64,
+    ) -> Result<(), Fault>
+        requires passes { early_write_refusal self.old handle stream offset (length bytes.now) ≡ None }
+        requires is_open { ForSome (F.told f.old).files (IsOpen self.old.files) }
+
+        // In the end each state that was kept, whose object can get them, is kept with them, and with the item in front.
+        ensures written { OnOk result (ForSome (F.told f.old).files (λ from. (state : State) → KeepsState self.old state from → CanGetBytes state handle stream offset cut bytes.now size → ForSome (F.told f.new).files (KeepsState self.new (written handle stream offset cut bytes.now state)))) }
+
+        // At each word what was at rest is found.
+        ensures stops { ForSome (F.told f.old).files (λ from. (state : State) → KeepsState self.old state from → CanGetBytes state handle stream offset cut bytes.now size → Passes (F.told f.old) (F.told f.new) (Finds (rest state))) }
+
+        ensures notes { self.new.notes ≡ self.old.notes }
+        ensures is_open { OnOk result (ForSome (F.told f.new).files (IsOpen self.new.files)) }
+        ensures untold { ForSome (F.told f.old).files (KeepsToWrite self.old handle stream offset cut bytes.now size) → IfDamaged result (λ _. (F.told f.old).files ≡ None) }
+        ensures silent { (F.told f.old).files ≡ None → (F.told f.new).files ≡ None }
+        ensures later { F.faults f.old ≤ F.faults f.new }
+        ensures device { IfDevice result (Rises (F.faults f.old) (F.faults f.new)) }
+    {
+        let Some(object) = self.handles.object(handle) else {
+            unreachable!();
+        };
+        let after = length_after(cut, size, offset, bytes);
+        write_object(f, &mut self.files, object.entry, stream, offset, cut, bytes)?;
+        let named = NamedStream {
+            entry: object.entry,
+            node: object.node,
+            doomed: object.doomed,
+            size,
+        };
+        use_and_count(f, &self.files, &named, after, moment)?;
+        self.count_bytes(u64::from(size), after);
+        Ok(())
+    }
+
+    // The stream that a Write names, or why the Write is refused, but for want of room. Nothing is written.
+    pub(crate) fn refuses_write<F: Folder>(
+        &self,
+        f: &mut F,
+        handle: u16,
+        stream: u8,
+        offset: u64,
+        bytes: &[u8],
+    ) -> Result<Asked, Fault>
+        ensures asked { IfOk result (λ answer. ForSome (F.told f.old).files (λ image. (state : State) (moment : ℕ) (cut : Bool) → (k : KeepsState self.now state image) → IsAskedToWrite state k.layout moment handle stream offset cut bytes.now answer)) }
+
+        // What the names, the stream and the length tell is refused on every folder, and where a stream is found they tell nothing.
+        ensures refuses { IfSome (early_write_refusal self.now handle stream offset (length bytes.now)) (λ why. result ≡ Ok (asked.Refused why)) }
+        ensures goes_on { IfOk result (GoesOn (early_write_refusal self.now handle stream offset (length bytes.now))) }
+        ensures stays { Stays (F.told f.old) (F.told f.new) }
+
+        // A folder that tells its files gives no damage where the cache keeps a state.
+        ensures untold { ForSome (F.told f.old).files (KeepsAny self.now) → IfDamaged result (λ _. (F.told f.old).files ≡ None) }
+        ensures later { F.faults f.old ≤ F.faults f.new }
+        ensures device { IfDevice result (Rises (F.faults f.old) (F.faults f.new)) }
+    {
+        if let Some(why) = self.refuses_length(handle, stream, offset, bytes.len() as u64) {
+            return Ok(Asked::Refused(why));
+        }
+        self.ask_stream(f, handle, stream)
+    }
+
+    // Why a Write is refused, by what the names, the number of the stream and the length tell.
+    fn refuses_length(&self, handle: u16, stream: u8, offset: u64, count: u64) -> Option<Refusal>
+        ensures { result ≡ early_write_refusal self.now handle stream offset count }
+    {
+        if let Some(why) = self.refuses_stream(handle, stream) {
+            return Some(why);
+        }
+        if exceeds(offset, count, self.limits.max_bytes / STREAM_SHARE) {
+            return Some(Refusal::TooLarge);
+        }
+        None
+    }
+
+    // Counts a stream that had so many bytes and has so many after.
+    fn count_bytes(&mut self, before: u64, after: u64)
+        ensures counts { CountsRise self.old self.new before after }
+        ensures few { self.old.bytes < 2 ^ 64 }
+    {
+        self.bytes = self.bytes.saturating_sub(before).saturating_add(after);
+        self.open_bytes = self.open_bytes.saturating_sub(before).saturating_add(after);
+    }
+}
+
+// Uses the item of a live object whose stream had so many bytes and has so many after, and counts the rise in the index.
+// A doomed one has no item, and isn't counted.
+fn use_and_count<F: Folder>(
+    f: &mut F,
+    files: &BlockFiles,
+    object: &NamedStream,
+    after: u64,
+    moment: u64,
+) -> Result<(), Fault>
+    requires stands { IsTrue (is_node_among files.now object.now.node) }
+    requires is_open { ForSome (F.told f.old).files (IsOpen files.now) }
+
+    // In the end each state that was kept is kept with the item in front, and the bytes of the index have risen.
+    ensures used { OnOk result (object.now.doomed ≡ false → ForSome (F.told f.old).files (λ from. ForEachToUse object.now.node from (λ state layout its. ForSome (F.told f.new).files (IsUsedAndCounted state layout its object.now.size after from)))) }
+    ensures stays { object.now.doomed ≡ true → Stays (F.told f.old) (F.told f.new) }
+
+    // At each word what was at rest is found.
+    ensures stops { object.now.doomed ≡ false → ForSome (F.told f.old).files (λ from. ForEachToUse object.now.node from (λ state layout its. Passes (F.told f.old) (F.told f.new) (Finds (rest state)))) }
+
+    ensures is_open { ForSome (F.told f.new).files (IsOpen files.now) }
+    ensures untold { ForSome (F.told f.old).files (λ image. object.now.doomed ≡ false → IsListed object.now.node image) → IfDamaged result (λ _. (F.told f.old).files ≡ None) }
+    ensures silent { (F.told f.old).files ≡ None → (F.told f.new).files ≡ None }
+    ensures later { F.faults f.old ≤ F.faults f.new }
+    ensures device { IfDevice result (Rises (F.faults f.old) (F.faults f.new)) }
+{
+    if object.doomed {
+        return Ok(());
+    }
+    touch(f, files, object.node, moment)?;
+    count_rise(f, files, u64::from(object.size), after)
+}
+
+// The length of a stream of so many bytes once these are written over it from an offset on.
+#[tactic(auto, unfolding(blk_stream::specs::Writing::size_after))]
+fn length_after(cut: bool, size: u32, offset: u64, bytes: &[u8]) -> u64
+    requires most { offset + length bytes.now ≤ most_stream_bytes }
+    ensures { result ≡ size_after cut size offset (length bytes.now) }
+{
+    let end = offset + bytes.len() as u64;
+    if cut { end } else { end.max(u64::from(size)) }
+}
+
+// By how many bytes it is longer then.
+fn rise(cut: bool, size: u32, offset: u64, bytes: &[u8]) -> u64
+    requires most { offset + length bytes.now ≤ most_stream_bytes }
+    ensures { result ≡ size_after cut size offset (length bytes.now) - size }
+{
+    length_after(cut, size, offset, bytes).saturating_sub(u64::from(size))
+}
