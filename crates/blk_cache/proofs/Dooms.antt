@@ -57,6 +57,7 @@ module _ (old : Cache) (state : State) (from : Image) (k : KeepsState old state 
       let same = named-after state number object p.here in
       let items_were = k.items_are in
       let bytes_were = k.bytes_are in
+      let few_were = k.few in
       let fewer_items = o.items_less in
       let fewer_bytes = o.bytes_less in
       let items_now = c.items in
@@ -68,6 +69,7 @@ module _ (old : Cache) (state : State) (from : Image) (k : KeepsState old state 
         limits = limits-same ∙ k.limits ∙ ap bounds_of (sym c.limits);
         items_are = omega (arith, items_were, fewer_items, items_now);
         bytes_are = omega (arith, bytes_were, fewer_bytes, bytes_now);
+        few = omega (arith, fewer_items, few_were);
         open_objects = ap open_count c.handles ∙ open-same entry old.handles ∙ k.open_objects ∙ sym same.0;
         open_bytes = c.open_bytes ∙ k.open_bytes ∙ sym same.1;
         names = λ name. subst (λ (bs : Bindings). IsBoundAs (doomed number state (Some object)) o.left (named_by (doomed number state (Some object)) name) (binding_of bs name)) (sym handles)
