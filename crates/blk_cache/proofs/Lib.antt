@@ -45,3 +45,7 @@ pub mod ReadSteps
 pub mod PrintedReads
 pub mod WholeGroups
 pub mod TrimSteps
+pub mod ListedRows
+pub mod ListedRecords
+pub mod Replies
+pub mod StepEnds

@@ -20,3 +20,5 @@ pub mod Closing
 pub mod Asking
 pub mod Reading
 pub mod ReadPrinting
+pub mod Listing
+pub mod Replying

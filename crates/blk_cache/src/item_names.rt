@@ -65,7 +65,7 @@ pub(crate) fn read_name<F: Folder>(
 }
 
 // What kind of entry the flags of a record say.
-fn kind_said(flags: u32) -> EntryKind
+pub(crate) fn kind_said(flags: u32) -> EntryKind
     ensures { result ≡ kind_said flags }
 {
     if flags == PARENT {

@@ -1,5 +1,5 @@
-use Rattle.std.proofs.Common.{◌≡◌, inl, inr, Ok, None, refl, sym, ◌∙◌, ap, subst, arith}
-use Rattle.std.specs.Prelude.{not}
+use Rattle.std.proofs.Common.{◌≡◌, inl, inr, Ok, None, Some, Option, true, false, refl, sym, ◌∙◌, ap, subst, arith}
+use Rattle.std.specs.Prelude.{IsSome, not}
 use Rattle.blk_image.specs.Told.{Told}
 use Rattle.blk_io.proofs.Carried.{carried, if_damaged_weaker}
 use Rattle.blk_model.specs.Request.{to_close}
@@ -158,3 +158,13 @@ returns-in_ok-end_object-in-Last-clause-does g c moment =
 
 pub returns-in_ok-end_object-in-Last-clause-is_open : goal.returns-in_ok-end_object-in-Last-clause-is_open
 returns-in_ok-end_object-in-Last-clause-is_open g c image now = subst (λ (files : BlockFiles). IsOpen files image) (sym c.count_closed.ensures.counts.files) (c.in_ok-end_object-in-Last.ensures.is_open image now)
+
+-- The name is free.
+
+pub returns-then-is_none-clause-frees : goal.returns-then-is_none-clause-frees
+returns-then-is_none-clause-frees g c bound =
+    absurd (nothing _ (free-there c.args.self.now.handles c.args.handle c.object.result c.object.ensures.object (c.is_none.ensures ∙ ap not c.if-is_none.true)) bound)
+  where
+    nothing : {A : Type 0} (o : Option A) → o ≡ None → IsSome o → ⊥
+    nothing None is some = let z : false ≡ true = some in cc
+    nothing (Some a) is some = cc
