@@ -12,18 +12,17 @@ use Rattle.blk_io.specs.declared.fault.Damage.{Damage}
 use Rattle.blk_io.specs.declared.fault.Fault.{Fault}
 use Rattle.blk_io.specs.declared.fault.Fault.TheVariants as fault
 use Rattle.blk_model.specs.Holding.{rest}
-use Rattle.blk_model.specs.Refusals.{evicted, evicted_for, is_full, no_room, refused, room_for}
+use Rattle.blk_model.specs.Refusals.{evicted, evicted_for, is_full, no_room, refused}
 use Rattle.blk_model.specs.Request.{to_create}
 use Rattle.blk_model.specs.Room.{Group, Room, after as makes, full, room, without}
 use Rattle.blk_model.specs.State.{State}
-use Rattle.blk_model.specs.Step.{Outcome, outcome, step}
+use Rattle.blk_model.specs.Step.{outcome, step}
 use Rattle.blk_model.specs.declared.Answer.{Answer}
 use Rattle.blk_model.specs.declared.Answer.TheVariants as answer
 use Rattle.blk_model.specs.declared.Refusal.{Refusal}
 use Rattle.blk_model.specs.declared.Refusal.TheVariants as refusal
 use Rattle.blk_kept.specs.Changes.{Finds}
 use Rattle.blk_kept.specs.Commands.{Does, ForKept, IsDone, MayStop, MayStopAtEach}
-use Rattle.blk_kept.specs.CommandStates.{with_room}
 use Rattle.blk_kept.proofs.Stopping.{stop-before, stop-evicted}
 use Rattle.blk_script.specs.Reply.{evicted_text}
 use Rattle.blk_cache.specs.declared.cache.Cache.{Cache}

@@ -58,3 +58,7 @@ pub mod ChangedObjects
 pub mod Unsettles
 pub mod UnsettleSteps
 pub mod WriteRoom
+pub mod ListedRows
+pub mod ListedRecords
+pub mod Replies
+pub mod StepEnds

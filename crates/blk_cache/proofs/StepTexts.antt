@@ -1,63 +1,49 @@
--- What a step prints: the lines of what goes, and then the line of its answer.
-use Rattle.std.proofs.Common.{◌≡◌, ℕ, Bool, true, false, List, [], ◌++◌, Option, Some, None, refl, sym, ap, subst, ◌∙◌, append_assoc}
+-- What a step prints: the lines of what goes, and then its reply.
+use Rattle.std.proofs.Common.{◌≡◌, ℕ, Bool, false, List, [], ◌++◌, Option, Some, None, refl, sym, ap, subst, ◌∙◌, append_assoc}
 use Rattle.std.specs.Option.{ForSome, option_map}
+use Rattle.blk_image.specs.Image.{Image}
+use Rattle.blk_image.specs.Steps.{after}
 use Rattle.blk_image.specs.Told.{Told}
 use Rattle.blk_io.specs.Streams.{Appends}
-use Rattle.blk_model.specs.Reply.{Reply, answer_of, answered}
 use Rattle.blk_model.specs.Refusals.{evicted, refused}
-use Rattle.blk_model.specs.Request.{Request, to_close, to_create, to_open, to_size, to_total, to_trim}
+use Rattle.blk_model.specs.Request.{Request, to_close, to_list, to_open, to_read, to_size, to_total}
 use Rattle.blk_model.specs.Room.{Group}
 use Rattle.blk_model.specs.State.{State}
-use Rattle.blk_model.specs.Step.{Outcome, outcome, reply, step}
+use Rattle.blk_model.specs.Step.{outcome, step}
 use Rattle.blk_model.specs.declared.Answer.{Answer}
 use Rattle.blk_model.specs.declared.Refusal.{Refusal}
-use Rattle.blk_kept.specs.Commands.{Does, ForKept}
+use Rattle.blk_kept.specs.Commands.{Does, ForKept, MayStopAtEach}
 use Rattle.blk_script.specs.Reply.{evicted_text, reply_text}
 use Rattle.blk_cache.specs.declared.cache.Cache.{Cache}
 use Rattle.blk_cache.specs.CacheKeeping.{KeepsState}
+use Rattle.blk_cache.specs.CommandClauses.{KeepsAny}
+use Rattle.blk_cache.specs.ReadPrinting.{PrintsInPart}
+use Rattle.blk_cache.specs.Replying.{ForReply}
 use Rattle.blk_cache.specs.RoomPrinting.{Prints}
 use Rattle.blk_cache.specs.Stepping.{IsBuilt, SaysEvicted, SaysFront, evicted_first, outcome_text}
+use Rattle.blk_cache.proofs.PrintedReads.{part-on}
+use Rattle.blk_cache.proofs.Replies.{is-after, text-after}
 use Rattle.blk_cache.proofs.RoomTexts.{none-printed, printed-on}
-
--- the reply of a command that is built is its answer alone
-built-reply : (request : Request) (groups : List Group) (state : State) → IsBuilt request → reply request groups state ≡ answered (answer_of (reply request groups state))
-unfolding reply
-built-reply (to_create handle key) groups state b = refl
-built-reply (to_open handle key) groups state b = refl
-built-reply (to_size handle stream) groups state b = refl
-built-reply (to_close handle) groups state b = refl
-built-reply (to_trim bytes) groups state b = refl
-built-reply to_total groups state b = refl
-built-reply _ groups state b = absurd b
-
-outcome-reply : (moment : ℕ) (request : Request) (state : State) (why : Option Refusal) → IsBuilt request → (outcome moment request state why).reply ≡ answered (answer_of (outcome moment request state why).reply)
-unfolding outcome
-outcome-reply moment request state (Some why) b = refl
-outcome-reply moment request state None b = built-reply request (evicted moment request state) state b
-
-step-reply : (moment : ℕ) (request : Request) (state : State) → IsBuilt request → (step state moment request).reply ≡ answered (answer_of (step state moment request).reply)
-unfolding step
-step-reply moment request state b = outcome-reply moment request state (refused moment request state) b
-
--- so its text is the line of the answer
-answer-text : (moment : ℕ) (request : Request) (state : State) (answer : Answer) → IsBuilt request → answer ≡ answer_of (step state moment request).reply → reply_text (answered answer) ≡ reply_text (step state moment request).reply
-answer-text moment request state answer b e = ap (λ (a : Answer). reply_text (answered a)) e ∙ ap reply_text (sym (step-reply moment request state b))
 
 -- What evicts nothing.
 
 -- a command of these evicts nothing
 abbrev pub EvictsNothing : Request → Type 0
 EvictsNothing (to_open handle key) = Unit {0}
+EvictsNothing (to_read handle stream offset count) = Unit {0}
 EvictsNothing (to_size handle stream) = Unit {0}
 EvictsNothing (to_close handle) = Unit {0}
+EvictsNothing to_list = Unit {0}
 EvictsNothing to_total = Unit {0}
 EvictsNothing _ = ⊥
 
 none-evicted : (moment : ℕ) (request : Request) (state : State) → EvictsNothing request → evicted moment request state ≡ []
 unfolding evicted
 none-evicted moment (to_open handle key) state n = refl
+none-evicted moment (to_read handle stream offset count) state n = refl
 none-evicted moment (to_size handle stream) state n = refl
 none-evicted moment (to_close handle) state n = refl
+none-evicted moment to_list state n = refl
 none-evicted moment to_total state n = refl
 none-evicted moment _ state n = absurd n
 
@@ -79,18 +65,43 @@ module _ (cache : Cache) (told : Told) (moment : ℕ) (request : Request) (quiet
 
 -- The whole text.
 
-module _ (old new : Cache) (told now : Told) (moment : ℕ) (request : Request) (built : IsBuilt request) (answer : Answer) (does : Does (KeepsState old) (KeepsState new) told now moment request answer)
-    (between failed : Bool) (w0 w1 w2 : Option (List ℕ)) (says : SaysEvicted old told moment request false between w0 w1) (prints : Prints between failed w1 w2 (reply_text (answered answer))) where
-  whole-text : ForKept (KeepsState old) told (λ state. Prints false failed w0 w2 (outcome_text (step state moment request)))
-  whole-text image there state k =
-      subst (λ (text : List ℕ). Prints false failed w0 w2 (evicted_first (step state moment request) ++ text)) (answer-text moment request state answer built (does image there state k).answered)
-      (printed-on false between failed w0 w1 w2 (evicted_first (step state moment request)) (reply_text (answered answer)) (says image there state k) prints)
+module _ (old done : Cache) (told mid now : Told) (moment : ℕ) (request : Request) (stops : MayStopAtEach (KeepsState old) told mid moment request) (same : now.files ≡ mid.files) where
+  -- a folder that tells its files still does
+  still-told : (state : State) (image : Image) → told.files ≡ Some image → KeepsState old state image → (i : Image) × (now.files ≡ Some i)
+  still-told state image there k =
+      let p = stops image there state k in
+      (after p.steps image, same ∙ p.applies.files ∙ ap (option_map (after p.steps)) there)
 
-  pub whole-printed : failed ≡ false → ForKept (KeepsState old) told (λ state. w2 ≡ option_map (λ (w : List ℕ). w ++ outcome_text (step state moment request)) w0)
-  whole-printed e image there state k = (whole-text image there state k).whole e
+  -- and one that doesn't told none before
+  pub none-before : ForSome told.files (KeepsAny old) → now.files ≡ None → told.files ≡ None
+  none-before any none = by told.files refl where
+    no : {i : Image} → ◌≡◌ {A = Option Image} None (Some i) → ⊥
+    no e = cc
 
-  pub front-printed : ForKept (KeepsState old) told (λ state. Appends w0 w2 (outcome_text (step state moment request)))
-  front-printed image there state k = (whole-text image there state k).front
+    by : (o : Option Image) → told.files ≡ o → told.files ≡ None
+    by None is = is
+    by (Some image) is = let one = any image is in absurd (no (sym none ∙ (still-told one.0 image is one.1).1))
+
+  module _ (built : IsBuilt request) (answer : Answer) (does : Does (KeepsState old) (KeepsState done) told now moment request answer) where
+    -- what is said of the reply, by the state after the command
+    replied : (P : List ℕ → Type 0) → ForReply done now request answer P → ForKept (KeepsState old) told (λ state. P (reply_text (step state moment request).reply))
+    replied P says image there state k =
+        let d = does image there state k in
+        let here = still-told state image there k in
+        subst P (text-after moment request state answer built d.answered) (says here.0 here.1 (step state moment request).state (d.kept here.0 here.1) (is-after moment request state answer d.answered))
+
+    -- the cache keeps a state still, where it did
+    pub any-after : ForSome told.files (KeepsAny old) → (image : Image) → told.files ≡ Some image → ForSome now.files (KeepsAny done)
+    any-after any image there i here = let one = any image there in ((step one.0 moment request).state, (does image there one.0 one.1).kept i here)
+
+    module _ (between failed : Bool) (w0 w1 w2 : Option (List ℕ)) (says : SaysEvicted old told moment request false between w0 w1) where
+      pub whole-printed : ForReply done now request answer (Prints between failed w1 w2) → failed ≡ false → ForKept (KeepsState old) told (λ state. w2 ≡ option_map (λ (w : List ℕ). w ++ outcome_text (step state moment request)) w0)
+      whole-printed prints e image there state k =
+          (printed-on false between failed w0 w1 w2 (evicted_first (step state moment request)) (reply_text (step state moment request).reply) (says image there state k) (replied (Prints between failed w1 w2) prints image there state k)).whole e
+
+      pub front-printed : ForReply done now request answer (PrintsInPart between w1 w2) → ForKept (KeepsState old) told (λ state. Appends w0 w2 (outcome_text (step state moment request)))
+      front-printed part image there state k =
+          (part-on false between w0 w1 w2 (evicted_first (step state moment request)) (reply_text (step state moment request).reply) (says image there state k) (replied (PrintsInPart between w1 w2) part image there state k)).front
 
 -- a front of what is evicted is one of the whole text
 more-behind : (a b : List ℕ) (old new : Option (List ℕ)) → Appends old new a → Appends old new (a ++ b)

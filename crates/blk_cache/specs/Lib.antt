@@ -24,3 +24,5 @@ pub mod Dooming
 pub mod Unsettling
 pub mod Writing
 pub mod WritingLaws
+pub mod Listing
+pub mod Replying

@@ -1,16 +1,13 @@
 -- What a step of a cache owes: one command, with what it prints and its note.
-use Rattle.std.specs.Prelude.{◌≡◌, ◌≢◌, ℕ, Bool, List, ◌++◌, Result, Ok, Err}
+use Rattle.std.specs.Prelude.{ℕ, Bool, List, ◌++◌, Result, Ok, Err}
 use Rattle.std.specs.declared.option.Option.{Option}
 use Rattle.blk_image.specs.Told.{Told}
 use Rattle.blk_io.specs.Streams.{Appends}
 use Rattle.blk_io.specs.declared.fault.Damage.{Damage}
 use Rattle.blk_io.specs.declared.fault.Fault.{Fault}
 use Rattle.blk_io.specs.declared.fault.Fault.TheVariants as fault
-use Rattle.blk_model.specs.Request.{Request, to_close, to_create, to_open, to_size, to_total, to_trim}
-use Rattle.blk_model.specs.State.{State}
+use Rattle.blk_model.specs.Request.{Request, to_close, to_create, to_list, to_open, to_read, to_size, to_total, to_trim}
 use Rattle.blk_model.specs.Step.{Outcome, step}
-use Rattle.blk_model.specs.declared.Answer.{Answer}
-use Rattle.blk_model.specs.declared.Answer.TheVariants as answer
 use Rattle.blk_kept.specs.Commands.{ForKept}
 use Rattle.blk_script.specs.Reply.{evicted_text, reply_text}
 use Rattle.blk_cache.specs.declared.cache.Cache.{Cache}
@@ -78,12 +75,10 @@ IfStepDamaged (Ok a) P = Unit {0}
 abbrev pub IsBuilt : Request → Type 0
 IsBuilt (to_create handle key) = Unit {0}
 IsBuilt (to_open handle key) = Unit {0}
+IsBuilt (to_read handle stream offset count) = Unit {0}
 IsBuilt (to_size handle stream) = Unit {0}
 IsBuilt (to_close handle) = Unit {0}
+IsBuilt to_list = Unit {0}
 IsBuilt (to_trim bytes) = Unit {0}
 IsBuilt to_total = Unit {0}
 IsBuilt _ = ⊥
-
--- an answer has a line of its own
-abbrev pub HasLine : Answer → Type 0
-HasLine given = (n : ℕ) → given ≢ answer.Bytes n

@@ -1,5 +1,5 @@
 // The command Close.
-ghost use Rattle.std.specs.Prelude.{◌≡◌, ◌≤◌, IfOk, IfSome, IsSome, IsTrue, None, Ok, false, if◌then◌else◌, slice_set, true, ℕ};
+ghost use Rattle.std.specs.Prelude.{◌≡◌, ◌≤◌, IfOk, IfSome, IsSome, IsTrue, None, Ok, OnOk, false, if◌then◌else◌, slice_set, true, ℕ};
 ghost use Rattle.std.specs.Option.{ForSome};
 ghost use Rattle.blk_image.specs.Told.{Rises, Stays};
 ghost use Rattle.blk_io.specs.Faults.{IfDamaged, IfDevice};
@@ -17,7 +17,6 @@ ghost use Rattle.blk_object.specs.FailedChecks.{IsFailedCheck};
 ghost use Rattle.blk_cache.specs.CacheKeeping.{KeepsState};
 ghost use Rattle.blk_cache.specs.Closing.{Cleans, CountsClosed, FreesAll, HasFreeable, MayEnd};
 ghost use Rattle.blk_cache.specs.CommandClauses.{IsRefused, KeepsAny, OnlyNamesChange};
-ghost use Rattle.blk_cache.specs.Stepping.{HasLine};
 
 use crate::cache::Cache;
 use crate::looking::read_charge;
@@ -47,8 +46,10 @@ impl Cache {
         ensures quiet { IfOk result (λ answer. IsRefused answer → Stays (F.told f.old) (F.told f.new)) }
         ensures unchanged { IfOk result (λ answer. IsRefused answer → self.new ≡ self.old) }
 
+        // One that is bound is free then, on every folder, and the other names are bound as before.
+        ensures frees { IsSome (binding_of self.old.handles handle) → OnOk result (self.new.handles ≡ slice_set self.old.handles handle None) }
+
         ensures is_open { ForSome (F.told f.new).files (IsOpen self.new.files) }
-        ensures has_line { IfOk result HasLine }
         ensures notes { self.new.notes ≡ self.old.notes }
 
         // A damage is a check that fails on what is read here; nothing is written after it.

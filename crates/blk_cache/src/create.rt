@@ -22,7 +22,7 @@ ghost use Rattle.blk_cache.specs.CommandClauses.{IsRefused, KeepsAny, open_refus
 ghost use Rattle.blk_cache.specs.Creating.{CountsOneMore, HasRoomFor, IsReadyForSome, IsReadyToCreate, KeepsWithRoom, create_refusal};
 ghost use Rattle.blk_cache.specs.Looking.{IsLookDamage};
 ghost use Rattle.blk_cache.specs.RoomPrinting.{FailsWhereItRose};
-ghost use Rattle.blk_cache.specs.Stepping.{HasLine, SaysEvicted, SaysFront};
+ghost use Rattle.blk_cache.specs.Stepping.{SaysEvicted, SaysFront};
 
 use crate::cache::Cache;
 use crate::looking::{Live, find_live};
@@ -63,7 +63,6 @@ impl Cache {
         ensures quiet { IfOk result (λ answer. IsRefused answer → Stays (F.told f.old) (F.told f.new)) }
         ensures unchanged { IfOk result (λ answer. IsRefused answer → self.new ≡ self.old) }
 
-        ensures has_line { IfOk result HasLine }
         ensures is_open { OnOk result (ForSome (F.told f.new).files (IsOpen self.new.files)) }
         ensures notes { self.new.notes ≡ self.old.notes }
 
@@ -106,7 +105,6 @@ impl Cache {
         ensures stops { ForSome (F.told f.old).files (λ from. (state : State) → IsReadyToCreate self.old state moment handle key.now from → Passes (F.told f.old) (F.told f.new) (MayStop state moment (to_create handle key.now))) }
 
         ensures done { IfOk result (λ given. given ≡ answer.Done) }
-        ensures has_line { IfOk result HasLine }
         ensures notes { self.new.notes ≡ self.old.notes }
         ensures is_open { OnOk result (ForSome (F.told f.new).files (IsOpen self.new.files)) }
         ensures damaged { IfDamaged result (IsFailedCheck self.new.files (F.told f.new)) }

@@ -232,7 +232,7 @@ fn remove_parent<F: Folder, K: Sink>(
 }
 
 // The key of the parent in the name of a part.
-fn parent_key<'a>(name: &'a [u8], child: &ChildName) -> &'a [u8]
+pub(crate) fn parent_key<'a>(name: &'a [u8], child: &ChildName) -> &'a [u8]
     requires named { IsName name.now (name_within name.now child.now) }
     ensures { result.now ≡ (name_within name.now child.now).key }
 {

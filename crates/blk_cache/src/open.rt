@@ -13,7 +13,6 @@ ghost use Rattle.blk_kept.specs.Commands.{Does, MayStopAtEach};
 ghost use Rattle.blk_object.specs.FailedChecks.{IsFailedCheck};
 ghost use Rattle.blk_cache.specs.CacheKeeping.{KeepsState};
 ghost use Rattle.blk_cache.specs.CommandClauses.{IsOpenDamage, IsRefused, KeepsAny, OnlyNamesChange, charged_with, open_refusal};
-ghost use Rattle.blk_cache.specs.Stepping.{HasLine};
 
 use crate::cache::Cache;
 use crate::looking::{Live, find_live};
@@ -47,7 +46,6 @@ impl Cache {
         ensures unchanged { IfOk result (λ answer. IsRefused answer → self.new ≡ self.old) }
 
         ensures is_open { ForSome (F.told f.new).files (IsOpen self.new.files) }
-        ensures has_line { IfOk result HasLine }
         ensures notes { self.new.notes ≡ self.old.notes }
 
         // A folder that tells its files gives no damage where the cache keeps a state.

@@ -10,7 +10,6 @@ ghost use Rattle.blk_object.specs.FailedChecks.{IsFailedCheck};
 ghost use Rattle.blk_cache.specs.Asking.{IsAskDamage, early_stream_refusal};
 ghost use Rattle.blk_cache.specs.CacheKeeping.{KeepsState};
 ghost use Rattle.blk_cache.specs.CommandClauses.{KeepsAny};
-ghost use Rattle.blk_cache.specs.Stepping.{HasLine};
 
 use crate::asking::Asked;
 use crate::cache::Cache;
@@ -30,7 +29,6 @@ impl Cache {
     ) -> Result<Answer, Fault>
         ensures does { (moment : ℕ) → IfOk result (λ answer. Does (KeepsState self.now) (KeepsState self.now) (F.told f.old) (F.told f.new) moment (to_size handle stream) answer) }
         ensures stays { Stays (F.told f.old) (F.told f.new) }
-        ensures has_line { IfOk result HasLine }
 
         // What the names and the stream tell is refused on every folder.
         ensures refuses { IfSome (early_stream_refusal self.now.handles handle stream) (λ why. result ≡ Ok (answer.Refused why)) }

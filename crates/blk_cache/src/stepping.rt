@@ -1,30 +1,29 @@
 // Commands with their notes, and what they print.
-ghost use Rattle.std.specs.Prelude.{◌≡◌, ◌≢◌, ◌≤◌, ◌+◌, ◌∷◌, ◌++◌, [], IfOk, IfSome, None, OnErr, OnOk, Some, is_some, position, true};
+ghost use Rattle.std.specs.Prelude.{◌≡◌, ◌≤◌, ◌+◌, ◌∷◌, ◌++◌, ◌⊎◌, [], IfOk, IfSome, None, OnErr, OnOk, is_some, position, slice_set};
 ghost use Rattle.std.specs.Option.{ForSome, option_map};
 ghost use Rattle.blk_image.specs.Steps.{Note};
 ghost use Rattle.blk_image.specs.Told.{Applies, Rises, Stays};
 ghost use Rattle.blk_io.specs.Faults.{IfDamaged, IfDevice};
 ghost use Rattle.blk_io.specs.Streams.{Appends};
-ghost use Rattle.blk_model.specs.Reply.{answer_of, answered};
+ghost use Rattle.blk_model.specs.Reply.{answer_of};
 ghost use Rattle.blk_model.specs.Request.{request_of, to_close};
 ghost use Rattle.blk_model.specs.Step.{step};
 ghost use Rattle.blk_disk.specs.Open.{IsOpen};
 ghost use Rattle.blk_kept.specs.Commands.{Does, ForKept, IsNoted, IsStepped, MayStopAtEach, note_number};
-ghost use Rattle.blk_script.specs.Reply.{reply_text};
 ghost use Rattle.blk_cache.specs.CacheKeeping.{KeepsState};
 ghost use Rattle.blk_cache.specs.CommandClauses.{IsRefused, KeepsAny, OnlyNotesChange};
-ghost use Rattle.blk_cache.specs.RoomPrinting.{FailsWhereItRose, Prints};
-ghost use Rattle.blk_cache.specs.Stepping.{HasLine, IfDone, IfSink, IfStepDamaged, IfStepDevice, IsBuilt, SaysEvicted, SaysFront, evicted_first, outcome_text};
+ghost use Rattle.blk_cache.specs.RoomPrinting.{FailsWhereItRose};
+ghost use Rattle.blk_cache.specs.Stepping.{IfDone, IfSink, IfStepDamaged, IfStepDevice, IsBuilt, SaysEvicted, SaysFront, evicted_first, outcome_text};
 
 use crate::cache::Cache;
 use crate::fault::StepFault;
 use blk_io::{Fault, Folder, Sink};
 use blk_model::{Answer, Command};
-use blk_script::print_reply;
 
 impl Cache {
     /// Does one command at a moment, in microseconds since 1970 UTC: what it evicts is printed as it goes, all is written,
-    /// it is noted that one command more is done, and then the reply is printed.
+    /// it is noted that one command more is done, and then the reply is printed: the bytes of a Read and the rows of a List
+    /// as the folder has them then.
     ///
     /// A refusal is an answer, and changes nothing; its note is made too.
     ///
@@ -55,10 +54,10 @@ impl Cache {
         // A refused one makes its note alone.
         ensures alone { IfOk result (λ answer. IsRefused answer → Applies (F.told f.old) (F.told f.new) (Note (note_number (self.old.notes + 1)) ∷ [])) }
 
-        // What it evicts is printed, and then the reply; where there is no answer, a front of it, and no reply where the folder failed.
+        // What it evicts is printed, and then the reply; where there is no answer, a front of it; where the folder failed nothing of the reply, or it failed in the reply, behind the note.
         ensures printed { OnOk result (ForKept (KeepsState self.old) (F.told f.old) (λ state. K.written out.new ≡ option_map (λ w. w ++ outcome_text (step state moment (request_of command.now))) (K.written out.old))) }
         ensures front { ForKept (KeepsState self.old) (F.told f.old) (λ state. Appends (K.written out.old) (K.written out.new) (outcome_text (step state moment (request_of command.now)))) }
-        ensures unanswered { IfStepDevice result (SaysFront self.old (F.told f.old) moment (request_of command.now) (K.written out.old) (K.written out.new)) }
+        ensures unanswered { IfStepDevice result (SaysFront self.old (F.told f.old) moment (request_of command.now) (K.written out.old) (K.written out.new) ⊎ ForKept (KeepsState self.old) (F.told f.old) (IsNoted (F.told f.old) (F.told f.new) moment (request_of command.now) (note_number (self.old.notes + 1)))) }
 
         ensures is_open { IfDone result (ForSome (F.told f.new).files (IsOpen self.new.files)) }
         ensures untold { ForSome (F.told f.old).files (KeepsAny self.old) → IfStepDamaged result (λ _. (F.told f.old).files ≡ None) }
@@ -70,7 +69,7 @@ impl Cache {
         let mut failed = false;
         let answer = self.perform(f, out, &mut failed, moment, command)?;
         self.note(f)?;
-        reply(out, &mut failed, &answer);
+        self.reply(f, out, &mut failed, command, &answer)?;
         if failed {
             Err(StepFault::Sink)
         } else {
@@ -93,6 +92,9 @@ impl Cache {
         ensures stepped { IfSome (position is_some self.old.handles) (λ handle. ForKept (KeepsState self.old) (F.told f.old) (IsStepped (F.told f.old) (F.told f.new) moment (to_close handle) (note_number (self.old.notes + 1)))) }
         ensures noted { OnOk result (IfSome (position is_some self.old.handles) (λ handle. ForKept (KeepsState self.old) (F.told f.old) (IsNoted (F.told f.old) (F.told f.new) moment (to_close handle) (note_number (self.old.notes + 1))))) }
         ensures counts { OnOk result (IfSome (position is_some self.old.handles) (λ _. self.new.notes ≡ note_number (self.old.notes + 1))) }
+
+        // Its name is free then, and the other names are bound as before.
+        ensures frees { OnOk result (IfSome (position is_some self.old.handles) (λ handle. self.new.handles ≡ slice_set self.old.handles handle None)) }
 
         // Where none is, nothing is done.
         ensures nothing { position is_some self.old.handles ≡ None → Stays (F.told f.old) (F.told f.new) }
@@ -135,7 +137,6 @@ impl Cache {
         ensures front { SaysFront self.old (F.told f.old) moment (request_of command.now) (K.written out.old) (K.written out.new) }
         ensures failed { FailsWhereItRose failed.old failed.new (K.faults out.old) (K.faults out.new) }
         ensures quiet { IfOk result (λ answer. IsRefused answer → Stays (F.told f.old) (F.told f.new)) }
-        ensures has_line { IfOk result HasLine }
         ensures notes { self.new.notes ≡ self.old.notes }
         ensures is_open { OnOk result (ForSome (F.told f.new).files (IsOpen self.new.files)) }
         ensures untold { ForSome (F.told f.old).files (KeepsAny self.old) → IfDamaged result (λ _. (F.told f.old).files ≡ None) }
@@ -146,8 +147,15 @@ impl Cache {
         match *command {
             Command::Create { handle, key } => self.create(f, out, failed, handle, key, moment),
             Command::Open { handle, key } => self.open(f, handle, key, moment),
+            Command::Read {
+                handle,
+                stream,
+                offset,
+                count,
+            } => self.use_read(f, handle, stream, offset, count, moment),
             Command::Size { handle, stream } => self.size(f, handle, stream),
             Command::Close { handle } => self.close(f, handle),
+            Command::List => self.list(f),
             Command::Trim { bytes } => self.trim(f, out, failed, bytes),
             Command::Total => Ok(self.total()),
             _ => unreachable!(),
@@ -171,17 +179,4 @@ impl Cache {
             Err(_) => Err(Fault::Device),
         }
     }
-}
-
-// Prints the line of an answer, unless the sink failed before.
-fn reply<K: Sink>(out: &mut K, failed: &mut bool, answer: &Answer)
-    requires has_line { HasLine answer.now }
-    ensures prints { Prints failed.old failed.new (K.written out.old) (K.written out.new) (reply_text (answered answer.now)) }
-    ensures failed { FailsWhereItRose failed.old failed.new (K.faults out.old) (K.faults out.new) }
-    ensures later { K.faults out.old ≤ K.faults out.new }
-{
-    if *failed {
-        return;
-    }
-    *failed = print_reply(out, answer).is_err();
 }

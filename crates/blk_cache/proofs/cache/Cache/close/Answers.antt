@@ -1,5 +1,5 @@
-use Rattle.std.proofs.Common.{◌≡◌, Ok, None, refl, sym, ◌∙◌, ap, subst, arith}
-use Rattle.std.specs.Prelude.{not}
+use Rattle.std.proofs.Common.{◌≡◌, inl, inr, Ok, None, Some, Option, true, false, refl, sym, ◌∙◌, ap, subst, arith}
+use Rattle.std.specs.Prelude.{IsSome, not}
 use Rattle.blk_image.specs.Told.{Told}
 use Rattle.blk_io.proofs.Carried.{carried, if_damaged_weaker}
 use Rattle.blk_model.specs.Request.{to_close}
@@ -142,3 +142,13 @@ returns-in_err-charge-in-Last-clause-damaged g c =
     handed c.read_charge.result c.from_residual.result c.in_err-charge-in-Last.field-0.0 _ c.release.new.self.files (g.F.Folder.told c.read_charge.new.f)
     (λ damage wrong. moved c.release.new.self.files (g.F.Folder.told c.args.f.now) (g.F.Folder.told c.read_charge.new.f) damage c.read_charge.ensures.stays (head-checked c.release.new.self.files (g.F.Folder.told c.args.f.now) c.in-Last.object.entry damage parts.1.0 parts.1.1 wrong))
     c.in_err-charge-in-Last.was c.from_residual.ensures.1 c.read_charge.ensures.damaged
+
+-- The name is free.
+
+pub returns-then-is_none-clause-frees : goal.returns-then-is_none-clause-frees
+returns-then-is_none-clause-frees g c bound =
+    absurd (nothing _ (free-there c.args.self.now.handles c.args.handle c.object.result c.object.ensures.object (c.is_none.ensures ∙ ap not c.if-is_none.true)) bound)
+  where
+    nothing : {A : Type 0} (o : Option A) → o ≡ None → IsSome o → ⊥
+    nothing None is some = let z : false ≡ true = some in cc
+    nothing (Some a) is some = cc

@@ -1,5 +1,6 @@
-use Rattle.std.proofs.Common.{◌≡◌, ℕ, ◌+◌, [], ◌∷◌, IfSome, Option, Some, refl, sym, ap, subst, ◌∙◌}
-use Rattle.std.specs.Prelude.{is_some, position}
+use Rattle.std.proofs.Common.{◌≡◌, ℕ, ◌+◌, [], ◌∷◌, IfSome, Option, None, Some, refl, sym, subst, ◌∙◌}
+use Rattle.std.specs.Prelude.{is_some, position, slice_set}
+use Rattle.std.proofs.lemmas.List.Quantifiers.{position-Some}
 use Rattle.std.specs.Option.{ForSome}
 use Rattle.blk_image.specs.Steps.{Note}
 use Rattle.blk_image.specs.Told.{Applies, Told}
@@ -49,3 +50,9 @@ returns-clause-noted g c =
 pub returns-clause-is_open : goal.returns-clause-is_open
 returns-clause-is_open g c =
     open-on c.close.new.self c.note.new.self (g.F.Folder.told c.close.new.f) (g.F.Folder.told c.note.new.f) (same-files (g.F.Folder.told c.close.new.f) (g.F.Folder.told c.note.new.f) _ c.in_ok-note.ensures.done) c.in_ok-note.ensures.others c.in_ok-close.ensures.is_open
+
+pub returns-clause-frees : goal.returns-clause-frees
+returns-clause-frees g c =
+    let at : position is_some c.args.self.now.handles ≡ Some c.in-Some.handle = sym c.least_name.ensures ∙ c.in-Some.is in
+    if-some (position is_some c.args.self.now.handles) c.in-Some.handle (λ handle. c.note.new.self.handles ≡ slice_set c.args.self.now.handles handle None) at
+    (c.in_ok-note.ensures.others.handles ∙ c.in_ok-close.ensures.frees ((position-Some is_some c.args.self.now.handles c.in-Some.handle None at).1))

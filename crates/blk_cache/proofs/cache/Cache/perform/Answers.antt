@@ -1,9 +1,9 @@
-use Rattle.std.proofs.Common.{◌≡◌, refl, sym, ap, subst, ◌∙◌}
+use Rattle.std.proofs.Common.{refl, sym, ap, subst, ◌∙◌}
 use Rattle.std.specs.Option.{ForSome}
 use Rattle.blk_image.specs.Told.{Told}
 use Rattle.blk_disk.specs.Open.{IsOpen}
 use Rattle.std.specs.Prelude.{IfOk, OnOk}
-use Rattle.blk_model.specs.Request.{request_of, to_close, to_open, to_size, to_total}
+use Rattle.blk_model.specs.Request.{request_of, to_close, to_list, to_open, to_read, to_size, to_total}
 use Rattle.blk_model.specs.declared.Command.{Command}
 use Rattle.blk_kept.specs.Commands.{Does, MayStopAtEach}
 use Rattle.blk_kept.proofs.Stopping.{nothing-stops}
@@ -87,3 +87,36 @@ returns-in-Trim-clause-front g c = subst (λ (cmd : Command). SaysFront c.args.s
 
 pub returns-in-Size-clause-is_open : goal.returns-in-Size-clause-is_open
 returns-in-Size-clause-is_open g c = on-ok c.size.result (ForSome (g.F.Folder.told c.size.new.f).files (IsOpen c.args.self.now.files)) (λ image now. c.requires.is_open image (ap (λ (t : Told). t.files) (sym c.size.ensures.stays) ∙ now))
+
+pub returns-in-Read-clause-does : goal.returns-in-Read-clause-does
+returns-in-Read-clause-does g c = subst (λ (cmd : Command). IfOk c.use_read.result (λ given. Does (KeepsState c.args.self.now) (KeepsState c.args.self.now) (g.F.Folder.told c.args.f.now) (g.F.Folder.told c.use_read.new.f) c.args.moment (request_of cmd) given)) (sym c.in-Read.is) c.use_read.ensures.does
+
+pub returns-in-Read-clause-stops : goal.returns-in-Read-clause-stops
+returns-in-Read-clause-stops g c = subst (λ (cmd : Command). MayStopAtEach (KeepsState c.args.self.now) (g.F.Folder.told c.args.f.now) (g.F.Folder.told c.use_read.new.f) c.args.moment (request_of cmd)) (sym c.in-Read.is) c.use_read.ensures.stops
+
+pub returns-in-Read-clause-says : goal.returns-in-Read-clause-says
+returns-in-Read-clause-says g c = subst (λ (cmd : Command). OnOk c.use_read.result (SaysEvicted c.args.self.now (g.F.Folder.told c.args.f.now) c.args.moment (request_of cmd) c.args.failed.now c.args.failed.now (g.K.Sink.written c.args.out.now) (g.K.Sink.written c.args.out.now))) (sym c.in-Read.is)
+    (on-ok c.use_read.result (SaysEvicted c.args.self.now (g.F.Folder.told c.args.f.now) c.args.moment (to_read c.in-Read.handle c.in-Read.stream c.in-Read.offset c.in-Read.count) c.args.failed.now c.args.failed.now (g.K.Sink.written c.args.out.now) (g.K.Sink.written c.args.out.now))
+    (says-nothing c.args.self.now (g.F.Folder.told c.args.f.now) c.args.moment (to_read c.in-Read.handle c.in-Read.stream c.in-Read.offset c.in-Read.count) tt c.args.failed.now (g.K.Sink.written c.args.out.now)))
+
+pub returns-in-Read-clause-front : goal.returns-in-Read-clause-front
+returns-in-Read-clause-front g c = subst (λ (cmd : Command). SaysFront c.args.self.now (g.F.Folder.told c.args.f.now) c.args.moment (request_of cmd) (g.K.Sink.written c.args.out.now) (g.K.Sink.written c.args.out.now)) (sym c.in-Read.is)
+    (front-nothing c.args.self.now (g.F.Folder.told c.args.f.now) c.args.moment (to_read c.in-Read.handle c.in-Read.stream c.in-Read.offset c.in-Read.count) tt c.args.failed.now (g.K.Sink.written c.args.out.now))
+
+pub returns-in-List-clause-does : goal.returns-in-List-clause-does
+returns-in-List-clause-does g c = subst (λ (cmd : Command). IfOk c.list.result (λ given. Does (KeepsState c.args.self.now) (KeepsState c.args.self.now) (g.F.Folder.told c.args.f.now) (g.F.Folder.told c.list.new.f) c.args.moment (request_of cmd) given)) (sym c.in-List.is) (c.list.ensures.does c.args.moment)
+
+pub returns-in-List-clause-stops : goal.returns-in-List-clause-stops
+returns-in-List-clause-stops g c = nothing-stops (KeepsState c.args.self.now) (says-kept c.args.self.now) (g.F.Folder.told c.args.f.now) (g.F.Folder.told c.list.new.f) c.args.moment (request_of c.args.command.now) c.list.ensures.stays
+
+pub returns-in-List-clause-says : goal.returns-in-List-clause-says
+returns-in-List-clause-says g c = subst (λ (cmd : Command). OnOk c.list.result (SaysEvicted c.args.self.now (g.F.Folder.told c.args.f.now) c.args.moment (request_of cmd) c.args.failed.now c.args.failed.now (g.K.Sink.written c.args.out.now) (g.K.Sink.written c.args.out.now))) (sym c.in-List.is)
+    (on-ok c.list.result (SaysEvicted c.args.self.now (g.F.Folder.told c.args.f.now) c.args.moment to_list c.args.failed.now c.args.failed.now (g.K.Sink.written c.args.out.now) (g.K.Sink.written c.args.out.now))
+    (says-nothing c.args.self.now (g.F.Folder.told c.args.f.now) c.args.moment to_list tt c.args.failed.now (g.K.Sink.written c.args.out.now)))
+
+pub returns-in-List-clause-front : goal.returns-in-List-clause-front
+returns-in-List-clause-front g c = subst (λ (cmd : Command). SaysFront c.args.self.now (g.F.Folder.told c.args.f.now) c.args.moment (request_of cmd) (g.K.Sink.written c.args.out.now) (g.K.Sink.written c.args.out.now)) (sym c.in-List.is)
+    (front-nothing c.args.self.now (g.F.Folder.told c.args.f.now) c.args.moment to_list tt c.args.failed.now (g.K.Sink.written c.args.out.now))
+
+pub returns-in-List-clause-is_open : goal.returns-in-List-clause-is_open
+returns-in-List-clause-is_open g c = on-ok c.list.result (ForSome (g.F.Folder.told c.list.new.f).files (IsOpen c.args.self.now.files)) (λ image now. c.requires.is_open image (ap (λ (t : Told). t.files) (sym c.list.ensures.stays) ∙ now))

@@ -1,10 +1,15 @@
-use Rattle.std.proofs.Common.{◌≡◌, ℕ, ◌+◌, [], ◌∷◌, Bool, false, refl, ap, subst}
+use Rattle.std.proofs.Common.{◌≡◌, ℕ, ◌+◌, None, [], ◌∷◌, refl, sym, subst}
 use Rattle.blk_image.specs.Steps.{Note}
 use Rattle.blk_image.specs.Told.{Applies, Told}
+use Rattle.blk_io.proofs.Carried.{if_damaged_weaker}
 use Rattle.blk_model.specs.Request.{request_of}
-use Rattle.blk_kept.specs.Commands.{note_number}
+use Rattle.blk_model.specs.Step.{step}
+use Rattle.blk_kept.specs.Commands.{ForKept, IsNoted, IsStepped, note_number}
+use Rattle.blk_cache.specs.CacheKeeping.{KeepsState}
+use Rattle.blk_cache.specs.Stepping.{IfStepDamaged}
 use Rattle.blk_cache.proofs.Notes.{not-noted, noted-does, noted-ends, noted-steps, open-on, same-files}
-use Rattle.blk_cache.proofs.StepTexts.{front-of-whole, front-printed, whole-printed}
+use Rattle.blk_cache.proofs.StepEnds.{any-damaged, by-files, damaged-on, failed-before, failed-behind, kept-behind, open-behind}
+use Rattle.blk_cache.proofs.StepTexts.{any-after, front-of-whole, front-printed, none-before, whole-printed}
 use Rattle.blk_cache.proofs.cache.Cache.step.Goals as goal
 
 -- It isn't done.
@@ -14,7 +19,12 @@ returns-in_err-answer-clause-stepped g c =
     not-noted c.args.self.now c.perform.new.self c.perform.new.self (g.F.Folder.told c.args.f.now) (g.F.Folder.told c.perform.new.f) (g.F.Folder.told c.perform.new.f) c.args.moment (request_of c.args.command.now) (note_number (c.args.self.now.notes + 1)) c.in_err-answer.ensures.stops refl
 
 pub returns-in_err-answer-clause-front : goal.returns-in_err-answer-clause-front
-returns-in_err-answer-clause-front g c = front-of-whole c.args.self.now (g.F.Folder.told c.args.f.now) c.args.moment (request_of c.args.command.now) (g.K.Sink.written c.args.out.now) (g.K.Sink.written c.perform.new.out) c.in_err-answer.ensures.front
+returns-in_err-answer-clause-front g c =
+    front-of-whole c.args.self.now (g.F.Folder.told c.args.f.now) c.args.moment (request_of c.args.command.now) (g.K.Sink.written c.args.out.now) (g.K.Sink.written c.perform.new.out) c.in_err-answer.ensures.front
+
+pub returns-in_err-answer-clause-unanswered : goal.returns-in_err-answer-clause-unanswered
+returns-in_err-answer-clause-unanswered g c =
+    failed-before c.from_residual.result c.args.self.now (g.F.Folder.told c.args.f.now) (g.F.Folder.told c.perform.new.f) c.args.moment (request_of c.args.command.now) (note_number (c.args.self.now.notes + 1)) (g.K.Sink.written c.args.out.now) (g.K.Sink.written c.perform.new.out) c.in_err-answer.ensures.front
 
 -- The note isn't made.
 
@@ -23,68 +33,122 @@ returns-in_err-note-clause-stepped g c =
     not-noted c.args.self.now c.perform.new.self c.note.new.self (g.F.Folder.told c.args.f.now) (g.F.Folder.told c.perform.new.f) (g.F.Folder.told c.note.new.f) c.args.moment (request_of c.args.command.now) (note_number (c.args.self.now.notes + 1)) c.in_ok-answer.ensures.stops c.in_err-note.ensures.undone
 
 pub returns-in_err-note-clause-front : goal.returns-in_err-note-clause-front
-returns-in_err-note-clause-front g c = front-of-whole c.args.self.now (g.F.Folder.told c.args.f.now) c.args.moment (request_of c.args.command.now) (g.K.Sink.written c.args.out.now) (g.K.Sink.written c.perform.new.out) c.in_ok-answer.ensures.front
+returns-in_err-note-clause-front g c =
+    front-of-whole c.args.self.now (g.F.Folder.told c.args.f.now) c.args.moment (request_of c.args.command.now) (g.K.Sink.written c.args.out.now) (g.K.Sink.written c.perform.new.out) c.in_ok-answer.ensures.front
+
+pub returns-in_err-note-clause-unanswered : goal.returns-in_err-note-clause-unanswered
+returns-in_err-note-clause-unanswered g c =
+    failed-before c.from_residual-in_err-note.result c.args.self.now (g.F.Folder.told c.args.f.now) (g.F.Folder.told c.note.new.f) c.args.moment (request_of c.args.command.now) (note_number (c.args.self.now.notes + 1)) (g.K.Sink.written c.args.out.now) (g.K.Sink.written c.perform.new.out) c.in_ok-answer.ensures.front
 
 -- the note that is made
 made : (old mid : ℕ) (told now : Told) → mid ≡ old → Applies told now (Note (note_number (mid + 1)) ∷ []) → Applies told now (Note (note_number (old + 1)) ∷ [])
 made old mid told now same note = subst (λ (n : ℕ). Applies told now (Note (note_number (n + 1)) ∷ [])) same note
 
+-- The folder fails in the reply.
+
+pub returns-in_err-reply-clause-stepped : goal.returns-in_err-reply-clause-stepped
+returns-in_err-reply-clause-stepped g c =
+    subst (λ (t : Told). ForKept (KeepsState c.args.self.now) (g.F.Folder.told c.args.f.now) (IsStepped (g.F.Folder.told c.args.f.now) t c.args.moment (request_of c.args.command.now) (note_number (c.args.self.now.notes + 1)))) (sym c.in_err-reply.ensures.stays)
+    (noted-steps c.args.self.now c.perform.new.self c.note.new.self (g.F.Folder.told c.args.f.now) (g.F.Folder.told c.perform.new.f) (g.F.Folder.told c.note.new.f) c.args.moment (request_of c.args.command.now) (note_number (c.args.self.now.notes + 1)) c.in_ok-answer.ensures.stops c.in_ok-answer.answer c.in_ok-answer.ensures.does
+    (made c.args.self.now.notes c.perform.new.self.notes (g.F.Folder.told c.perform.new.f) (g.F.Folder.told c.note.new.f) c.in_ok-answer.ensures.notes c.in_ok-note.ensures.done) c.in_ok-note.ensures.others)
+
+pub returns-in_err-reply-clause-front : goal.returns-in_err-reply-clause-front
+returns-in_err-reply-clause-front g c =
+    front-printed c.args.self.now c.note.new.self (g.F.Folder.told c.args.f.now) (g.F.Folder.told c.perform.new.f) (g.F.Folder.told c.note.new.f) c.args.moment (request_of c.args.command.now) c.in_ok-answer.ensures.stops
+    (same-files (g.F.Folder.told c.perform.new.f) (g.F.Folder.told c.note.new.f) _ c.in_ok-note.ensures.done) c.requires.built c.in_ok-answer.answer (noted-does c.args.self.now c.perform.new.self c.note.new.self (g.F.Folder.told c.args.f.now) (g.F.Folder.told c.perform.new.f) (g.F.Folder.told c.note.new.f) c.args.moment (request_of c.args.command.now) (note_number (c.args.self.now.notes + 1)) c.in_ok-answer.ensures.stops c.in_ok-answer.answer c.in_ok-answer.ensures.does
+    (made c.args.self.now.notes c.perform.new.self.notes (g.F.Folder.told c.perform.new.f) (g.F.Folder.told c.note.new.f) c.in_ok-answer.ensures.notes c.in_ok-note.ensures.done) c.in_ok-note.ensures.others)
+    c.perform.new.failed c.reply.new.failed (g.K.Sink.written c.args.out.now) (g.K.Sink.written c.perform.new.out) (g.K.Sink.written c.reply.new.out) c.in_ok-answer.ensures.says c.in_err-reply.ensures.part
+
+pub returns-in_err-reply-clause-unanswered : goal.returns-in_err-reply-clause-unanswered
+returns-in_err-reply-clause-unanswered g c =
+    failed-behind c.from_residual-in_err-reply.result c.args.self.now (g.F.Folder.told c.args.f.now) (g.F.Folder.told c.reply.new.f) c.args.moment (request_of c.args.command.now) (note_number (c.args.self.now.notes + 1)) (g.K.Sink.written c.args.out.now) (g.K.Sink.written c.reply.new.out)
+    (subst (λ (t : Told). ForKept (KeepsState c.args.self.now) (g.F.Folder.told c.args.f.now) (IsNoted (g.F.Folder.told c.args.f.now) t c.args.moment (request_of c.args.command.now) (note_number (c.args.self.now.notes + 1)))) (sym c.in_err-reply.ensures.stays)
+    (noted-ends c.args.self.now c.perform.new.self c.note.new.self (g.F.Folder.told c.args.f.now) (g.F.Folder.told c.perform.new.f) (g.F.Folder.told c.note.new.f) c.args.moment (request_of c.args.command.now) (note_number (c.args.self.now.notes + 1)) c.in_ok-answer.ensures.stops c.in_ok-answer.answer c.in_ok-answer.ensures.does
+    (made c.args.self.now.notes c.perform.new.self.notes (g.F.Folder.told c.perform.new.f) (g.F.Folder.told c.note.new.f) c.in_ok-answer.ensures.notes c.in_ok-note.ensures.done) c.in_ok-note.ensures.others))
+
+pub returns-in_err-reply-clause-untold : goal.returns-in_err-reply-clause-untold
+returns-in_err-reply-clause-untold g c any =
+    by-files (IfStepDamaged c.from_residual-in_err-reply.result (λ _. (g.F.Folder.told c.args.f.now).files ≡ None)) (g.F.Folder.told c.args.f.now).files
+    (λ none. any-damaged c.from_residual-in_err-reply.result ((g.F.Folder.told c.args.f.now).files ≡ None) none)
+    (λ image there. damaged-on c.reply.result c.from_residual-in_err-reply.result c.in_err-reply.field-0.0 (λ _. (g.F.Folder.told c.args.f.now).files ≡ None) c.in_err-reply.was c.from_residual-in_err-reply.ensures.1
+    (if_damaged_weaker c.reply.result (λ _. (g.F.Folder.told c.note.new.f).files ≡ None) (λ _. (g.F.Folder.told c.args.f.now).files ≡ None)
+    (λ damage none. none-before c.args.self.now c.note.new.self (g.F.Folder.told c.args.f.now) (g.F.Folder.told c.perform.new.f) (g.F.Folder.told c.note.new.f) c.args.moment (request_of c.args.command.now) c.in_ok-answer.ensures.stops
+    (same-files (g.F.Folder.told c.perform.new.f) (g.F.Folder.told c.note.new.f) _ c.in_ok-note.ensures.done) any none)
+    (c.reply.ensures.untold (any-after c.args.self.now c.note.new.self (g.F.Folder.told c.args.f.now) (g.F.Folder.told c.perform.new.f) (g.F.Folder.told c.note.new.f) c.args.moment (request_of c.args.command.now) c.in_ok-answer.ensures.stops
+    (same-files (g.F.Folder.told c.perform.new.f) (g.F.Folder.told c.note.new.f) _ c.in_ok-note.ensures.done) c.requires.built c.in_ok-answer.answer (noted-does c.args.self.now c.perform.new.self c.note.new.self (g.F.Folder.told c.args.f.now) (g.F.Folder.told c.perform.new.f) (g.F.Folder.told c.note.new.f) c.args.moment (request_of c.args.command.now) (note_number (c.args.self.now.notes + 1)) c.in_ok-answer.ensures.stops c.in_ok-answer.answer c.in_ok-answer.ensures.does
+    (made c.args.self.now.notes c.perform.new.self.notes (g.F.Folder.told c.perform.new.f) (g.F.Folder.told c.note.new.f) c.in_ok-answer.ensures.notes c.in_ok-note.ensures.done) c.in_ok-note.ensures.others) any image there))))
+
 -- It is done, and the sink failed.
 
 pub returns-then-failed-clause-kept : goal.returns-then-failed-clause-kept
 returns-then-failed-clause-kept g c image there state k =
+    kept-behind c.note.new.self c.reply.new.self (g.F.Folder.told c.note.new.f) (g.F.Folder.told c.reply.new.f) c.in_ok-reply.ensures.others c.in_ok-reply.ensures.stays (step state c.args.moment (request_of c.args.command.now)).state
     (noted-does c.args.self.now c.perform.new.self c.note.new.self (g.F.Folder.told c.args.f.now) (g.F.Folder.told c.perform.new.f) (g.F.Folder.told c.note.new.f) c.args.moment (request_of c.args.command.now) (note_number (c.args.self.now.notes + 1)) c.in_ok-answer.ensures.stops c.in_ok-answer.answer c.in_ok-answer.ensures.does
     (made c.args.self.now.notes c.perform.new.self.notes (g.F.Folder.told c.perform.new.f) (g.F.Folder.told c.note.new.f) c.in_ok-answer.ensures.notes c.in_ok-note.ensures.done) c.in_ok-note.ensures.others image there state k).kept
 
 pub returns-then-failed-clause-stepped : goal.returns-then-failed-clause-stepped
 returns-then-failed-clause-stepped g c =
-    noted-steps c.args.self.now c.perform.new.self c.note.new.self (g.F.Folder.told c.args.f.now) (g.F.Folder.told c.perform.new.f) (g.F.Folder.told c.note.new.f) c.args.moment (request_of c.args.command.now) (note_number (c.args.self.now.notes + 1)) c.in_ok-answer.ensures.stops c.in_ok-answer.answer c.in_ok-answer.ensures.does
-    (made c.args.self.now.notes c.perform.new.self.notes (g.F.Folder.told c.perform.new.f) (g.F.Folder.told c.note.new.f) c.in_ok-answer.ensures.notes c.in_ok-note.ensures.done) c.in_ok-note.ensures.others
-
-pub returns-then-failed-clause-noted : goal.returns-then-failed-clause-noted
-returns-then-failed-clause-noted g c =
-    noted-ends c.args.self.now c.perform.new.self c.note.new.self (g.F.Folder.told c.args.f.now) (g.F.Folder.told c.perform.new.f) (g.F.Folder.told c.note.new.f) c.args.moment (request_of c.args.command.now) (note_number (c.args.self.now.notes + 1)) c.in_ok-answer.ensures.stops c.in_ok-answer.answer c.in_ok-answer.ensures.does
-    (made c.args.self.now.notes c.perform.new.self.notes (g.F.Folder.told c.perform.new.f) (g.F.Folder.told c.note.new.f) c.in_ok-answer.ensures.notes c.in_ok-note.ensures.done) c.in_ok-note.ensures.others
+    subst (λ (t : Told). ForKept (KeepsState c.args.self.now) (g.F.Folder.told c.args.f.now) (IsStepped (g.F.Folder.told c.args.f.now) t c.args.moment (request_of c.args.command.now) (note_number (c.args.self.now.notes + 1)))) (sym c.in_ok-reply.ensures.stays)
+    (noted-steps c.args.self.now c.perform.new.self c.note.new.self (g.F.Folder.told c.args.f.now) (g.F.Folder.told c.perform.new.f) (g.F.Folder.told c.note.new.f) c.args.moment (request_of c.args.command.now) (note_number (c.args.self.now.notes + 1)) c.in_ok-answer.ensures.stops c.in_ok-answer.answer c.in_ok-answer.ensures.does
+    (made c.args.self.now.notes c.perform.new.self.notes (g.F.Folder.told c.perform.new.f) (g.F.Folder.told c.note.new.f) c.in_ok-answer.ensures.notes c.in_ok-note.ensures.done) c.in_ok-note.ensures.others)
 
 pub returns-then-failed-clause-front : goal.returns-then-failed-clause-front
 returns-then-failed-clause-front g c =
-    front-printed c.args.self.now c.perform.new.self (g.F.Folder.told c.args.f.now) (g.F.Folder.told c.perform.new.f) c.args.moment (request_of c.args.command.now) c.requires.built c.in_ok-answer.answer c.in_ok-answer.ensures.does
-    c.perform.new.failed c.reply.new.failed (g.K.Sink.written c.args.out.now) (g.K.Sink.written c.perform.new.out) (g.K.Sink.written c.reply.new.out) c.in_ok-answer.ensures.says c.reply.ensures.prints
+    front-printed c.args.self.now c.note.new.self (g.F.Folder.told c.args.f.now) (g.F.Folder.told c.perform.new.f) (g.F.Folder.told c.note.new.f) c.args.moment (request_of c.args.command.now) c.in_ok-answer.ensures.stops
+    (same-files (g.F.Folder.told c.perform.new.f) (g.F.Folder.told c.note.new.f) _ c.in_ok-note.ensures.done) c.requires.built c.in_ok-answer.answer (noted-does c.args.self.now c.perform.new.self c.note.new.self (g.F.Folder.told c.args.f.now) (g.F.Folder.told c.perform.new.f) (g.F.Folder.told c.note.new.f) c.args.moment (request_of c.args.command.now) (note_number (c.args.self.now.notes + 1)) c.in_ok-answer.ensures.stops c.in_ok-answer.answer c.in_ok-answer.ensures.does
+    (made c.args.self.now.notes c.perform.new.self.notes (g.F.Folder.told c.perform.new.f) (g.F.Folder.told c.note.new.f) c.in_ok-answer.ensures.notes c.in_ok-note.ensures.done) c.in_ok-note.ensures.others)
+    c.perform.new.failed c.reply.new.failed (g.K.Sink.written c.args.out.now) (g.K.Sink.written c.perform.new.out) (g.K.Sink.written c.reply.new.out) c.in_ok-answer.ensures.says c.in_ok-reply.ensures.part
+
+pub returns-then-failed-clause-noted : goal.returns-then-failed-clause-noted
+returns-then-failed-clause-noted g c =
+    subst (λ (t : Told). ForKept (KeepsState c.args.self.now) (g.F.Folder.told c.args.f.now) (IsNoted (g.F.Folder.told c.args.f.now) t c.args.moment (request_of c.args.command.now) (note_number (c.args.self.now.notes + 1)))) (sym c.in_ok-reply.ensures.stays)
+    (noted-ends c.args.self.now c.perform.new.self c.note.new.self (g.F.Folder.told c.args.f.now) (g.F.Folder.told c.perform.new.f) (g.F.Folder.told c.note.new.f) c.args.moment (request_of c.args.command.now) (note_number (c.args.self.now.notes + 1)) c.in_ok-answer.ensures.stops c.in_ok-answer.answer c.in_ok-answer.ensures.does
+    (made c.args.self.now.notes c.perform.new.self.notes (g.F.Folder.told c.perform.new.f) (g.F.Folder.told c.note.new.f) c.in_ok-answer.ensures.notes c.in_ok-note.ensures.done) c.in_ok-note.ensures.others)
 
 pub returns-then-failed-clause-is_open : goal.returns-then-failed-clause-is_open
 returns-then-failed-clause-is_open g c =
-    open-on c.perform.new.self c.note.new.self (g.F.Folder.told c.perform.new.f) (g.F.Folder.told c.note.new.f) (same-files (g.F.Folder.told c.perform.new.f) (g.F.Folder.told c.note.new.f) _ c.in_ok-note.ensures.done) c.in_ok-note.ensures.others c.in_ok-answer.ensures.is_open
+    open-behind c.note.new.self c.reply.new.self (g.F.Folder.told c.note.new.f) (g.F.Folder.told c.reply.new.f) c.in_ok-reply.ensures.others c.in_ok-reply.ensures.stays
+    (open-on c.perform.new.self c.note.new.self (g.F.Folder.told c.perform.new.f) (g.F.Folder.told c.note.new.f) (same-files (g.F.Folder.told c.perform.new.f) (g.F.Folder.told c.note.new.f) _ c.in_ok-note.ensures.done) c.in_ok-note.ensures.others c.in_ok-answer.ensures.is_open)
 
 -- It is done, and answered.
 
 pub returns-else-failed-clause-answered : goal.returns-else-failed-clause-answered
-returns-else-failed-clause-answered g c image there state k = (c.in_ok-answer.ensures.does image there state k).answered
+returns-else-failed-clause-answered g c image there state k =
+    (c.in_ok-answer.ensures.does image there state k).answered
 
 pub returns-else-failed-clause-kept : goal.returns-else-failed-clause-kept
 returns-else-failed-clause-kept g c image there state k =
+    kept-behind c.note.new.self c.reply.new.self (g.F.Folder.told c.note.new.f) (g.F.Folder.told c.reply.new.f) c.in_ok-reply.ensures.others c.in_ok-reply.ensures.stays (step state c.args.moment (request_of c.args.command.now)).state
     (noted-does c.args.self.now c.perform.new.self c.note.new.self (g.F.Folder.told c.args.f.now) (g.F.Folder.told c.perform.new.f) (g.F.Folder.told c.note.new.f) c.args.moment (request_of c.args.command.now) (note_number (c.args.self.now.notes + 1)) c.in_ok-answer.ensures.stops c.in_ok-answer.answer c.in_ok-answer.ensures.does
     (made c.args.self.now.notes c.perform.new.self.notes (g.F.Folder.told c.perform.new.f) (g.F.Folder.told c.note.new.f) c.in_ok-answer.ensures.notes c.in_ok-note.ensures.done) c.in_ok-note.ensures.others image there state k).kept
 
 pub returns-else-failed-clause-stepped : goal.returns-else-failed-clause-stepped
 returns-else-failed-clause-stepped g c =
-    noted-steps c.args.self.now c.perform.new.self c.note.new.self (g.F.Folder.told c.args.f.now) (g.F.Folder.told c.perform.new.f) (g.F.Folder.told c.note.new.f) c.args.moment (request_of c.args.command.now) (note_number (c.args.self.now.notes + 1)) c.in_ok-answer.ensures.stops c.in_ok-answer.answer c.in_ok-answer.ensures.does
-    (made c.args.self.now.notes c.perform.new.self.notes (g.F.Folder.told c.perform.new.f) (g.F.Folder.told c.note.new.f) c.in_ok-answer.ensures.notes c.in_ok-note.ensures.done) c.in_ok-note.ensures.others
-
-pub returns-else-failed-clause-noted : goal.returns-else-failed-clause-noted
-returns-else-failed-clause-noted g c =
-    noted-ends c.args.self.now c.perform.new.self c.note.new.self (g.F.Folder.told c.args.f.now) (g.F.Folder.told c.perform.new.f) (g.F.Folder.told c.note.new.f) c.args.moment (request_of c.args.command.now) (note_number (c.args.self.now.notes + 1)) c.in_ok-answer.ensures.stops c.in_ok-answer.answer c.in_ok-answer.ensures.does
-    (made c.args.self.now.notes c.perform.new.self.notes (g.F.Folder.told c.perform.new.f) (g.F.Folder.told c.note.new.f) c.in_ok-answer.ensures.notes c.in_ok-note.ensures.done) c.in_ok-note.ensures.others
-
-pub returns-else-failed-clause-printed : goal.returns-else-failed-clause-printed
-returns-else-failed-clause-printed g c =
-    whole-printed c.args.self.now c.perform.new.self (g.F.Folder.told c.args.f.now) (g.F.Folder.told c.perform.new.f) c.args.moment (request_of c.args.command.now) c.requires.built c.in_ok-answer.answer c.in_ok-answer.ensures.does
-    c.perform.new.failed c.reply.new.failed (g.K.Sink.written c.args.out.now) (g.K.Sink.written c.perform.new.out) (g.K.Sink.written c.reply.new.out) c.in_ok-answer.ensures.says c.reply.ensures.prints c.if-failed.false
+    subst (λ (t : Told). ForKept (KeepsState c.args.self.now) (g.F.Folder.told c.args.f.now) (IsStepped (g.F.Folder.told c.args.f.now) t c.args.moment (request_of c.args.command.now) (note_number (c.args.self.now.notes + 1)))) (sym c.in_ok-reply.ensures.stays)
+    (noted-steps c.args.self.now c.perform.new.self c.note.new.self (g.F.Folder.told c.args.f.now) (g.F.Folder.told c.perform.new.f) (g.F.Folder.told c.note.new.f) c.args.moment (request_of c.args.command.now) (note_number (c.args.self.now.notes + 1)) c.in_ok-answer.ensures.stops c.in_ok-answer.answer c.in_ok-answer.ensures.does
+    (made c.args.self.now.notes c.perform.new.self.notes (g.F.Folder.told c.perform.new.f) (g.F.Folder.told c.note.new.f) c.in_ok-answer.ensures.notes c.in_ok-note.ensures.done) c.in_ok-note.ensures.others)
 
 pub returns-else-failed-clause-front : goal.returns-else-failed-clause-front
 returns-else-failed-clause-front g c =
-    front-printed c.args.self.now c.perform.new.self (g.F.Folder.told c.args.f.now) (g.F.Folder.told c.perform.new.f) c.args.moment (request_of c.args.command.now) c.requires.built c.in_ok-answer.answer c.in_ok-answer.ensures.does
-    c.perform.new.failed c.reply.new.failed (g.K.Sink.written c.args.out.now) (g.K.Sink.written c.perform.new.out) (g.K.Sink.written c.reply.new.out) c.in_ok-answer.ensures.says c.reply.ensures.prints
+    front-printed c.args.self.now c.note.new.self (g.F.Folder.told c.args.f.now) (g.F.Folder.told c.perform.new.f) (g.F.Folder.told c.note.new.f) c.args.moment (request_of c.args.command.now) c.in_ok-answer.ensures.stops
+    (same-files (g.F.Folder.told c.perform.new.f) (g.F.Folder.told c.note.new.f) _ c.in_ok-note.ensures.done) c.requires.built c.in_ok-answer.answer (noted-does c.args.self.now c.perform.new.self c.note.new.self (g.F.Folder.told c.args.f.now) (g.F.Folder.told c.perform.new.f) (g.F.Folder.told c.note.new.f) c.args.moment (request_of c.args.command.now) (note_number (c.args.self.now.notes + 1)) c.in_ok-answer.ensures.stops c.in_ok-answer.answer c.in_ok-answer.ensures.does
+    (made c.args.self.now.notes c.perform.new.self.notes (g.F.Folder.told c.perform.new.f) (g.F.Folder.told c.note.new.f) c.in_ok-answer.ensures.notes c.in_ok-note.ensures.done) c.in_ok-note.ensures.others)
+    c.perform.new.failed c.reply.new.failed (g.K.Sink.written c.args.out.now) (g.K.Sink.written c.perform.new.out) (g.K.Sink.written c.reply.new.out) c.in_ok-answer.ensures.says c.in_ok-reply.ensures.part
+
+pub returns-else-failed-clause-noted : goal.returns-else-failed-clause-noted
+returns-else-failed-clause-noted g c =
+    subst (λ (t : Told). ForKept (KeepsState c.args.self.now) (g.F.Folder.told c.args.f.now) (IsNoted (g.F.Folder.told c.args.f.now) t c.args.moment (request_of c.args.command.now) (note_number (c.args.self.now.notes + 1)))) (sym c.in_ok-reply.ensures.stays)
+    (noted-ends c.args.self.now c.perform.new.self c.note.new.self (g.F.Folder.told c.args.f.now) (g.F.Folder.told c.perform.new.f) (g.F.Folder.told c.note.new.f) c.args.moment (request_of c.args.command.now) (note_number (c.args.self.now.notes + 1)) c.in_ok-answer.ensures.stops c.in_ok-answer.answer c.in_ok-answer.ensures.does
+    (made c.args.self.now.notes c.perform.new.self.notes (g.F.Folder.told c.perform.new.f) (g.F.Folder.told c.note.new.f) c.in_ok-answer.ensures.notes c.in_ok-note.ensures.done) c.in_ok-note.ensures.others)
+
+pub returns-else-failed-clause-printed : goal.returns-else-failed-clause-printed
+returns-else-failed-clause-printed g c =
+    whole-printed c.args.self.now c.note.new.self (g.F.Folder.told c.args.f.now) (g.F.Folder.told c.perform.new.f) (g.F.Folder.told c.note.new.f) c.args.moment (request_of c.args.command.now) c.in_ok-answer.ensures.stops
+    (same-files (g.F.Folder.told c.perform.new.f) (g.F.Folder.told c.note.new.f) _ c.in_ok-note.ensures.done) c.requires.built c.in_ok-answer.answer (noted-does c.args.self.now c.perform.new.self c.note.new.self (g.F.Folder.told c.args.f.now) (g.F.Folder.told c.perform.new.f) (g.F.Folder.told c.note.new.f) c.args.moment (request_of c.args.command.now) (note_number (c.args.self.now.notes + 1)) c.in_ok-answer.ensures.stops c.in_ok-answer.answer c.in_ok-answer.ensures.does
+    (made c.args.self.now.notes c.perform.new.self.notes (g.F.Folder.told c.perform.new.f) (g.F.Folder.told c.note.new.f) c.in_ok-answer.ensures.notes c.in_ok-note.ensures.done) c.in_ok-note.ensures.others)
+    c.perform.new.failed c.reply.new.failed (g.K.Sink.written c.args.out.now) (g.K.Sink.written c.perform.new.out) (g.K.Sink.written c.reply.new.out) c.in_ok-answer.ensures.says c.in_ok-reply.ensures.printed c.if-failed.false
 
 pub returns-else-failed-clause-is_open : goal.returns-else-failed-clause-is_open
 returns-else-failed-clause-is_open g c =
-    open-on c.perform.new.self c.note.new.self (g.F.Folder.told c.perform.new.f) (g.F.Folder.told c.note.new.f) (same-files (g.F.Folder.told c.perform.new.f) (g.F.Folder.told c.note.new.f) _ c.in_ok-note.ensures.done) c.in_ok-note.ensures.others c.in_ok-answer.ensures.is_open
+    open-behind c.note.new.self c.reply.new.self (g.F.Folder.told c.note.new.f) (g.F.Folder.told c.reply.new.f) c.in_ok-reply.ensures.others c.in_ok-reply.ensures.stays
+    (open-on c.perform.new.self c.note.new.self (g.F.Folder.told c.perform.new.f) (g.F.Folder.told c.note.new.f) (same-files (g.F.Folder.told c.perform.new.f) (g.F.Folder.told c.note.new.f) _ c.in_ok-note.ensures.done) c.in_ok-note.ensures.others c.in_ok-answer.ensures.is_open)

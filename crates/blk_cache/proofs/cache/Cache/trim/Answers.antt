@@ -1,4 +1,3 @@
-use Rattle.blk_image.specs.Told.{Told}
 use Rattle.blk_cache.proofs.TrimSteps.{trim-does, trim-front, trim-says, trim-stops}
 use Rattle.blk_cache.proofs.cache.Cache.trim.Goals as goal
 

@@ -1,0 +1,28 @@
+use Rattle.std.proofs.lemmas.Result.{on_ok_weaker}
+use Rattle.blk_model.specs.Request.{request_of}
+use Rattle.blk_cache.specs.ReadPrinting.{PrintsInPart}
+use Rattle.blk_cache.specs.RoomPrinting.{Prints}
+use Rattle.blk_cache.proofs.Replies.{bytes-reply, rows-reply}
+use Rattle.blk_cache.proofs.cache.Cache.reply.Goals as goal
+
+pub returns-in-Bytes-clause-printed : goal.returns-in-Bytes-clause-printed
+returns-in-Bytes-clause-printed g c =
+    on_ok_weaker c.print_bytes_for.result
+    (bytes-reply c.args.self.now (g.F.Folder.told c.args.f.now) (request_of c.args.command.now) c.args.answer.now c.in-Bytes.field-0 c.in-Bytes.is (Prints c.args.failed.now c.print_bytes_for.new.failed (g.K.Sink.written c.args.out.now) (g.K.Sink.written c.print_bytes_for.new.out)))
+    c.print_bytes_for.ensures.printed
+
+pub returns-in-Bytes-clause-part : goal.returns-in-Bytes-clause-part
+returns-in-Bytes-clause-part g c =
+    bytes-reply c.args.self.now (g.F.Folder.told c.args.f.now) (request_of c.args.command.now) c.args.answer.now c.in-Bytes.field-0 c.in-Bytes.is (PrintsInPart c.args.failed.now (g.K.Sink.written c.args.out.now) (g.K.Sink.written c.print_bytes_for.new.out))
+    c.print_bytes_for.ensures.part
+
+pub returns-in-Listed-clause-printed : goal.returns-in-Listed-clause-printed
+returns-in-Listed-clause-printed g c =
+    on_ok_weaker c.print_list.result
+    (rows-reply c.args.self.now (g.F.Folder.told c.args.f.now) (request_of c.args.command.now) c.args.answer.now c.in-Listed.field-0 c.in-Listed.is (Prints c.args.failed.now c.print_list.new.failed (g.K.Sink.written c.args.out.now) (g.K.Sink.written c.print_list.new.out)))
+    c.print_list.ensures.printed
+
+pub returns-in-Listed-clause-part : goal.returns-in-Listed-clause-part
+returns-in-Listed-clause-part g c =
+    rows-reply c.args.self.now (g.F.Folder.told c.args.f.now) (request_of c.args.command.now) c.args.answer.now c.in-Listed.field-0 c.in-Listed.is (PrintsInPart c.args.failed.now (g.K.Sink.written c.args.out.now) (g.K.Sink.written c.print_list.new.out))
+    c.print_list.ensures.part

@@ -1,0 +1,51 @@
+-- The reply of a command, as it is printed once the command is done and noted.
+use Rattle.std.specs.Prelude.{◌≡◌, ℕ, List, [], ◌++◌}
+use Rattle.std.specs.List.{flat_map}
+use Rattle.blk_image.specs.Told.{Told}
+use Rattle.blk_model.specs.Bytes.{bytes_from}
+use Rattle.blk_model.specs.Effects.{object_of, stream_of}
+use Rattle.blk_model.specs.Holding.{rows}
+use Rattle.blk_model.specs.Reply.{answer_of, answered, gave}
+use Rattle.blk_model.specs.Request.{Request, to_read}
+use Rattle.blk_model.specs.State.{State}
+use Rattle.blk_model.specs.Step.{step}
+use Rattle.blk_model.specs.declared.Answer.{Answer}
+use Rattle.blk_model.specs.declared.Answer.TheVariants as answer
+use Rattle.blk_script.specs.Reply.{reply_text, row_line}
+use Rattle.blk_kept.specs.Commands.{ForKept}
+use Rattle.blk_cache.specs.declared.cache.Cache.{Cache}
+use Rattle.blk_cache.specs.CacheKeeping.{KeepsState}
+
+-- the line of the bytes that a request reads in a state
+abbrev pub bytes_text : Request → State → List ℕ
+bytes_text (to_read handle stream offset count) state = reply_text (gave (bytes_from (stream_of (object_of state handle) stream) offset count))
+bytes_text _ state = []
+
+-- the lines of the rows of a state, and then the line of an answer
+abbrev pub rows_text : Answer → State → List ℕ
+rows_text given state = flat_map row_line (rows state) ++ reply_text (answered given)
+
+-- the text of the reply with an answer, by the state after its command: of bytes their line, of a list its rows and its end, and else the line of the answer
+abbrev pub text_of_reply : Request → Answer → State → List ℕ
+text_of_reply request (answer.Bytes n) state = bytes_text request state
+text_of_reply request (answer.Listed n) state = rows_text (answer.Listed n) state
+text_of_reply request given state = reply_text (answered given)
+
+-- a state is the one after a request with this answer
+pub record IsAfter (request : Request) (given : Answer) (state : State) : Type 0 where
+  pub before : State
+  pub moment : ℕ
+  pub given_is : given ≡ answer_of (step before moment request).reply
+  pub state_is : state ≡ (step before moment request).state
+
+-- what holds of the text of a reply, by each state that is kept and is the one after the request
+abbrev pub ForReply : Cache → Told → Request → Answer → (List ℕ → Type 0) → Type 0
+ForReply cache told request given P = ForKept (KeepsState cache) told (λ state. IsAfter request given state → P (text_of_reply request given state))
+
+-- of the line of the bytes that it reads, where it answers that there are some
+abbrev pub ForBytes : Cache → Told → Request → (List ℕ → Type 0) → Type 0
+ForBytes cache told request P = ForKept (KeepsState cache) told (λ state. (n : ℕ) → IsAfter request (answer.Bytes n) state → P (bytes_text request state))
+
+-- of the rows of each state that is kept, and of the line of an answer behind them
+abbrev pub ForRows : Cache → Told → Answer → (List ℕ → Type 0) → Type 0
+ForRows cache told given P = ForKept (KeepsState cache) told (λ state. P (rows_text given state))

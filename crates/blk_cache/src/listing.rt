@@ -1,0 +1,180 @@
+// The command List, and the rows that it shows.
+ghost use Rattle.std.specs.Prelude.{◌≡◌, ◌≤◌, ℕ, IfOk, IsTrue, None, OnErr, OnOk, length};
+ghost use Rattle.std.specs.List.{flat_map};
+ghost use Rattle.std.specs.Option.{ForSome};
+ghost use Rattle.blk_image.specs.Told.{Rises, Stays};
+ghost use Rattle.blk_io.specs.Faults.{IfDamaged, IfDevice, IsShort};
+ghost use Rattle.blk_io.specs.declared.folder.FileId.TheVariants as names;
+ghost use Rattle.blk_model.specs.Holding.{rows};
+ghost use Rattle.blk_model.specs.Request.{to_list};
+ghost use Rattle.blk_script.specs.Reply.{row_line};
+ghost use Rattle.blk_format.specs.Address.{blocks_256, kind_of};
+ghost use Rattle.blk_volume.specs.Found.{row_of_loaded};
+ghost use Rattle.blk_volume.specs.Loads.{Loaded};
+ghost use Rattle.blk_disk.specs.Tables.{Agrees, is_node_among};
+ghost use Rattle.blk_entry.specs.Keys.{most_key};
+ghost use Rattle.blk_kept.specs.Commands.{Does, ForKept};
+ghost use Rattle.blk_object.specs.ListedParts.{LoadsAt};
+ghost use Rattle.blk_cache.specs.CacheKeeping.{KeepsState};
+ghost use Rattle.blk_cache.specs.CommandClauses.{IsRefused, KeepsAny};
+ghost use Rattle.blk_cache.specs.Listing.{HasState, IsToldBy, OnlyRoomChanges};
+ghost use Rattle.blk_cache.specs.ReadPrinting.{PrintsInPart};
+ghost use Rattle.blk_cache.specs.RoomPrinting.{FailsWhereItRose, Prints};
+
+use crate::cache::Cache;
+use crate::evicting_groups::parent_key;
+use crate::item_names::{EntryKind, kind_said};
+use crate::room_search::record_of;
+use crate::row_printing::{say_part, say_plain, say_sparse};
+use blk_addr::Addr;
+use blk_disk::BlockFiles;
+use blk_entry::{Head, key_piece, read_head, record_damage};
+use blk_index::word;
+use blk_io::{Fault, Folder, Sink};
+use blk_lru::{after, first};
+use blk_model::Answer;
+use blk_ranges::read_child_name;
+use blk_record::{EntryView, IndexHead};
+
+// The most nodes of a use list.
+const MOST_NODES: u32 = 131_072;
+
+// The flags of the record of a part.
+const CHILD: u32 = 2;
+
+impl Cache {
+    /// How many items the use list has, by one folder call. Nothing is written, and nothing is refused.
+    pub(crate) fn list<F: Folder>(&self, f: &mut F) -> Result<Answer, Fault>
+        ensures does { (moment : ℕ) → IfOk result (λ answer. Does (KeepsState self.now) (KeepsState self.now) (F.told f.old) (F.told f.new) moment to_list answer) }
+        ensures stays { Stays (F.told f.old) (F.told f.new) }
+        ensures passes { IfOk result (λ given. IsRefused given → ⊥) }
+
+        // Too few bytes, which a folder that tells its files doesn't give where the cache keeps a state.
+        ensures damaged { IfDamaged result (IsShort (F.told f.old) names.Index IndexHead.SIZES 4) }
+        ensures untold { ForSome (F.told f.old).files (KeepsAny self.now) → IfDamaged result (λ _. (F.told f.old).files ≡ None) }
+        ensures later { F.faults f.old ≤ F.faults f.new }
+        ensures device { IfDevice result (Rises (F.faults f.old) (F.faults f.new)) }
+    {
+        let count = word(f, IndexHead::SIZES)?;
+        Ok(Answer::Listed(u64::from(count)))
+    }
+
+    /// Prints the rows of a List, a line each, from the front of the use list on: of an object its key and the lengths of
+    /// its streams, and of a part its number and how many bytes it has. A doomed object has none.
+    ///
+    /// One folder call finds the first item, and four more are made for each. Nothing is written. After a fault a front
+    /// of the lines is printed.
+    pub(crate) fn print_rows<F: Folder, K: Sink>(
+        &mut self,
+        f: &mut F,
+        out: &mut K,
+        failed: &mut bool,
+    ) -> Result<(), Fault>
+        ensures printed { OnOk result (ForKept (KeepsState self.old) (F.told f.old) (λ state. Prints failed.old failed.new (K.written out.old) (K.written out.new) (flat_map row_line (rows state)))) }
+        ensures part { ForKept (KeepsState self.old) (F.told f.old) (λ state. PrintsInPart failed.old (K.written out.old) (K.written out.new) (flat_map row_line (rows state))) }
+        ensures failed { FailsWhereItRose failed.old failed.new (K.faults out.old) (K.faults out.new) }
+        ensures others { OnlyRoomChanges self.old self.new }
+        ensures stays { Stays (F.told f.old) (F.told f.new) }
+        ensures untold { ForSome (F.told f.old).files (KeepsAny self.old) → IfDamaged result (λ _. (F.told f.old).files ≡ None) }
+        ensures later { F.faults f.old ≤ F.faults f.new }
+        ensures later_out { K.faults out.old ≤ K.faults out.new }
+        ensures device { IfDevice result (Rises (F.faults f.old) (F.faults f.new)) }
+    {
+        print_items(f, &self.files, &mut self.name, out, failed)
+    }
+}
+
+// Prints the rows of the items of the use list, whose keys and names are read into `name`.
+fn print_items<F: Folder, K: Sink>(
+    f: &mut F,
+    files: &BlockFiles,
+    name: &mut [u8],
+    out: &mut K,
+    failed: &mut bool,
+) -> Result<(), Fault>
+    requires room { most_key ≤ length name.old }
+    ensures printed { OnOk result (ForSome (F.told f.old).files (λ image. (p : HasState files.now image) → Prints failed.old failed.new (K.written out.old) (K.written out.new) (flat_map row_line (rows p.state)))) }
+    ensures part { ForSome (F.told f.old).files (λ image. (p : HasState files.now image) → PrintsInPart failed.old (K.written out.old) (K.written out.new) (flat_map row_line (rows p.state))) }
+    ensures failed { FailsWhereItRose failed.old failed.new (K.faults out.old) (K.faults out.new) }
+    ensures stays { Stays (F.told f.old) (F.told f.new) }
+    ensures untold { ForSome (F.told f.old).files (HasState files.now) → IfDamaged result (λ _. (F.told f.old).files ≡ None) }
+    ensures later { F.faults f.old ≤ F.faults f.new }
+    ensures later_out { K.faults out.old ≤ K.faults out.new }
+    ensures device { IfDevice result (Rises (F.faults f.old) (F.faults f.new)) }
+{
+    let mut next = first(f, files)?;
+    for _ in 0..MOST_NODES {
+        let Some(node) = next else {
+            return Ok(());
+        };
+        print_row(f, files, name, node, out, failed)?;
+        next = after(f, files, node)?;
+    }
+    Ok(())
+}
+
+// Prints the row of an item, by its record and its key or name, which is read into `name`.
+fn print_row<F: Folder, K: Sink>(
+    f: &mut F,
+    files: &BlockFiles,
+    name: &mut [u8],
+    node: Addr,
+    out: &mut K,
+    failed: &mut bool,
+) -> Result<(), Fault>
+    requires stands { IsTrue (is_node_among files.now node) }
+    requires room { most_key ≤ length name.old }
+    ensures printed { OnOk result (ForSome (F.told f.old).files (λ image. (loaded : Loaded) → LoadsAt node loaded image → Prints failed.old failed.new (K.written out.old) (K.written out.new) (row_line (row_of_loaded loaded)))) }
+    ensures unprinted { OnErr result (K.written out.new ≡ K.written out.old) }
+    ensures failed { FailsWhereItRose failed.old failed.new (K.faults out.old) (K.faults out.new) }
+    ensures stays { Stays (F.told f.old) (F.told f.new) }
+    ensures untold { ForSome (F.told f.old).files (Agrees files.now) → ForSome (F.told f.old).files (λ image. (loaded : Loaded) × LoadsAt node loaded image) → IfDamaged result (λ _. (F.told f.old).files ≡ None) }
+    ensures later { F.faults f.old ≤ F.faults f.new }
+    ensures later_out { K.faults out.old ≤ K.faults out.new }
+    ensures device { IfDevice result (Rises (F.faults f.old) (F.faults f.new)) }
+{
+    let entry = record_of(f, files, node)?;
+    let head = read_head(f, files, entry)?;
+    let len = key_piece(f, files, entry, 0, name)?;
+    say_row(out, failed, entry, &name[..len], &head)
+}
+
+// Prints the row of an item by the words of its record and its key or name. Of a part whose name is none that is a
+// damage, of its flags.
+fn say_row<K: Sink>(
+    out: &mut K,
+    failed: &mut bool,
+    entry: Addr,
+    name: &[u8],
+    head: &Head,
+) -> Result<(), Fault>
+    requires kind { kind_of entry ≡ blocks_256 }
+    ensures printed { OnOk result ((loaded : Loaded) → IsToldBy loaded name.now head.now → Prints failed.old failed.new (K.written out.old) (K.written out.new) (row_line (row_of_loaded loaded))) }
+    ensures unprinted { OnErr result (K.written out.new ≡ K.written out.old) }
+    ensures failed { FailsWhereItRose failed.old failed.new (K.faults out.old) (K.faults out.new) }
+    ensures untold { IfDamaged result (λ _. (loaded : Loaded) → IsToldBy loaded name.now head.now → ⊥) }
+    ensures later { K.faults out.old ≤ K.faults out.new }
+    ensures never { IfDevice result ⊥ }
+{
+    let first = u64::from(head.sizes[0]);
+    let second = u64::from(head.sizes[1]);
+    let third = u64::from(head.sizes[2]);
+    match kind_said(head.flags) {
+        EntryKind::Plain => {
+            say_plain(out, failed, name, first, second, third);
+            Ok(())
+        }
+        EntryKind::Parent => {
+            say_sparse(out, failed, name, first);
+            Ok(())
+        }
+        EntryKind::Part => {
+            let Some(child) = read_child_name(name) else {
+                return Err(record_damage(entry, EntryView::FLAGS, CHILD));
+            };
+            let key = parent_key(name, &child);
+            say_part(out, failed, key, u64::from(child.part), second);
+            Ok(())
+        }
+    }
+}

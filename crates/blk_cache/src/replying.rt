@@ -1,0 +1,119 @@
+// The reply of a command.
+ghost use Rattle.std.specs.Prelude.{◌≡◌, ◌≢◌, ◌≤◌, ℕ, None, OnOk};
+ghost use Rattle.std.specs.Option.{ForSome};
+ghost use Rattle.blk_image.specs.Told.{Rises, Stays};
+ghost use Rattle.blk_io.specs.Faults.{IfDamaged, IfDevice};
+ghost use Rattle.blk_model.specs.Reply.{answered};
+ghost use Rattle.blk_model.specs.Request.{request_of};
+ghost use Rattle.blk_script.specs.Reply.{reply_text};
+ghost use Rattle.blk_cache.specs.CommandClauses.{KeepsAny};
+ghost use Rattle.blk_cache.specs.Listing.{OnlyRoomChanges};
+ghost use Rattle.blk_cache.specs.ReadPrinting.{PrintsInPart};
+ghost use Rattle.blk_cache.specs.Replying.{ForBytes, ForReply, ForRows};
+ghost use Rattle.blk_cache.specs.RoomPrinting.{FailsWhereItRose, Prints};
+
+use crate::cache::Cache;
+use blk_io::{Fault, Folder, Sink};
+use blk_model::{Answer, Command};
+use blk_script::print_reply;
+
+impl Cache {
+    /// Prints the reply of a command that is done, unless the sink failed before: the bytes of a Read and the rows of a
+    /// List as the folder has them now, and else the line of the answer.
+    ///
+    /// Nothing is written. After a fault a front of the reply is printed.
+    pub(crate) fn reply<F: Folder, K: Sink>(
+        &mut self,
+        f: &mut F,
+        out: &mut K,
+        failed: &mut bool,
+        command: &Command,
+        answer: &Answer,
+    ) -> Result<(), Fault>
+        ensures printed { OnOk result (ForReply self.old (F.told f.old) (request_of command.now) answer.now (Prints failed.old failed.new (K.written out.old) (K.written out.new))) }
+        ensures part { ForReply self.old (F.told f.old) (request_of command.now) answer.now (PrintsInPart failed.old (K.written out.old) (K.written out.new)) }
+        ensures failed { FailsWhereItRose failed.old failed.new (K.faults out.old) (K.faults out.new) }
+        ensures others { OnlyRoomChanges self.old self.new }
+        ensures stays { Stays (F.told f.old) (F.told f.new) }
+
+        // A folder that tells its files gives no damage where the cache keeps a state.
+        ensures untold { ForSome (F.told f.old).files (KeepsAny self.old) → IfDamaged result (λ _. (F.told f.old).files ≡ None) }
+        ensures later { F.faults f.old ≤ F.faults f.new }
+        ensures later_out { K.faults out.old ≤ K.faults out.new }
+        ensures device { IfDevice result (Rises (F.faults f.old) (F.faults f.new)) }
+    {
+        match *answer {
+            Answer::Bytes(_) => self.print_bytes_for(f, out, failed, command),
+            Answer::Listed(_) => self.print_list(f, out, failed, answer),
+            _ => {
+                say_answer(out, failed, answer);
+                Ok(())
+            }
+        }
+    }
+
+    // Prints the bytes that a command reads.
+    fn print_bytes_for<F: Folder, K: Sink>(
+        &self,
+        f: &mut F,
+        out: &mut K,
+        failed: &mut bool,
+        command: &Command,
+    ) -> Result<(), Fault>
+        ensures printed { OnOk result (ForBytes self.now (F.told f.old) (request_of command.now) (Prints failed.old failed.new (K.written out.old) (K.written out.new))) }
+        ensures part { ForBytes self.now (F.told f.old) (request_of command.now) (PrintsInPart failed.old (K.written out.old) (K.written out.new)) }
+        ensures failed { FailsWhereItRose failed.old failed.new (K.faults out.old) (K.faults out.new) }
+        ensures stays { Stays (F.told f.old) (F.told f.new) }
+        ensures untold { ForSome (F.told f.old).files (KeepsAny self.now) → IfDamaged result (λ _. (F.told f.old).files ≡ None) }
+        ensures later { F.faults f.old ≤ F.faults f.new }
+        ensures later_out { K.faults out.old ≤ K.faults out.new }
+        ensures device { IfDevice result (Rises (F.faults f.old) (F.faults f.new)) }
+    {
+        match *command {
+            Command::Read {
+                handle,
+                stream,
+                offset,
+                count,
+            } => self.print_read(f, out, failed, handle, stream, offset, count),
+            _ => Ok(()),
+        }
+    }
+
+    // Prints the rows of a List, and then the line of its answer.
+    fn print_list<F: Folder, K: Sink>(
+        &mut self,
+        f: &mut F,
+        out: &mut K,
+        failed: &mut bool,
+        answer: &Answer,
+    ) -> Result<(), Fault>
+        requires has_line { (n : ℕ) → answer.now ≢ Answer.Bytes n }
+        ensures printed { OnOk result (ForRows self.old (F.told f.old) answer.now (Prints failed.old failed.new (K.written out.old) (K.written out.new))) }
+        ensures part { ForRows self.old (F.told f.old) answer.now (PrintsInPart failed.old (K.written out.old) (K.written out.new)) }
+        ensures failed { FailsWhereItRose failed.old failed.new (K.faults out.old) (K.faults out.new) }
+        ensures others { OnlyRoomChanges self.old self.new }
+        ensures stays { Stays (F.told f.old) (F.told f.new) }
+        ensures untold { ForSome (F.told f.old).files (KeepsAny self.old) → IfDamaged result (λ _. (F.told f.old).files ≡ None) }
+        ensures later { F.faults f.old ≤ F.faults f.new }
+        ensures later_out { K.faults out.old ≤ K.faults out.new }
+        ensures device { IfDevice result (Rises (F.faults f.old) (F.faults f.new)) }
+    {
+        self.print_rows(f, out, failed)?;
+        say_answer(out, failed, answer);
+        Ok(())
+    }
+}
+
+// Prints the line of an answer, unless the sink failed before.
+fn say_answer<K: Sink>(out: &mut K, failed: &mut bool, answer: &Answer)
+    requires has_line { (n : ℕ) → answer.now ≢ Answer.Bytes n }
+    ensures prints { Prints failed.old failed.new (K.written out.old) (K.written out.new) (reply_text (answered answer.now)) }
+    ensures failed { FailsWhereItRose failed.old failed.new (K.faults out.old) (K.faults out.new) }
+    ensures later { K.faults out.old ≤ K.faults out.new }
+{
+    if *failed {
+        return;
+    }
+    *failed = print_reply(out, answer).is_err();
+}
