@@ -12,7 +12,7 @@ use Rattle.blk_model.specs.Holding.{rows}
 use Rattle.blk_model.specs.Reply.{answer_of, answered, gave}
 use Rattle.blk_model.specs.declared.Command.{Command}
 use Rattle.blk_model.specs.declared.Command.TheVariants as command
-use Rattle.blk_model.specs.Request.{Request, request_of, to_close, to_create, to_list, to_open, to_read, to_size, to_total, to_trim}
+use Rattle.blk_model.specs.Request.{Request, request_of, to_close, to_create, to_doom, to_doom_key, to_list, to_open, to_read, to_size, to_sparse_range, to_sparse_read, to_sparse_write, to_total, to_trim, to_write}
 use Rattle.blk_model.specs.Room.{without}
 use Rattle.blk_model.specs.State.{IsValidState, Object, State, named_by, object_at}
 use Rattle.blk_model.specs.Step.{outcome, reply, step}
@@ -32,39 +32,44 @@ use Rattle.blk_cache.specs.Listing.{OnlyRoomChanges}
 use Rattle.blk_cache.specs.ReadPrinting.{ForRead, PrintsInPart}
 use Rattle.blk_cache.specs.Replying.{ForBytes, ForReply, ForRows, IsAfter, bytes_text, rows_text, text_of_reply}
 use Rattle.blk_cache.specs.RoomPrinting.{Prints}
-use Rattle.blk_cache.specs.Stepping.{IsBuilt}
+use Rattle.blk_cache.specs.Stepping.{IsPlain}
 use Rattle.blk_cache.proofs.Evictions.{appends-longer}
 use Rattle.blk_cache.proofs.RoomTexts.{printed-on}
 use Rattle.blk_cache.proofs.Sizes.{named-object}
 
 -- ---- the text is the map's
 
-done-text : (moment : ℕ) (request : Request) (state : State) → IsBuilt request → text_of_reply request (answer_of (outcome moment request state None).reply) (outcome moment request state None).state ≡ reply_text (outcome moment request state None).reply
+done-text : (moment : ℕ) (request : Request) (state : State) → IsPlain request → text_of_reply request (answer_of (outcome moment request state None).reply) (outcome moment request state None).state ≡ reply_text (outcome moment request state None).reply
 unfolding outcome reply evicted effect without reply_text
 done-text moment (to_create handle key) state b = refl
 done-text moment (to_open handle key) state b = refl
 done-text moment (to_read handle stream offset count) state b = refl
+done-text moment (to_write handle stream offset cut bytes) state b = refl
 done-text moment (to_size handle stream) state b = refl
+done-text moment (to_sparse_write handle offset bytes) state b = absurd b
+done-text moment (to_sparse_read handle offset count) state b = absurd b
+done-text moment (to_sparse_range handle offset count) state b = absurd b
+done-text moment (to_doom handle) state b = refl
+done-text moment (to_doom_key key) state b = refl
 done-text moment (to_close handle) state b = refl
 done-text moment to_list state b = refl
 done-text moment (to_trim bytes) state b = refl
 done-text moment to_total state b = refl
-done-text moment _ state b = absurd b
 
 refused-text : (moment : ℕ) (request : Request) (state : State) (why : Refusal) → text_of_reply request (answer_of (outcome moment request state (Some why)).reply) (outcome moment request state (Some why)).state ≡ reply_text (outcome moment request state (Some why)).reply
 unfolding outcome
 refused-text moment request state why = refl
 
-outcome-text : (moment : ℕ) (request : Request) (state : State) (why : Option Refusal) → IsBuilt request → text_of_reply request (answer_of (outcome moment request state why).reply) (outcome moment request state why).state ≡ reply_text (outcome moment request state why).reply
+outcome-text : (moment : ℕ) (request : Request) (state : State) (why : Option Refusal) → IsPlain request → text_of_reply request (answer_of (outcome moment request state why).reply) (outcome moment request state why).state ≡ reply_text (outcome moment request state why).reply
 outcome-text moment request state None b = done-text moment request state b
 outcome-text moment request state (Some why) b = refused-text moment request state why
 
-step-text : (moment : ℕ) (request : Request) (state : State) → IsBuilt request → text_of_reply request (answer_of (step state moment request).reply) (step state moment request).state ≡ reply_text (step state moment request).reply
+step-text : (moment : ℕ) (request : Request) (state : State) → IsPlain request → text_of_reply request (answer_of (step state moment request).reply) (step state moment request).state ≡ reply_text (step state moment request).reply
 unfolding step
 step-text moment request state b = outcome-text moment request state (refused moment request state) b
 
 -- by the state after a command the text of its reply is that of the map's
-pub text-after : (moment : ℕ) (request : Request) (state : State) (given : Answer) → IsBuilt request → given ≡ answer_of (step state moment request).reply → text_of_reply request given (step state moment request).state ≡ reply_text (step state moment request).reply
+pub text-after : (moment : ℕ) (request : Request) (state : State) (given : Answer) → IsPlain request → given ≡ answer_of (step state moment request).reply → text_of_reply request given (step state moment request).state ≡ reply_text (step state moment request).reply
 text-after moment request state given b is = ap (λ (a : Answer). text_of_reply request a (step state moment request).state) is ∙ step-text moment request state b
 
 -- ---- the state that is kept is the one after the command
@@ -178,6 +183,7 @@ kept-still old new state image same k = record {
   limits = k.limits ∙ ap bounds_of (sym same.limits);
   items_are = same.items ∙ k.items_are;
   bytes_are = same.bytes ∙ k.bytes_are;
+  few = k.few;
   open_objects = ap open_count same.handles ∙ k.open_objects;
   open_bytes = same.open_bytes ∙ k.open_bytes;
   names = λ name. subst (λ (bs : Bindings). IsBoundAs state k.layout (named_by state name) (binding_of bs name)) (sym same.handles) (k.names name);

@@ -6,7 +6,7 @@ use Rattle.blk_image.specs.Steps.{after}
 use Rattle.blk_image.specs.Told.{Told}
 use Rattle.blk_io.specs.Streams.{Appends}
 use Rattle.blk_model.specs.Refusals.{evicted, refused}
-use Rattle.blk_model.specs.Request.{Request, to_close, to_list, to_open, to_read, to_size, to_total}
+use Rattle.blk_model.specs.Request.{Request, to_close, to_doom, to_doom_key, to_list, to_open, to_read, to_size, to_total}
 use Rattle.blk_model.specs.Room.{Group}
 use Rattle.blk_model.specs.State.{State}
 use Rattle.blk_model.specs.Step.{outcome, step}
@@ -20,7 +20,7 @@ use Rattle.blk_cache.specs.CommandClauses.{KeepsAny}
 use Rattle.blk_cache.specs.ReadPrinting.{PrintsInPart}
 use Rattle.blk_cache.specs.Replying.{ForReply}
 use Rattle.blk_cache.specs.RoomPrinting.{Prints}
-use Rattle.blk_cache.specs.Stepping.{IsBuilt, SaysEvicted, SaysFront, evicted_first, outcome_text}
+use Rattle.blk_cache.specs.Stepping.{IsPlain, SaysEvicted, SaysFront, evicted_first, outcome_text}
 use Rattle.blk_cache.proofs.PrintedReads.{part-on}
 use Rattle.blk_cache.proofs.Replies.{is-after, text-after}
 use Rattle.blk_cache.proofs.RoomTexts.{none-printed, printed-on}
@@ -33,6 +33,8 @@ EvictsNothing (to_open handle key) = Unit {0}
 EvictsNothing (to_read handle stream offset count) = Unit {0}
 EvictsNothing (to_size handle stream) = Unit {0}
 EvictsNothing (to_close handle) = Unit {0}
+EvictsNothing (to_doom handle) = Unit {0}
+EvictsNothing (to_doom_key key) = Unit {0}
 EvictsNothing to_list = Unit {0}
 EvictsNothing to_total = Unit {0}
 EvictsNothing _ = ⊥
@@ -43,6 +45,8 @@ none-evicted moment (to_open handle key) state n = refl
 none-evicted moment (to_read handle stream offset count) state n = refl
 none-evicted moment (to_size handle stream) state n = refl
 none-evicted moment (to_close handle) state n = refl
+none-evicted moment (to_doom handle) state n = refl
+none-evicted moment (to_doom_key key) state n = refl
 none-evicted moment to_list state n = refl
 none-evicted moment to_total state n = refl
 none-evicted moment _ state n = absurd n
@@ -82,7 +86,7 @@ module _ (old done : Cache) (told mid now : Told) (moment : ℕ) (request : Requ
     by None is = is
     by (Some image) is = let one = any image is in absurd (no (sym none ∙ (still-told one.0 image is one.1).1))
 
-  module _ (built : IsBuilt request) (answer : Answer) (does : Does (KeepsState old) (KeepsState done) told now moment request answer) where
+  module _ (built : IsPlain request) (answer : Answer) (does : Does (KeepsState old) (KeepsState done) told now moment request answer) where
     -- what is said of the reply, by the state after the command
     replied : (P : List ℕ → Type 0) → ForReply done now request answer P → ForKept (KeepsState old) told (λ state. P (reply_text (step state moment request).reply))
     replied P says image there state k =

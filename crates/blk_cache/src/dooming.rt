@@ -17,7 +17,6 @@ ghost use Rattle.blk_object.specs.RemovingObjects.{FindsEither};
 ghost use Rattle.blk_cache.specs.CacheKeeping.{KeepsState};
 ghost use Rattle.blk_cache.specs.CommandClauses.{IsRefused, KeepsAny};
 ghost use Rattle.blk_cache.specs.Dooming.{CountsDoomed, ForEachKept, ForEachOpen, doom_refusal};
-ghost use Rattle.blk_cache.specs.Stepping.{HasLine};
 
 use crate::cache::Cache;
 use crate::dooming_objects::{Target, doom_named, doom_target, find_target};
@@ -45,7 +44,6 @@ impl Cache {
         ensures unchanged { IfOk result (λ answer. IsRefused answer → self.new ≡ self.old) }
 
         ensures is_open { ForSome (F.told f.new).files (IsOpen self.new.files) }
-        ensures has_line { IfOk result HasLine }
         ensures notes { self.new.notes ≡ self.old.notes }
 
         // A folder that tells its files gives no damage where the cache keeps a state.
@@ -79,7 +77,6 @@ impl Cache {
         ensures unchanged { IfOk result (λ answer. IsRefused answer → self.new ≡ self.old) }
 
         ensures is_open { ForSome (F.told f.new).files (IsOpen self.new.files) }
-        ensures has_line { IfOk result HasLine }
         ensures notes { self.new.notes ≡ self.old.notes }
 
         // A folder that tells its files gives no damage where the cache keeps a state.

@@ -13,7 +13,7 @@ ghost use Rattle.blk_kept.specs.Commands.{Does, ForKept, IsNoted, IsStepped, May
 ghost use Rattle.blk_cache.specs.CacheKeeping.{KeepsState};
 ghost use Rattle.blk_cache.specs.CommandClauses.{IsRefused, KeepsAny, OnlyNotesChange};
 ghost use Rattle.blk_cache.specs.RoomPrinting.{FailsWhereItRose};
-ghost use Rattle.blk_cache.specs.Stepping.{IfDone, IfSink, IfStepDamaged, IfStepDevice, IsBuilt, SaysEvicted, SaysFront, evicted_first, outcome_text};
+ghost use Rattle.blk_cache.specs.Stepping.{IfDone, IfSink, IfStepDamaged, IfStepDevice, IsPlain, SaysEvicted, SaysFront, evicted_first, outcome_text};
 
 use crate::cache::Cache;
 use crate::fault::StepFault;
@@ -40,7 +40,7 @@ impl Cache {
         command: &Command,
     ) -> Result<Answer, StepFault>
         requires is_open { ForSome (F.told f.old).files (IsOpen self.old.files) }
-        requires built { IsBuilt (request_of command.now) }
+        requires plain { IsPlain (request_of command.now) }
 
         // The answer is the map's, and the state after it is kept, also where only the sink failed.
         ensures answered { IfOk result (λ answer. ForKept (KeepsState self.old) (F.told f.old) (λ state. answer ≡ answer_of (step state moment (request_of command.now)).reply)) }
@@ -130,7 +130,7 @@ impl Cache {
         command: &Command,
     ) -> Result<Answer, Fault>
         requires is_open { ForSome (F.told f.old).files (IsOpen self.old.files) }
-        requires built { IsBuilt (request_of command.now) }
+        requires plain { IsPlain (request_of command.now) }
         ensures does { IfOk result (λ answer. Does (KeepsState self.old) (KeepsState self.new) (F.told f.old) (F.told f.new) moment (request_of command.now) answer) }
         ensures stops { MayStopAtEach (KeepsState self.old) (F.told f.old) (F.told f.new) moment (request_of command.now) }
         ensures says { OnOk result (SaysEvicted self.old (F.told f.old) moment (request_of command.now) failed.old failed.new (K.written out.old) (K.written out.new)) }
@@ -153,12 +153,25 @@ impl Cache {
                 offset,
                 count,
             } => self.use_read(f, handle, stream, offset, count, moment),
+            Command::Write {
+                handle,
+                stream,
+                offset,
+                cut,
+                bytes,
+            } => self.write(
+                f, out, failed, handle, stream, offset, cut, bytes, moment,
+            ),
             Command::Size { handle, stream } => self.size(f, handle, stream),
+            Command::Doom { handle } => self.doom(f, handle),
+            Command::DoomKey { key } => self.doom_key(f, key),
             Command::Close { handle } => self.close(f, handle),
             Command::List => self.list(f),
             Command::Trim { bytes } => self.trim(f, out, failed, bytes),
             Command::Total => Ok(self.total()),
-            _ => unreachable!(),
+            Command::SparseWrite { .. }
+            | Command::SparseRead { .. }
+            | Command::SparseRange { .. } => unreachable!(),
         }
     }
 

@@ -3,7 +3,7 @@ use Rattle.std.specs.Option.{ForSome}
 use Rattle.blk_image.specs.Told.{Told}
 use Rattle.blk_disk.specs.Open.{IsOpen}
 use Rattle.std.specs.Prelude.{IfOk, OnOk}
-use Rattle.blk_model.specs.Request.{request_of, to_close, to_list, to_open, to_read, to_size, to_total}
+use Rattle.blk_model.specs.Request.{request_of, to_close, to_doom, to_doom_key, to_list, to_open, to_read, to_size, to_total}
 use Rattle.blk_model.specs.declared.Command.{Command}
 use Rattle.blk_kept.specs.Commands.{Does, MayStopAtEach}
 use Rattle.blk_kept.proofs.Stopping.{nothing-stops}
@@ -120,3 +120,36 @@ returns-in-List-clause-front g c = subst (λ (cmd : Command). SaysFront c.args.s
 
 pub returns-in-List-clause-is_open : goal.returns-in-List-clause-is_open
 returns-in-List-clause-is_open g c = on-ok c.list.result (ForSome (g.F.Folder.told c.list.new.f).files (IsOpen c.args.self.now.files)) (λ image now. c.requires.is_open image (ap (λ (t : Told). t.files) (sym c.list.ensures.stays) ∙ now))
+
+pub returns-in-Write-clause-stops : goal.returns-in-Write-clause-stops
+returns-in-Write-clause-stops g c = subst (λ (cmd : Command). MayStopAtEach (KeepsState c.args.self.now) (g.F.Folder.told c.args.f.now) (g.F.Folder.told c.write.new.f) c.args.moment (request_of cmd)) (sym c.in-Write.is) c.write.ensures.stops
+
+pub returns-in-Write-clause-says : goal.returns-in-Write-clause-says
+returns-in-Write-clause-says g c = subst (λ (cmd : Command). OnOk c.write.result (SaysEvicted c.args.self.now (g.F.Folder.told c.args.f.now) c.args.moment (request_of cmd) c.args.failed.now c.write.new.failed (g.K.Sink.written c.args.out.now) (g.K.Sink.written c.write.new.out))) (sym c.in-Write.is) c.write.ensures.says
+
+pub returns-in-Write-clause-front : goal.returns-in-Write-clause-front
+returns-in-Write-clause-front g c = subst (λ (cmd : Command). SaysFront c.args.self.now (g.F.Folder.told c.args.f.now) c.args.moment (request_of cmd) (g.K.Sink.written c.args.out.now) (g.K.Sink.written c.write.new.out)) (sym c.in-Write.is) c.write.ensures.front
+
+pub returns-in-Doom-clause-stops : goal.returns-in-Doom-clause-stops
+returns-in-Doom-clause-stops g c = subst (λ (cmd : Command). MayStopAtEach (KeepsState c.args.self.now) (g.F.Folder.told c.args.f.now) (g.F.Folder.told c.doom.new.f) c.args.moment (request_of cmd)) (sym c.in-Doom.is) (c.doom.ensures.stops c.args.moment)
+
+pub returns-in-Doom-clause-says : goal.returns-in-Doom-clause-says
+returns-in-Doom-clause-says g c = subst (λ (cmd : Command). OnOk c.doom.result (SaysEvicted c.args.self.now (g.F.Folder.told c.args.f.now) c.args.moment (request_of cmd) c.args.failed.now c.args.failed.now (g.K.Sink.written c.args.out.now) (g.K.Sink.written c.args.out.now))) (sym c.in-Doom.is)
+    (on-ok c.doom.result (SaysEvicted c.args.self.now (g.F.Folder.told c.args.f.now) c.args.moment (to_doom c.in-Doom.handle) c.args.failed.now c.args.failed.now (g.K.Sink.written c.args.out.now) (g.K.Sink.written c.args.out.now))
+    (says-nothing c.args.self.now (g.F.Folder.told c.args.f.now) c.args.moment (to_doom c.in-Doom.handle) tt c.args.failed.now (g.K.Sink.written c.args.out.now)))
+
+pub returns-in-Doom-clause-front : goal.returns-in-Doom-clause-front
+returns-in-Doom-clause-front g c = subst (λ (cmd : Command). SaysFront c.args.self.now (g.F.Folder.told c.args.f.now) c.args.moment (request_of cmd) (g.K.Sink.written c.args.out.now) (g.K.Sink.written c.args.out.now)) (sym c.in-Doom.is)
+    (front-nothing c.args.self.now (g.F.Folder.told c.args.f.now) c.args.moment (to_doom c.in-Doom.handle) tt c.args.failed.now (g.K.Sink.written c.args.out.now))
+
+pub returns-in-DoomKey-clause-stops : goal.returns-in-DoomKey-clause-stops
+returns-in-DoomKey-clause-stops g c = subst (λ (cmd : Command). MayStopAtEach (KeepsState c.args.self.now) (g.F.Folder.told c.args.f.now) (g.F.Folder.told c.doom_key.new.f) c.args.moment (request_of cmd)) (sym c.in-DoomKey.is) (c.doom_key.ensures.stops c.args.moment)
+
+pub returns-in-DoomKey-clause-says : goal.returns-in-DoomKey-clause-says
+returns-in-DoomKey-clause-says g c = subst (λ (cmd : Command). OnOk c.doom_key.result (SaysEvicted c.args.self.now (g.F.Folder.told c.args.f.now) c.args.moment (request_of cmd) c.args.failed.now c.args.failed.now (g.K.Sink.written c.args.out.now) (g.K.Sink.written c.args.out.now))) (sym c.in-DoomKey.is)
+    (on-ok c.doom_key.result (SaysEvicted c.args.self.now (g.F.Folder.told c.args.f.now) c.args.moment (to_doom_key c.in-DoomKey.key.now) c.args.failed.now c.args.failed.now (g.K.Sink.written c.args.out.now) (g.K.Sink.written c.args.out.now))
+    (says-nothing c.args.self.now (g.F.Folder.told c.args.f.now) c.args.moment (to_doom_key c.in-DoomKey.key.now) tt c.args.failed.now (g.K.Sink.written c.args.out.now)))
+
+pub returns-in-DoomKey-clause-front : goal.returns-in-DoomKey-clause-front
+returns-in-DoomKey-clause-front g c = subst (λ (cmd : Command). SaysFront c.args.self.now (g.F.Folder.told c.args.f.now) c.args.moment (request_of cmd) (g.K.Sink.written c.args.out.now) (g.K.Sink.written c.args.out.now)) (sym c.in-DoomKey.is)
+    (front-nothing c.args.self.now (g.F.Folder.told c.args.f.now) c.args.moment (to_doom_key c.in-DoomKey.key.now) tt c.args.failed.now (g.K.Sink.written c.args.out.now))
