@@ -13,6 +13,7 @@ pub mod TakenItems
 pub mod FreedPlaces
 pub mod FreeingRuns
 pub mod Sessions
+pub mod DamageChecks
 pub mod OwnedPlaces
 pub mod OwnedCharges
 pub mod PlainObjects
@@ -42,3 +43,4 @@ pub mod WrittenStored
 pub mod WrittenStages
 pub mod WrittenCalls
 pub mod StreamsThere
+pub mod WriteChecks

@@ -23,9 +23,12 @@ length_or_none None = refl
 length_or_none (Some bytes) = refl
 
 -- the length that was asked for
+pub length_read : (image : Image) (n : ℕ) (found : Option ℕ) (file : FileId) → found ≡ option_map length (image (file_of file)) → n ≡ unwrap_or found 0 → n ≡ length_of image (file_of file)
+length_read image n found file was is = is ∙ ap (λ (o : Option ℕ). unwrap_or o 0) was ∙ length_or_none (image (file_of file))
+
 pub length_found : (image : Image) (w n : ℕ) (found : Option ℕ) (file : FileId) → kind_of w ≡ external → file ≡ folder_name (file_of_word w) → found ≡ option_map length (image (file_of file)) → n ≡ unwrap_or found 0 → n ≡ length_of image (External (external_number w))
 length_found image w n found file kind named was is =
-    is ∙ ap (λ (o : Option ℕ). unwrap_or o 0) was ∙ length_or_none (image (file_of file)) ∙ ap (λ (f : FileId). length_of image (file_of f)) named ∙ ap (length_of image) (external_name w kind)
+    length_read image n found file was is ∙ ap (λ (f : FileId). length_of image (file_of f)) named ∙ ap (length_of image) (external_name w kind)
 
 -- the words of a stream in what was read of its record
 pub size_in_head : (image : Image) (entry i n : ℕ) (head : Head) → IsRecordHead image entry head → n ≡ i → slice_index_or head.sizes n 0 ≡ size_word image entry i
@@ -41,6 +44,13 @@ no_address v o is none address = by_test (is_address v) address (sym none ∙ is
     by_test : (t : Bool) → t ≡ true → None ≡ (if t then Some v else None) → ⊥
     by_test true e h = cc
     by_test false e h = let z : false ≡ true = e in cc
+
+pub none_address : (v : ℕ) (o : Option ℕ) → o ≡ (if is_address v then Some v else None) → o ≡ None → is_address v ≡ false
+none_address v o is none = by_test (is_address v) refl
+  where
+    by_test : (t : Bool) → is_address v ≡ t → is_address v ≡ false
+    by_test true e = absurd (no_address v o is none e)
+    by_test false e = e
 
 -- and one that gave an address is it
 pub address_is : (v a : ℕ) (o : Option ℕ) → o ≡ (if is_address v then Some v else None) → o ≡ Some a → a ≡ v

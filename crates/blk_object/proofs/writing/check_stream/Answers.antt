@@ -1,16 +1,19 @@
-use Rattle.std.proofs.Common.{◌≡◌, ◌<◌, ℕ, None, Some, Err, slice_index_or, sym, ◌∙◌, ap, subst, true}
+use Rattle.std.proofs.Common.{refl, ◌≡◌, ◌<◌, ℕ, None, Some, Err, slice_index_or, sym, ◌∙◌, ap, subst, true}
 use Rattle.blk_image.specs.Told.{Told}
 use Rattle.blk_format.specs.Address.{is_address}
 use Rattle.blk_io.proofs.Carried.{if_damaged_weaker, untold_where}
 use Rattle.blk_entry.specs.Keys.{IsInFile}
 use Rattle.blk_entry.proofs.KeyPlaces.{damaged_any}
 use Rattle.blk_stream.specs.Streams.{address_word, size_word}
-use Rattle.blk_object.proofs.StreamsThere.{address_is, more_than_none, no_address, size_in_head, word_in_head}
+use Rattle.blk_object.specs.FailedChecks.{FailsShort}
+use Rattle.blk_object.proofs.DamageChecks.{handed, head-checked, moved}
+use Rattle.blk_object.proofs.WriteChecks.{unplaced-checked}
+use Rattle.blk_object.proofs.StreamsThere.{address_is, more_than_none, no_address, none_address, size_in_head, word_in_head}
 use Rattle.blk_object.proofs.writing.check_stream.Goals as goal
 
 pub returns-in_default-clause-untold : goal.returns-in_default-clause-untold
 returns-in_default-clause-untold g c agrees has =
-    damaged_any {A = Unit {0}} (Err c.record_damage.result) ((g.F.Folder.told c.args.f.now).files ≡ None)
+    damaged_any {A = Unit {0}} (Err c.unplaced.result) ((g.F.Folder.told c.args.f.now).files ≡ None)
     (untold_where (g.F.Folder.told c.args.f.now).files
     (λ image there.
     let head = c.in_ok-head.ensures.head image there in
@@ -32,3 +35,18 @@ returns-clause-untold g c agrees has =
     let addr : c.in-Some.addr ≡ address_word image c.args.entry c.args.stream = address_is (slice_index_or c.in_ok-head.head.addrs c.from-2.result 0) c.in-Some.addr c.from_word.result c.from_word.ensures c.in-Some.is ∙ word in
     subst (λ (v : ℕ). IsInFile v 0 (slice_index_or c.in_ok-head.head.sizes c.from.result 0) image) (sym addr)
     (subst (λ (n : ℕ). IsInFile (address_word image c.args.entry c.args.stream) 0 n image) (sym size) (has image there).there)))
+
+pub returns-in_err-head-clause-damaged : goal.returns-in_err-head-clause-damaged
+returns-in_err-head-clause-damaged g c =
+    handed c.read_head.result c.from_residual.result c.in_err-head.field-0.0 _ c.args.files.now (g.F.Folder.told c.read_head.new.f)
+    (λ damage head. moved c.args.files.now (g.F.Folder.told c.args.f.now) (g.F.Folder.told c.read_head.new.f) damage c.read_head.ensures.stays (head-checked c.args.files.now (g.F.Folder.told c.args.f.now) c.args.entry damage c.requires.kind c.requires.stands head)) c.in_err-head.was c.from_residual.ensures.1 c.read_head.ensures.damaged
+
+pub returns-in_default-clause-damaged : goal.returns-in_default-clause-damaged
+returns-in_default-clause-damaged g c =
+    let size : ℕ = slice_index_or c.in_ok-head.head.sizes c.from.result 0 in
+    let word : ℕ = slice_index_or c.in_ok-head.head.addrs c.from-2.result 0 in
+    unplaced-checked c.args.files.now (g.F.Folder.told c.read_head.new.f) c.args.entry c.args.stream size word c.unplaced.result c.requires.kind c.requires.stands (more_than_none size size c.if-size-eq0.false refl)
+    (none_address word c.from_word.result c.from_word.ensures c.in_default.is) c.unplaced.ensures
+
+pub returns-clause-damaged : goal.returns-clause-damaged
+returns-clause-damaged g c = if_damaged_weaker c.check_length.result _ _ (λ damage few. FailsShort few) c.check_length.ensures.damaged

@@ -4,7 +4,7 @@ use Rattle.std.proofs.lemmas.Result.{on_ok_weaker}
 use Rattle.blk_image.specs.Told.{Passes, Told}
 use Rattle.blk_image.proofs.Runs.{some_inj}
 use Rattle.blk_io.specs.Faults.{IfDamaged}
-use Rattle.blk_io.proofs.Carried.{carried}
+use Rattle.blk_io.proofs.Carried.{carried, if_damaged_weaker}
 use Rattle.blk_model.specs.Holding.{rest}
 use Rattle.blk_format.specs.Headers.{HasWholeIndex}
 use Rattle.blk_disk.specs.Tables.{Agrees}
@@ -14,7 +14,10 @@ use Rattle.blk_stream.specs.Writing.{size_after}
 use Rattle.blk_stream.specs.Written.{CanBeWritten, StreamIsWritten}
 use Rattle.blk_kept.specs.Changes.{Finds}
 use Rattle.blk_object.specs.Writing.{ForEachUnsettled, HasStreamThere, IsWrittenUncounted}
+use Rattle.blk_object.specs.FailedChecks.{FailsLength}
+use Rattle.blk_object.proofs.DamageChecks.{handed}
 use Rattle.blk_object.proofs.MakingTaken.{then-stays}
+use Rattle.blk_object.proofs.WriteChecks.{write-checked}
 use Rattle.blk_object.proofs.WrittenCalls.{index-untold, nothing-written, object-finds, object-untold, object-written, stream-there}
 use Rattle.blk_object.proofs.writing.write_object.Given.{Over}
 use Rattle.blk_object.proofs.writing.write_object.Goals as goal
@@ -90,3 +93,14 @@ pub returns-clause-untold : goal.returns-clause-untold
 returns-clause-untold g c =
     index-untold (g.F.Folder.told c.args.f.now) (g.F.Folder.told c.write.new.f) c.args.files.now c.write.new.files c.args.entry c.args.stream c.args.offset c.args.cut c.args.bytes.now c.requires.stream c.requires.stands (g.met.F.Folder.are_bytes c.args.f.now) c.requires.is_open c.check_index.result
     (stops-there g c) (written-there g c) c.check_index.ensures.untold
+
+-- Why it isn't written.
+
+pub returns-in_err-write-clause-damaged : goal.returns-in_err-write-clause-damaged
+returns-in_err-write-clause-damaged g c =
+    handed c.write.result c.from_residual-in_err-write.result c.in_err-write.field-0.0 _ c.write.new.files (g.F.Folder.told c.write.new.f)
+    (λ damage why. write-checked c.args.files.now c.write.new.files c.args.entry c.args.stream (g.F.Folder.told c.check_stream.new.f) (g.F.Folder.told c.write.new.f) damage c.requires.kind (c.write.ensures.keeps c.args.entry c.requires.stands) c.write.ensures.keeps why)
+    c.in_err-write.was c.from_residual-in_err-write.ensures.1 c.write.ensures.damaged
+
+pub returns-clause-damaged : goal.returns-clause-damaged
+returns-clause-damaged g c = if_damaged_weaker c.check_index.result _ _ (λ damage other. FailsLength other) c.check_index.ensures.damaged

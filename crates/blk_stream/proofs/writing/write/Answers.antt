@@ -1,4 +1,4 @@
-use Rattle.std.proofs.Common.{◌≡◌, ◌⊎◌, ℕ, inl, Some, None, sym, ◌∙◌, ap, subst}
+use Rattle.std.proofs.Common.{◌≡◌, ◌⊎◌, ℕ, inl, Some, None, refl, sym, ◌∙◌, ap, subst}
 use Rattle.std.specs.Prelude.{length, unwrap_or}
 use Rattle.std.specs.Option.{ForSome}
 use Rattle.std.proofs.lemmas.Result.{on_ok_weaker}
@@ -38,7 +38,7 @@ pub returns-in_err-read_record-clause-damaged : goal.returns-in_err-read_record-
 returns-in_err-read_record-clause-damaged g c =
     carried c.read_record.result c.from_residual.result c.in_err-read_record.field-0.0 (IsWriteDamage c.args.files.now c.args.files.now (g.F.Folder.told c.args.f.now) (g.F.Folder.told c.read_record.new.f) c.args.entry c.args.stream) c.in_err-read_record.was c.from_residual.ensures.1
     (if_damaged_weaker c.read_record.result _ _
-    (λ damage d. inl (c.in_err-read_record.ensures.stays, inl (subst (λ (n : ℕ). IsShort (g.F.Folder.told c.args.f.now) (FileId.Block (file_selector c.args.entry)) (place c.args.entry) n damage ⊎ IsUnsealed (g.F.Folder.told c.args.f.now) c.args.entry damage) (entry_bytes c.args.entry c.requires.kind) d)))
+    (λ damage d. inl (c.in_err-read_record.ensures.stays, (refl, inl (subst (λ (n : ℕ). IsShort (g.F.Folder.told c.args.f.now) (FileId.Block (file_selector c.args.entry)) (place c.args.entry) n damage ⊎ IsUnsealed (g.F.Folder.told c.args.f.now) c.args.entry damage) (entry_bytes c.args.entry c.requires.kind) d))))
     c.read_record.ensures.damaged)
 
 pub returns-in_err-old-clause-stops : goal.returns-in_err-old-clause-stops
