@@ -1,11 +1,11 @@
 -- The bytes that the index counts become less by one number and more by another.
-use Rattle.std.proofs.Common.{◌≡◌, ℕ, ◌+◌, ◌%◌, ◌<◌, ◌≤◌, List, [], ◌∷◌, ◌++◌, length, length-append, refl, ap, sym, ◌∙◌, subst, arith, lit≤, Bool, true, false}
+use Rattle.std.proofs.Common.{◌≡◌, ℕ, ◌+◌, ◌%◌, ◌<◌, ◌≤◌, List, [], ◌∷◌, length, length-append, refl, ap, sym, ◌∙◌, subst, arith, lit≤, false}
 use Rattle.std.specs.Prelude.{◌^◌, ◌-◌, ◌&&◌, nat_le, nat_lt}
 use Rattle.std.specs.List.{sum_by}
 use Rattle.std.proofs.lemmas.Bool.Decides.{nat_tests}
 use Rattle.std.specs.Option.{ForSome}
 use Rattle.blk_image.specs.Footprint.{one_word}
-use Rattle.blk_image.specs.Image.{AreBytes, Image, Index, byte, word}
+use Rattle.blk_image.specs.Image.{AreBytes, Image, Index, byte}
 use Rattle.blk_image.specs.Steps.{TrailStep, after, word_step, word_steps}
 use Rattle.blk_image.specs.Told.{Along, Applies, AppliesPrefix, IsQuiet, Passes, Told}
 use Rattle.blk_image.proofs.ByteSteps.{word-small}
@@ -14,7 +14,6 @@ use Rattle.blk_image.proofs.Runs.{passes_part, some_inj, told_part, told_whole}
 use Rattle.blk_disk.specs.declared.tables.BlockFiles.{BlockFiles}
 use Rattle.blk_disk.specs.Open.{IsOpen}
 use Rattle.blk_format.specs.Headers.{num_bytes_of}
-use Rattle.blk_model.specs.Items.{Item}
 use Rattle.blk_volume.specs.Found.{charge_of}
 use Rattle.blk_volume.specs.Layout.{nodes_of}
 use Rattle.blk_volume.specs.Tidy.{loaded_at}

@@ -1,21 +1,17 @@
 -- The calls by which a stream of an object is written.
-use Rattle.std.proofs.Common.{◌≡◌, ◌≢◌, inl, inr, ℕ, ◌+◌, ◌<◌, ◌≤◌, List, [], length, refl, ap, sym, ◌∙◌, subst, arith, Bool, true, Option, Some, None}
+use Rattle.std.proofs.Common.{◌≡◌, ℕ, ◌<◌, List, [], length, sym, ◌∙◌, subst, Bool, true, Option, Some, None}
 use Rattle.std.specs.Option.{ForSome}
 use Rattle.std.specs.declared.result.Result.{Result}
 use Rattle.blk_image.specs.Image.{AreBytes, Image}
 use Rattle.blk_image.specs.Told.{Passes, TellsBytes, Told}
 use Rattle.blk_image.proofs.Runs.{passes_none, passes_weaker, some_inj}
-use Rattle.blk_model.specs.Effects.{stream_after}
 use Rattle.blk_model.specs.Holding.{rest}
 use Rattle.blk_model.specs.State.{Object, State}
-use Rattle.blk_format.specs.Address.{is_address}
-use Rattle.blk_format.specs.BlockFiles.{IsWellFormed}
 use Rattle.blk_format.specs.Headers.{HasWholeIndex}
 use Rattle.blk_format.proofs.Finished.{whole_index}
 use Rattle.blk_volume.specs.Layout.{Layout}
 use Rattle.blk_volume.specs.Loads.{Loaded}
 use Rattle.blk_laws.proofs.claims.ByteChanges.{stands-address}
-use Rattle.blk_io.specs.declared.fault.Damage.{Damage}
 use Rattle.blk_io.specs.declared.fault.Fault.{Fault}
 use Rattle.blk_io.specs.Faults.{IfDamaged}
 use Rattle.blk_io.proofs.Carried.{if_damaged_weaker}
@@ -28,7 +24,6 @@ use Rattle.blk_stream.specs.Writing.{size_after}
 use Rattle.blk_stream.specs.Written.{CanBeWritten, StreamIsWritten}
 use Rattle.blk_stream.proofs.StreamPlaces.{may_parts, stored_some, stream_facts}
 use Rattle.blk_kept.specs.Changes.{Finds}
-use Rattle.blk_kept.specs.Keeping.{KeepsUncounted}
 use Rattle.blk_kept.proofs.Free.{then-found}
 use Rattle.blk_object.specs.Writing.{ForEachUnsettled, HasStreamThere, IsToBeWritten, IsWrittenUncounted}
 use Rattle.blk_object.proofs.MakingTaken.{told-mid}

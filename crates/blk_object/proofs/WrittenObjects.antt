@@ -1,10 +1,10 @@
 -- A stream of an object that isn't settled is written: what lies at its node.
-use Rattle.std.proofs.Common.{◌≡◌, ◌≢◌, ⊎_elim, inl, inr, ℕ, zero, suc, ◌+◌, ◌<◌, ◌≤◌, List, [], ◌∷◌, ◌++◌, refl, ap, ap₂, sym, ◌∙◌, subst, arith, Bool, true, false, Ok, Option, Some, None}
+use Rattle.std.proofs.Common.{◌≡◌, ◌≢◌, ⊎_elim, inr, ℕ, zero, suc, ◌+◌, ◌<◌, ◌≤◌, List, [], ◌∷◌, ◌++◌, refl, ap, ap₂, sym, ◌∙◌, subst, arith, Bool, true, false, Ok, Option, Some, None}
 use Rattle.std.specs.Prelude.{◌⊎◌, ◌==◌, ◌&&◌, ◌||◌, IfSome, nat_le, not, slice_index, take, if◌then◌else◌}
 use Rattle.std.specs.List.{flat_map}
 use Rattle.std.specs.List.Sorted.{IsPermutation}
 use Rattle.std.specs.Option.{option_and_then, option_map, option_map_or}
-use Rattle.std.proofs.lemmas.Bool.{cases_Bool, cases_eq, eqb-true, or_left, or_right}
+use Rattle.std.proofs.lemmas.Bool.{cases_Bool, eqb-true, or_left, or_right}
 use Rattle.blk_image.specs.Bytes.{range_at}
 use Rattle.blk_image.specs.Footprint.{SameOutside, either, nothing}
 use Rattle.blk_image.specs.Image.{Block, External, File, Image, byte, has_file, length_of}
@@ -14,23 +14,22 @@ use Rattle.blk_model.specs.Holding as model
 use Rattle.blk_model.specs.Items.{Row, is_sparse, main, main_row}
 use Rattle.blk_model.specs.State.{IsValidState, Object, State, object_at}
 use Rattle.blk_model.proofs.States.{has_main}
-use Rattle.blk_format.specs.Address.{blocks_256, byte_size, external, external_number, file_selector, kind_of, place, rankings}
+use Rattle.blk_format.specs.Address.{blocks_256, byte_size, external, external_number, file_selector, kind_of, place}
 use Rattle.blk_format.specs.BlockFiles.{stands_in}
 use Rattle.blk_format.specs.Claims.{BlockOf, Claim, claims_of, has_claim, repeats}
 use Rattle.blk_format.specs.Records.{Node, entry_checks, entry_is_sealed, node_is_sealed}
 use Rattle.blk_format.specs.Storage.{is_storage}
 use Rattle.blk_format.specs.Sealed.{record_size, size_by_kind}
 use Rattle.blk_volume.specs.Chains.{bucket_of_hash, is_of_bucket}
-use Rattle.blk_volume.specs.Entries.{is_key_length, role_of, stored_key, stored_stream, stored_streams, stream}
+use Rattle.blk_volume.specs.Entries.{is_key_length, stored_key, stored_stream, stored_streams, stream}
 use Rattle.blk_volume.specs.Footprint.{IsClear, IsFreeBut, IsInsideNode, IsReplaced, SameBut, SameNodeLinks}
-use Rattle.blk_volume.specs.Found.{row_of_loaded, row_with}
+use Rattle.blk_volume.specs.Found.{row_of_loaded}
 use Rattle.blk_volume.specs.Layout.{Layout, rule_of}
 use Rattle.blk_volume.specs.Loads.{Loaded, all_claims, load, record_claims}
-use Rattle.blk_volume.specs.View.{RecordFields, StoreView, address_of, block_bytes, entry_at, fields_at, fields_of, follow_at, key_place_at, list_of, node_at, stands_as, store_of, stored_at, view_of}
+use Rattle.blk_volume.specs.View.{RecordFields, block_bytes, entry_at, fields_at, fields_of, follow_at, key_place_at, list_of, stands_as, store_of, stored_at, view_of}
 use Rattle.blk_volume.specs.Sound.{AreSealed, words_of}
 use Rattle.blk_laws.proofs.chains.ChainWords.{shown-fields}
-use Rattle.blk_laws.proofs.claims.Allocations.{words-stand}
-use Rattle.blk_laws.proofs.claims.ByteChanges.{agreeing-views, node-same, not_equal, stands-some}
+use Rattle.blk_laws.proofs.claims.ByteChanges.{agreeing-views, node-same, stands-some}
 use Rattle.blk_laws.proofs.claims.ClaimLists.{claim-append}
 use Rattle.blk_laws.proofs.claims.Inside.{record-inside}
 use Rattle.blk_laws.proofs.claims.Outside.{clear-zero, index-claims}
@@ -38,7 +37,7 @@ use Rattle.blk_laws.proofs.states.Laid.{repeats-tail}
 use Rattle.blk_laws.proofs.states.Marking.{repeats-apart}
 use Rattle.blk_laws.proofs.states.OthersHold.{others-clear}
 use Rattle.blk_laws.proofs.states.Settling.{main-listed, main-owned}
-use Rattle.blk_laws.proofs.updates.StillShown.{core-standing, standing-parts}
+use Rattle.blk_laws.proofs.updates.StillShown.{standing-parts}
 use Rattle.blk_laws.proofs.walks.Loads.{load-then}
 use Rattle.blk_disk.specs.declared.tables.BlockFiles.{BlockFiles}
 use Rattle.blk_disk.specs.Tables.{Agrees, stands_among}
@@ -67,7 +66,7 @@ use Rattle.blk_object.specs.Writing.{node_of_object}
 use Rattle.blk_object.proofs.WrittenChanges.{touched_of, written-only, written-stands}
 use Rattle.blk_object.proofs.WrittenLoads.{load-written}
 use Rattle.blk_object.proofs.WrittenRecords.{SameRecordBut, fields-still, key-still, next-still, streams-written}
-use Rattle.blk_object.proofs.WrittenRoles.{IsStreamChange, role-written, row-written, stream-was}
+use Rattle.blk_object.proofs.WrittenRoles.{IsStreamChange, role-written, row-written}
 
 -- ---- the words of what lies at a node claim different things
 

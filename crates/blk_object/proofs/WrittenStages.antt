@@ -1,24 +1,23 @@
 -- An object whose stream is written, stage by stage: what was at rest is found at each word, and it is kept with the stream written in the end.
 use Rattle.std.proofs.Common.{◌≡◌, ◌≢◌, ⊎_elim, inl, inr, ℕ, zero, suc, ◌+◌, ◌<◌, ◌≤◌, List, [], ◌∷◌, ◌++◌, length, refl, ap, ap₂, sym, ◌∙◌, subst, arith, Bool, true, false, Option, Some, None}
-use Rattle.std.specs.Prelude.{◌⊎◌, ◌==◌, ◌&&◌, ◌||◌, not, unwrap_or, if◌then◌else◌}
+use Rattle.std.specs.Prelude.{◌⊎◌, ◌==◌, not, unwrap_or, if◌then◌else◌}
 use Rattle.std.specs.List.Sorted.{IsPermutation}
 use Rattle.std.specs.List.{AllByRecursion, sum_by}
-use Rattle.std.proofs.lemmas.Bool.{cases_Bool, cases_eq, eqb-true, or_left, or_parts, or_right}
+use Rattle.std.proofs.lemmas.Bool.{cases_eq, eqb-true, or_left, or_parts, or_right}
 use Rattle.std.proofs.lemmas.List.Sorted.{IsPermutation-refl}
-use Rattle.blk_image.specs.Footprint.{SameOutside, either, nothing}
-use Rattle.blk_image.specs.Image.{Block, External, File, Image, has_file}
+use Rattle.blk_image.specs.Footprint.{SameOutside, either}
+use Rattle.blk_image.specs.Image.{File, Image, has_file}
 use Rattle.blk_image.proofs.Footprints.{outside_wider, within_left}
 use Rattle.blk_image.proofs.Runs.{some_inj}
 use Rattle.blk_model.specs.Effects.{stream_after, stream_in, stream_of, streams_with}
 use Rattle.blk_model.specs.Holding.{rest}
 use Rattle.blk_model.specs.Items.{Row, Streams, is_sparse, main}
 use Rattle.blk_model.specs.State.{IsValidState, Object, State, object_at}
-use Rattle.blk_format.specs.Address.{blocks_256, byte_size, external, kind_of}
-use Rattle.blk_format.specs.BlockFiles.{IsWellFormed, is_among, stands_in, stands_in_blocks}
+use Rattle.blk_format.specs.Address.{blocks_256, byte_size, kind_of}
+use Rattle.blk_format.specs.BlockFiles.{is_among, stands_in}
 use Rattle.blk_format.specs.Claims.{Claim, claims_of, claims_of_all, has_claim}
 use Rattle.blk_format.proofs.Among.{is_among-append}
 use Rattle.blk_format.specs.Records.{Entry, entry_checks, entry_is_sealed}
-use Rattle.blk_format.specs.Standing.{stands}
 use Rattle.blk_volume.specs.Entries.{stored_stream, stream}
 use Rattle.blk_volume.specs.Footprint.{IsClear}
 use Rattle.blk_volume.specs.Found.{charge_of}
@@ -36,10 +35,9 @@ use Rattle.blk_laws.proofs.states.Settling.{main-listed}
 use Rattle.blk_disk.specs.declared.tables.BlockFiles.{BlockFiles}
 use Rattle.blk_disk.specs.Tables.{Agrees, stands_among}
 use Rattle.blk_entry.specs.Keys.{IsInside, data_at}
-use Rattle.blk_entry.proofs.KeyPlaces.{of_other}
-use Rattle.blk_stream.specs.Changing.{HasWords, stream_words}
+use Rattle.blk_stream.specs.Changing.{stream_words}
 use Rattle.blk_stream.specs.Moving.{HasPlaceLength, data_at_place}
-use Rattle.blk_stream.specs.Stages.{FreesOld, FreesPlaceInProgress, HasMoved, IsFilled, IsWrittenByStage, KeepsSeal, NamesAndFrees, NamesByStage, NamesPlace, NamesShown, WritesByStage, WritesInPlace}
+use Rattle.blk_stream.specs.Stages.{FreesOld, FreesPlaceInProgress, IsFilled, IsWrittenByStage, KeepsSeal, NamesAndFrees, NamesPlace, NamesShown, WritesByStage, WritesInPlace}
 use Rattle.blk_stream.specs.Streams.{address_word, may_keep, size_word, stream_bytes}
 use Rattle.blk_stream.specs.Writing.{have_one_storage, size_after}
 use Rattle.blk_stream.specs.Written.{StreamIsWritten}
@@ -47,15 +45,15 @@ use Rattle.blk_stream.proofs.StreamLists.{stored_there}
 use Rattle.blk_stream.specs.Loading.{stored_streams_with}
 use Rattle.blk_stream.proofs.EmptyStreams.{fourth_of, streams_known}
 use Rattle.blk_stream.proofs.StreamPlaces.{stream_is_bytes, streams_parts}
-use Rattle.blk_kept.specs.Changes.{ChangesOnly, Finds, SameCounters, SameSession}
+use Rattle.blk_kept.specs.Changes.{Finds, SameCounters, SameSession}
 use Rattle.blk_kept.specs.CommandEnds.{after_write}
 use Rattle.blk_kept.specs.Keeping.{KeepsUncounted}
 use Rattle.blk_kept.specs.ObjectLaws.{layout_after}
 use Rattle.blk_kept.proofs.AtNodes.{record-own}
 use Rattle.blk_kept.proofs.Keeping.{kept-found}
-use Rattle.blk_object.specs.Freeing.{AreGoing, Removes, RemovesPlace}
+use Rattle.blk_object.specs.Freeing.{AreGoing, Removes}
 use Rattle.blk_object.specs.Making.{Takes, long_word}
-use Rattle.blk_object.specs.Writing.{IsLoadedAfter, IsRisen, IsToBeWritten, IsWrittenUncounted, node_of_object, with_written}
+use Rattle.blk_object.specs.Writing.{IsLoadedAfter, IsRisen, IsWrittenUncounted, node_of_object, with_written}
 use Rattle.blk_object.proofs.FreedPlaces.{all-counted, all-gone, going-finds}
 use Rattle.blk_object.proofs.GoingNext.{then-counters}
 use Rattle.blk_object.proofs.MakingTaken.{session-then}

@@ -1,7 +1,7 @@
 -- A stream of a record is stored where its words say.
-use Rattle.std.proofs.Common.{◌≡◌, ◌≢◌, ⊎_elim, ℕ, zero, suc, ◌+◌, ◌<◌, ◌≤◌, List, [], refl, ap, sym, ◌∙◌, subst, arith, Bool, true, false, Option, Some, None}
-use Rattle.std.specs.Prelude.{◌==◌, ◌&&◌, ◌||◌, nat_le, not, if◌then◌else◌}
-use Rattle.std.proofs.lemmas.Bool.{and_parts, cases_Bool, eq-eqb, eqb-true, le-leb}
+use Rattle.std.proofs.Common.{◌≡◌, ◌≢◌, ℕ, zero, suc, ◌+◌, ◌<◌, List, [], refl, ap, sym, ◌∙◌, arith, Bool, true, false, Some, None}
+use Rattle.std.specs.Prelude.{◌==◌, ◌||◌, nat_le, if◌then◌else◌}
+use Rattle.std.proofs.lemmas.Bool.{and_parts, eq-eqb, eqb-true, le-leb}
 use Rattle.std.proofs.lemmas.Bool.Decides.{nat_tests}
 use Rattle.blk_image.specs.Bytes.{range_at}
 use Rattle.blk_image.specs.Image.{Block, External, Image, byte, length_of}
@@ -15,9 +15,9 @@ use Rattle.blk_disk.specs.Tables.{stands_among}
 use Rattle.blk_entry.specs.Keys.{data_at, stores}
 use Rattle.blk_entry.proofs.KeyPlaces.{data_of_blocks, data_of_external}
 use Rattle.blk_stream.specs.Moving.{HasPlaceLength}
-use Rattle.blk_stream.specs.Streams.{address_word, may_keep, size_word, stream_bytes}
+use Rattle.blk_stream.specs.Streams.{address_word, may_keep, size_word}
 use Rattle.blk_stream.proofs.PlacesFreed.{blocky_of}
-use Rattle.blk_stream.proofs.StreamPlaces.{may_parts, none_word, stored_some}
+use Rattle.blk_stream.proofs.StreamPlaces.{may_parts, stored_some}
 
 -- data of a size that an address which stands is the storage of
 module _ (files : BlockFiles) (image : Image) (size w : ℕ) (keep : may_keep files size w ≡ true) (st : w ≢ 0 → stands_in image w ≡ true) (long : HasPlaceLength w size image) where

@@ -1,5 +1,5 @@
 -- The words of an object whose stream is written: that it can be, and in which order they are then.
-use Rattle.std.proofs.Common.{◌≡◌, ◌≢◌, ⊎_elim, inl, inr, ℕ, zero, suc, ◌+◌, ◌*◌, ◌<◌, ◌≤◌, List, [], ◌∷◌, ◌++◌, map, length, refl, ap, ap₂, sym, ◌∙◌, subst, arith, append_assoc, Bool, true, false, Option, Some, None}
+use Rattle.std.proofs.Common.{◌≡◌, ◌≢◌, ⊎_elim, ℕ, zero, suc, ◌+◌, ◌*◌, ◌<◌, ◌≤◌, List, [], ◌∷◌, ◌++◌, map, length, refl, ap, ap₂, sym, ◌∙◌, subst, arith, append_assoc, Bool, true, false, Option, Some, None}
 use Rattle.std.specs.Prelude.{◌==◌, ◌&&◌, ◌||◌, filter, is_some, not, slice_index, if◌then◌else◌}
 use Rattle.std.specs.List.{flat_map, filter_map, cons_option}
 use Rattle.std.specs.List.Sorted.{IsPermutation}
@@ -23,7 +23,7 @@ use Rattle.blk_format.proofs.Among.{is_among-append}
 use Rattle.blk_volume.specs.Layout.{Layout, order}
 use Rattle.blk_volume.specs.Loads.{Loaded}
 use Rattle.blk_volume.specs.Sound.{words_of}
-use Rattle.blk_volume.specs.Tidy.{doomed_nodes, loaded_at}
+use Rattle.blk_volume.specs.Tidy.{doomed_nodes}
 use Rattle.blk_volume.specs.View.{entry_at}
 use Rattle.blk_laws.proofs.chains.ChainWords.{record_checks}
 use Rattle.blk_laws.proofs.claims.Allocations.{repeats-head}
@@ -35,12 +35,9 @@ use Rattle.blk_laws.proofs.states.Settling.{main-listed}
 use Rattle.blk_laws.proofs.updates.StillShown.{standing-parts}
 use Rattle.blk_disk.specs.declared.tables.BlockFiles.{BlockFiles}
 use Rattle.blk_disk.specs.Tables.{Agrees}
-use Rattle.blk_alloc.specs.Owning.{CanBeFreed}
 use Rattle.blk_stream.specs.Freeing.{MayBeFreed}
-use Rattle.blk_stream.specs.Placing.{CanBePlaced}
-use Rattle.blk_stream.specs.Streams.{address_word, size_word}
+use Rattle.blk_stream.specs.Streams.{address_word}
 use Rattle.blk_stream.specs.Written.{CanBeWritten, places_of_entry}
-use Rattle.blk_stream.specs.Writing.{have_one_storage}
 use Rattle.blk_stream.proofs.Placed.{blocks_are}
 use Rattle.blk_kept.specs.Keeping.{KeepsUncounted, all_loaded, all_nodes, words_in_use}
 use Rattle.blk_kept.proofs.Bounds.{leave-room}

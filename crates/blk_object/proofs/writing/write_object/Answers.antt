@@ -1,14 +1,12 @@
-use Rattle.std.proofs.Common.{◌≡◌, ℕ, ◌+◌, ◌∙◌, length, None, sym, subst}
+use Rattle.std.proofs.Common.{◌≡◌, ◌∙◌, length, None, sym, subst}
 use Rattle.std.specs.Option.{ForSome}
 use Rattle.std.proofs.lemmas.Result.{on_ok_weaker}
-use Rattle.blk_image.specs.Image.{AreBytes, Image}
 use Rattle.blk_image.specs.Told.{Passes, Told}
 use Rattle.blk_image.proofs.Runs.{some_inj}
 use Rattle.blk_io.specs.Faults.{IfDamaged}
 use Rattle.blk_io.proofs.Carried.{carried, if_damaged_weaker}
 use Rattle.blk_model.specs.Holding.{rest}
 use Rattle.blk_format.specs.Headers.{HasWholeIndex}
-use Rattle.blk_disk.specs.Open.{IsOpen}
 use Rattle.blk_disk.specs.Tables.{Agrees}
 use Rattle.blk_stream.specs.Stages.{IsWrittenByStage, KeepsSeal, WritesByStage}
 use Rattle.blk_stream.specs.Streams.{size_word}
@@ -41,7 +39,7 @@ pub returns-in_err-write-clause-stops : goal.returns-in_err-write-clause-stops
 returns-in_err-write-clause-stops g c =
     object-finds (g.F.Folder.told c.args.f.now) (g.F.Folder.told c.write.new.f) c.args.files.now c.write.new.files c.args.entry c.args.stream c.args.offset c.args.cut c.args.bytes.now c.requires.stream c.requires.stands (g.met.F.Folder.are_bytes c.args.f.now) c.requires.is_open
     (subst (λ (t : Told). ForSome t.files (λ from. CanBeWritten c.args.files.now c.args.entry c.args.stream (size_after c.args.cut (size_word from c.args.entry c.args.stream) c.args.offset (length c.args.bytes.now)) from
-        → Passes t (g.F.Folder.told c.write.new.f) (WritesByStage c.args.files.now c.write.new.files c.args.entry c.args.stream (size_after c.args.cut (size_word from c.args.entry c.args.stream) c.args.offset (length c.args.bytes.now)) c.args.offset c.args.bytes.now from)))
+    → Passes t (g.F.Folder.told c.write.new.f) (WritesByStage c.args.files.now c.write.new.files c.args.entry c.args.stream (size_after c.args.cut (size_word from c.args.entry c.args.stream) c.args.offset (length c.args.bytes.now)) c.args.offset c.args.bytes.now from)))
     c.in_ok-check_stream.ensures.stays c.write.ensures.stages)
 
 pub returns-in_err-write-clause-untold : goal.returns-in_err-write-clause-untold
@@ -57,13 +55,13 @@ written-there : (g : Over) (c : goal.After-check_index g) → ForSome (g.F.Folde
 written-there g c =
     object-written (g.F.Folder.told c.args.f.now) (g.F.Folder.told c.write.new.f) c.args.files.now c.write.new.files c.args.entry c.args.stream c.args.offset c.args.cut c.args.bytes.now c.requires.stream c.requires.stands (g.met.F.Folder.are_bytes c.args.f.now) c.requires.is_open
     (subst (λ (t : Told). ForSome t.files (λ from. CanBeWritten c.args.files.now c.args.entry c.args.stream (size_after c.args.cut (size_word from c.args.entry c.args.stream) c.args.offset (length c.args.bytes.now)) from
-        → ForSome (g.F.Folder.told c.write.new.f).files (IsWrittenByStage c.args.files.now c.write.new.files c.args.entry c.args.stream (size_after c.args.cut (size_word from c.args.entry c.args.stream) c.args.offset (length c.args.bytes.now)) c.args.offset c.args.bytes.now from)))
+    → ForSome (g.F.Folder.told c.write.new.f).files (IsWrittenByStage c.args.files.now c.write.new.files c.args.entry c.args.stream (size_after c.args.cut (size_word from c.args.entry c.args.stream) c.args.offset (length c.args.bytes.now)) c.args.offset c.args.bytes.now from)))
     c.in_ok-check_stream.ensures.stays c.in_ok-write.ensures.staged)
     (subst (λ (t : Told). ForSome t.files (λ from. CanBeWritten c.args.files.now c.args.entry c.args.stream (size_after c.args.cut (size_word from c.args.entry c.args.stream) c.args.offset (length c.args.bytes.now)) from
-        → ForSome (g.F.Folder.told c.write.new.f).files (StreamIsWritten c.args.files.now c.write.new.files c.args.entry c.args.stream c.args.offset c.args.cut c.args.bytes.now from)))
+    → ForSome (g.F.Folder.told c.write.new.f).files (StreamIsWritten c.args.files.now c.write.new.files c.args.entry c.args.stream c.args.offset c.args.cut c.args.bytes.now from)))
     c.in_ok-check_stream.ensures.stays c.in_ok-write.ensures.written)
     (subst (λ (t : Told). ForSome t.files (λ from. CanBeWritten c.args.files.now c.args.entry c.args.stream (size_after c.args.cut (size_word from c.args.entry c.args.stream) c.args.offset (length c.args.bytes.now)) from
-        → ForSome (g.F.Folder.told c.write.new.f).files (KeepsSeal c.args.entry from)))
+    → ForSome (g.F.Folder.told c.write.new.f).files (KeepsSeal c.args.entry from)))
     c.in_ok-check_stream.ensures.stays c.in_ok-write.ensures.sealed)
     c.in_ok-write.ensures.agrees
 
@@ -71,7 +69,7 @@ stops-there : (g : Over) (c : goal.After-check_index g) → ForSome (g.F.Folder.
 stops-there g c =
     object-finds (g.F.Folder.told c.args.f.now) (g.F.Folder.told c.write.new.f) c.args.files.now c.write.new.files c.args.entry c.args.stream c.args.offset c.args.cut c.args.bytes.now c.requires.stream c.requires.stands (g.met.F.Folder.are_bytes c.args.f.now) c.requires.is_open
     (subst (λ (t : Told). ForSome t.files (λ from. CanBeWritten c.args.files.now c.args.entry c.args.stream (size_after c.args.cut (size_word from c.args.entry c.args.stream) c.args.offset (length c.args.bytes.now)) from
-        → Passes t (g.F.Folder.told c.write.new.f) (WritesByStage c.args.files.now c.write.new.files c.args.entry c.args.stream (size_after c.args.cut (size_word from c.args.entry c.args.stream) c.args.offset (length c.args.bytes.now)) c.args.offset c.args.bytes.now from)))
+    → Passes t (g.F.Folder.told c.write.new.f) (WritesByStage c.args.files.now c.write.new.files c.args.entry c.args.stream (size_after c.args.cut (size_word from c.args.entry c.args.stream) c.args.offset (length c.args.bytes.now)) c.args.offset c.args.bytes.now from)))
     c.in_ok-check_stream.ensures.stays c.write.ensures.stages)
 
 pub returns-clause-written : goal.returns-clause-written
