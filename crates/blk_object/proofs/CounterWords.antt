@@ -28,7 +28,7 @@ abbrev pub counter_steps : (entries bytes size : ℕ) → List TrailStep
 counter_steps entries bytes size = word_steps Index (counter_words entries bytes size)
 
 -- one word that is written leaves the folder open
-open-word : (files : BlockFiles) (from : Image) (at x : ℕ) → IsIndexWord at x from (after (word_step Index at x) from) → IsOpen files from → IsOpen files (after (word_step Index at x) from)
+pub open-word : (files : BlockFiles) (from : Image) (at x : ℕ) → IsIndexWord at x from (after (word_step Index at x) from) → IsOpen files from → IsOpen files (after (word_step Index at x) from)
 unfolding word_step
 open-word files from at x is open_folder = record {
   agrees = agrees_still (one_word Index at) from (after (word_step Index at x) from) (index_spares at) is.outside files (λ n. refl) open_folder.agrees;

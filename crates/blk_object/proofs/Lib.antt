@@ -13,6 +13,7 @@ pub mod TakenItems
 pub mod FreedPlaces
 pub mod FreeingRuns
 pub mod Sessions
+pub mod DamageChecks
 pub mod OwnedPlaces
 pub mod OwnedCharges
 pub mod PlainObjects
@@ -29,3 +30,17 @@ pub mod PartsLeft
 pub mod PartsFound
 pub mod HeldDooms
 pub mod FoundLeft
+pub mod WrittenRoles
+pub mod WrittenLoads
+pub mod WrittenChanges
+pub mod WrittenRecords
+pub mod WrittenObjects
+pub mod WrittenCharges
+pub mod RisenCounters
+pub mod WritingPlaces
+pub mod WrittenWords
+pub mod WrittenStored
+pub mod WrittenStages
+pub mod WrittenCalls
+pub mod StreamsThere
+pub mod WriteChecks

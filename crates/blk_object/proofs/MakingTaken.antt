@@ -135,7 +135,7 @@ module _ (a b : Told) (files : BlockFiles) (kind count : ℕ) (block : is_block_
 -- ---- an external file
 
 -- the claims of the word of an external file
-its-own : (w : ℕ) → (w == 0) ≡ false → kind_of w ≡ external → (claim : Claim) → same_claim claim (ExternalOf (external_number w)) ≡ true → has_claim (claims_of_all (w ∷ [])) claim ≡ true
+pub its-own : (w : ℕ) → (w == 0) ≡ false → kind_of w ≡ external → (claim : Claim) → same_claim claim (ExternalOf (external_number w)) ≡ true → has_claim (claims_of_all (w ∷ [])) claim ≡ true
 its-own w some kind claim same =
     claim-append (claims_of w) [] claim
     ∙ or_left (has_claim (claims_of w) claim) _ (ap (λ (cs : List Claim). has_claim cs claim) (its-claims w some (eq-eqb (kind_of w) external kind)) ∙ claim-head (ExternalOf (external_number w)) [] claim ∙ or_left (same_claim claim (ExternalOf (external_number w))) _ same)

@@ -37,7 +37,7 @@ unfolding is_address is_initialized
 no-zero = refl
 
 -- an address isn't 0
-some-address : (w : ℕ) → is_address w ≡ true → (w == 0) ≡ false
+pub some-address : (w : ℕ) → is_address w ≡ true → (w == 0) ≡ false
 some-address w address = go (w == 0) refl where
   go : (t : Bool) → (w == 0) ≡ t → (w == 0) ≡ false
   go true e = absurd (let is : w ≡ 0 = grind (arith, nat_tests) in let z : false ≡ true = sym no-zero ∙ ap is_address (sym is) ∙ address in cc)

@@ -20,6 +20,7 @@ mod removing_objects;
 mod removing_parts;
 mod writing;
 mod writing_laws;
+mod writing_places_laws;
 
 pub use counters::{count_less, count_rise};
 pub use counting_laws::{left_items_are_counted, parts_go_until_none_is_left};
@@ -42,3 +43,4 @@ pub use removing_objects::remove_item;
 pub use removing_parts::remove_part;
 pub use writing::write_object;
 pub use writing_laws::rises_are_counted;
+pub use writing_places_laws::filled_places_are_unlinked;

@@ -1,5 +1,5 @@
 // A stream of an open object is written.
-ghost use Rattle.std.specs.Prelude.{◌≡◌, ◌≤◌, ◌<◌, ◌+◌, IsTrue, None, OnOk, length};
+ghost use Rattle.std.specs.Prelude.{◌≡◌, ◌≤◌, ◌⊎◌, ◌<◌, ◌+◌, IsTrue, None, OnOk, length};
 ghost use Rattle.std.specs.Option.{ForSome};
 ghost use Rattle.blk_image.specs.Told.{Passes, Rises, Stays};
 ghost use Rattle.blk_model.specs.Holding.{rest};
@@ -8,10 +8,11 @@ ghost use Rattle.blk_volume.specs.Entries.{most_stream_bytes};
 ghost use Rattle.blk_io.specs.Faults.{IfDamaged, IfDevice};
 ghost use Rattle.blk_disk.specs.Open.{IsOpen};
 ghost use Rattle.blk_disk.specs.Tables.{Agrees, stands_among};
-ghost use Rattle.blk_entry.specs.Keys.{IsInFile};
+ghost use Rattle.blk_entry.specs.Keys.{IsDamageAt, IsInFile};
 ghost use Rattle.blk_alloc.specs.Extending.{KeepsStanding};
 ghost use Rattle.blk_kept.specs.Changes.{Finds};
-ghost use Rattle.blk_stream.specs.Streams.{address_word, size_word};
+ghost use Rattle.blk_stream.specs.Streams.{address_place, address_word, size_place, size_word};
+ghost use Rattle.blk_object.specs.FailedChecks.{IsFailedCheck, ReadsTooFew};
 ghost use Rattle.blk_object.specs.Writing.{ForEachUnsettled, HasStreamThere, IsWrittenUncounted};
 
 use crate::freeing::is_external;
@@ -22,6 +23,9 @@ use blk_entry::{read_head, record_damage};
 use blk_io::{Damage, Fault, Folder};
 use blk_record::{EntryView, WORD_VALUES};
 use blk_stream::write;
+
+// The most bytes of a stream: as many as a cache may keep.
+const MOST_BYTES: u32 = blk_model::MOST_BYTES as u32;
 
 /// Writes bytes over a stream of an object that isn't settled, live or doomed, from an offset on, with zeros before them
 /// where it ends there; it ends with them where it is cut, and else keeps what lies behind them.
@@ -57,6 +61,9 @@ pub fn write_object<F: Folder>(
     ensures keeps { KeepsStanding files.old files.new }
     ensures is_open { OnOk result (ForSome (F.told f.new).files (IsOpen files.new)) }
 
+    // A damage is a check that fails on what is read here; nothing is written after it.
+    ensures damaged { IfDamaged result (IsFailedCheck files.new (F.told f.new)) }
+
     // A folder that tells its files, with such an object, gives no damage.
     ensures untold { ForSome (F.told f.old).files (λ from. ForEachUnsettled entry stream offset cut bytes.now from (λ state layout unlinked number object was. IfDamaged result (λ _. (F.told f.old).files ≡ None))) }
 
@@ -81,6 +88,7 @@ fn check_stream<F: Folder>(
     requires stands { IsTrue (stands_among files.now entry) }
     ensures there { OnOk result (ForSome (F.told f.old).files (λ image. IsInFile (address_word image entry stream) 0 (size_word image entry stream) image)) }
     ensures stays { Stays (F.told f.old) (F.told f.new) }
+    ensures damaged { IfDamaged result (IsFailedCheck files.now (F.told f.new)) }
     ensures untold { ForSome (F.told f.old).files (Agrees files.now) → ForSome (F.told f.old).files (HasStreamThere entry stream) → IfDamaged result (λ _. (F.told f.old).files ≡ None) }
     ensures later { F.faults f.old ≤ F.faults f.new }
     ensures device { IfDevice result (Rises (F.faults f.old) (F.faults f.new)) }
@@ -92,16 +100,28 @@ fn check_stream<F: Folder>(
         return Ok(());
     }
     let Some(addr) = Addr::from_word(word) else {
-        let at = EntryView::DATA_ADDR + 4 * u32::from(stream);
-        return Err(record_damage(entry, at, word));
+        return Err(unplaced(entry, stream, size, word));
     };
     check_length(f, addr, size)
+}
+
+// The damage of a stream with bytes and without an address: it has the place of its size, where no stream is so long, and else that of its word.
+fn unplaced(entry: Addr, stream: u8, size: u32, word: u32) -> Fault
+    requires stream { stream < 3 }
+    requires kind { kind_of entry ≡ blocks_256 }
+    ensures { ((most_stream_bytes < size) × IsDamageAt entry (size_place stream) size result) ⊎ ((size ≤ most_stream_bytes) × IsDamageAt entry (address_place stream) word result) }
+{
+    if size > MOST_BYTES {
+        return record_damage(entry, EntryView::DATA_SIZE + 4 * u32::from(stream), size);
+    }
+    record_damage(entry, EntryView::DATA_ADDR + 4 * u32::from(stream), word)
 }
 
 // Looks whether so many bytes are in an external file; of blocks nothing is asked.
 fn check_length<F: Folder>(f: &mut F, addr: Addr, size: u32) -> Result<(), Fault>
     ensures there { OnOk result (ForSome (F.told f.old).files (IsInFile addr 0 size)) }
     ensures stays { Stays (F.told f.old) (F.told f.new) }
+    ensures damaged { IfDamaged result (ReadsTooFew (F.told f.new)) }
     ensures untold { ForSome (F.told f.old).files (IsInFile addr 0 size) → IfDamaged result (λ _. (F.told f.old).files ≡ None) }
     ensures later { F.faults f.old ≤ F.faults f.new }
     ensures device { IfDevice result (Rises (F.faults f.old) (F.faults f.new)) }

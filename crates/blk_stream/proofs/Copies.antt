@@ -221,9 +221,9 @@ pub both_spans : (other old size offset count : ℕ) (from mid image : Image) �
 both_spans other old size offset count from mid image one two = outside-trans (old_spans other old size offset count) from mid image one two
 
 -- a read of some of them that gave fewer
-pub cut_old : (old : Stored) (w size : ℕ) (damage : Damage) → old.addr ≡ Some w → size ≤ old.size → IsCutFront w size damage → IsCutOld old damage
-cut_old old w size damage is few cut = record {
+pub cut_old : (told : Told) (old : Stored) (w size : ℕ) (damage : Damage) → old.addr ≡ Some w → size ≤ old.size → IsCutFront told w size damage → IsCutOld told old damage
+cut_old told old w size damage is few cut = record {
   word = w;
   is = is;
-  cut = record { at = cut.at; count = cut.count; within = (let h = cut.within in omega (arith, h, few)); of_file = cut.of_file; at_place = cut.at_place; few = cut.few };
+  cut = record { at = cut.at; count = cut.count; within = (let h = cut.within in omega (arith, h, few)); cut = cut.cut };
 }

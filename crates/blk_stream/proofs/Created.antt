@@ -66,7 +66,7 @@ module _ (files : BlockFiles) (kind : ℕ) (from : Image) (is : kind ≡ externa
   bare_outside : SameOutside F from bare
   bare_outside = outside_wider (whole (External number)) F from bare (within_left (whole (External number)) (one_word Index 16)) bare_same
 
-  done_outside : SameOutside F from done
+  pub done_outside : SameOutside F from done
   done_outside = outside-trans F from bare done bare_outside (outside_wider (one_word Index 16) F bare done (within_right (whole (External number)) (one_word Index 16)) word_same)
 
   bare_formed : IsWellFormed from → IsWellFormed bare

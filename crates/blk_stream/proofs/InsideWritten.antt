@@ -5,7 +5,7 @@ use Rattle.std.proofs.lemmas.Bool.{cases_eq, eqb-true}
 use Rattle.std.proofs.lemmas.Bool.Decides.{nat_tests}
 use Rattle.std.proofs.lemmas.List.Elements.{All-nil, All-cons}
 use Rattle.blk_image.specs.Bytes.{content, word_at}
-use Rattle.blk_image.specs.Image.{File, Block, External, Image, byte, length_of}
+use Rattle.blk_image.specs.Image.{AreBytes, File, Block, External, Image, byte, length_of}
 use Rattle.blk_image.specs.Steps.{TrailStep, after}
 use Rattle.blk_image.specs.Footprint.{SameOutside}
 use Rattle.blk_image.specs.Told.{Along}
@@ -32,6 +32,8 @@ use Rattle.blk_entry.specs.Steps.{data_steps}
 use Rattle.blk_stream.proofs.Naming.{apart_place}
 use Rattle.blk_stream.proofs.InsideSteps.{apart_file, here_outside, fits, mid_record, mid_sealed, place_of_entry, sealed_within, size_changes, size_none, size_some}
 use Rattle.blk_stream.proofs.InsideData.{data_long, data_outside, here_data, HasMade, made_blocks, made_external, made_long}
+use Rattle.blk_stream.specs.Stages.{KeepsSeal}
+use Rattle.blk_stream.proofs.RecordSeals.{still_sealed, updated_sealed}
 use Rattle.blk_stream.proofs.StreamPlaces.{size_at}
 
 -- the words of a record share no byte with the data of a word, where they share no block
@@ -84,29 +86,12 @@ data_inside w blocky = let t : (kind_of w == external) ≡ false = grind (arith,
 -- What both leave.
 module _ (files : BlockFiles) (entry i w old size offset : ℕ) (bytes : List ℕ) (kind : kind_of entry ≡ blocks_256) (stands : stands_among files entry ≡ true) (small : i < 3)
     (inside : IsInside files w 0 size) (few : offset + length bytes ≤ size) (apart : kind_of w ≢ external → ShareNoBlock entry w) (from : Image) (agrees : Agrees files from) (good : RecordChecks entry from)
-    (long : HasStreamLength w old from) (record_bytes : List ℕ) (read : record_bytes ≡ record_at from entry) where
+    (record_bytes : List ℕ) (read : record_bytes ≡ record_at from entry) where
   abbrev mid : Image
   mid = after (here_steps w old size offset bytes) from
 
   abbrev last : Image
   last = after (size_steps record_bytes entry i old size) mid
-
-  made : HasMade from (after (room_steps w old size offset) from) w old size offset
-  made = by_test (kind_of w == external) refl
-    where
-      by_test : (t : Bool) → (kind_of w == external) ≡ t → HasMade from (after (room_steps w old size offset) from) w old size offset
-      by_test true t =
-          let x : kind_of w ≡ external = eqb-true (kind_of w) external t in
-          made_external from w old size offset x (let f = (data_outside w x).0 in subst (λ (g : File). length_of from g ≡ old) (sym f) (long x))
-      by_test false t =
-          let blocky : kind_of w ≢ external = (λ e. let z : (kind_of w == external) ≡ true = grind (arith, nat_tests) in let y : true ≡ false = sym z ∙ t in cc) in
-          made_blocks from w old size offset t (room_there blocky)
-        where
-          room_there : kind_of w ≢ external → data_start w + size ≤ length_of from (data_file w)
-          room_there blocky =
-              let h = stands_range files from w 0 size agrees (inside.stands blocky) (inside.room blocky) in
-              let b = data_inside w blocky in
-              subst (λ (g : File). data_start w + size ≤ length_of from g) (sym b.0) (let s = b.1 in omega (arith, h, s))
 
   -- the steps of the size, where it is another
   over_is : steps_over record_bytes entry ((size_place i, size) ∷ []) ≡ sealed_steps mid entry ((size_place i, size) ∷ [])
@@ -152,24 +137,58 @@ module _ (files : BlockFiles) (entry i w old size offset : ℕ) (bytes : List �
           ∙ sym (word_of_record (after steps mid) entry (size_place i) (let n : record_size entry ≡ 96 = entry_bytes entry kind in omega (arith, n, small)))
           ∙ updated_is_new mid (after steps mid) entry ((size_place i, size) ∷ []) (size_changes entry i (size_place i) size kind small refl) done 0 (size_place i, size) (omega arith) (All-cons (λ c. c.1 < 2 ^ 32) (size_place i, size) [] fit (All-nil (λ c. c.1 < 2 ^ 32)))
 
-  mid_long : HasStreamLength w size mid
-  mid_long x =
-      let f = data_outside w x in
-      subst (λ (g : File). length_of mid g ≡ size) f.0
-      (ap (λ (image : Image). length_of image (data_file w)) (after-append (room_steps w old size offset) (data_steps w offset bytes) from)
-      ∙ data_long w offset bytes (after (room_steps w old size offset) from)
-      ∙ made_long from w old size offset x (subst (λ (g : File). length_of from g ≡ old) (sym f.0) (long x)))
+  -- the record is sealed then, if it was
+  pub inside_sealed : AreBytes from → AreBytes (after (inside_steps record_bytes entry i w old size offset bytes) from) → KeepsSeal entry from (after (inside_steps record_bytes entry i w old size offset bytes) from)
+  inside_sealed bytes_from are_bytes = by_test (size == old) refl
+    where
+      by_test : (t : Bool) → (size == old) ≡ t → KeepsSeal entry from (after (inside_steps record_bytes entry i w old size offset bytes) from)
+      by_test true t =
+          let none : last ≡ mid = ap (λ (s : List TrailStep). after s mid) (size_none record_bytes entry i old size (eqb-true size old t)) in
+          still_sealed from (after (inside_steps record_bytes entry i w old size offset bytes) from) entry bytes_from are_bytes kind (ap (λ (image : Image). record_at image entry) (last_is ∙ none) ∙ mid_record files entry i w old size offset bytes kind stands small inside few apart from agrees good)
+      by_test false t =
+          let other : size ≢ old = (λ e. let z : (size == old) ≡ true = grind (arith, nat_tests) in let y : true ≡ false = sym z ∙ t in cc) in
+          let steps : List TrailStep = sealed_steps mid entry ((size_place i, size) ∷ []) in
+          let is : last ≡ after steps mid = ap (λ (s : List TrailStep). after s mid) (size_some record_bytes entry i old size other ∙ over_is) in
+          let done : IsUpdated mid entry ((size_place i, size) ∷ []) (after steps mid) = updated entry mid ((size_place i, size) ∷ []) (fits files entry i w old size offset bytes kind stands small inside few apart from agrees good) in
+          λ was.
+          updated_sealed mid (after (inside_steps record_bytes entry i w old size offset bytes) from) entry ((size_place i, size) ∷ []) are_bytes kind (size_changes entry i (size_place i) size kind small refl) (subst (λ (image : Image). IsUpdated mid entry ((size_place i, size) ∷ []) image) (sym (last_is ∙ is)) done)
 
-  last_long : HasStreamLength w size last
-  last_long x =
-      last_same.lengths (External (external_number w)) refl ∙ mid_long x
+  module _ (long : HasStreamLength w old from) where
+    made : HasMade from (after (room_steps w old size offset) from) w old size offset
+    made = by_test (kind_of w == external) refl
+      where
+        by_test : (t : Bool) → (kind_of w == external) ≡ t → HasMade from (after (room_steps w old size offset) from) w old size offset
+        by_test true t =
+            let x : kind_of w ≡ external = eqb-true (kind_of w) external t in
+            made_external from w old size offset x (let f = (data_outside w x).0 in subst (λ (g : File). length_of from g ≡ old) (sym f) (long x))
+        by_test false t =
+            let blocky : kind_of w ≢ external = (λ e. let z : (kind_of w == external) ≡ true = grind (arith, nat_tests) in let y : true ≡ false = sym z ∙ t in cc) in
+            made_blocks from w old size offset t (room_there blocky)
+          where
+            room_there : kind_of w ≢ external → data_start w + size ≤ length_of from (data_file w)
+            room_there blocky =
+                let h = stands_range files from w 0 size agrees (inside.stands blocky) (inside.room blocky) in
+                let b = data_inside w blocky in
+                subst (λ (g : File). data_start w + size ≤ length_of from g) (sym b.0) (let s = b.1 in omega (arith, h, s))
 
-  pub written_inside : size < 2 ^ 32 → WritesInside entry i w old size offset bytes from (after (inside_steps record_bytes entry i w old size offset bytes) from)
-  written_inside fit = subst (λ (image : Image). WritesInside entry i w old size offset bytes from image) (sym last_is) (record {
-    written = λ cut is. data_stays files entry i w size kind stands small inside apart mid last last_same ∙ here_data from w old size offset cut bytes made is;
-    size_is = last_size fit;
-    long = last_long;
-    middle = mid;
-    data_first = until_last (SameOutside (data_of w) from) (SameOutside (data_of w) from) (here_steps w old size offset bytes) from (here_outside from w old size offset bytes (λ blocky. let h = inside.room blocky in omega (arith, h)) few);
-    words_then = last_same;
-  })
+    mid_long : HasStreamLength w size mid
+    mid_long x =
+        let f = data_outside w x in
+        subst (λ (g : File). length_of mid g ≡ size) f.0
+        (ap (λ (image : Image). length_of image (data_file w)) (after-append (room_steps w old size offset) (data_steps w offset bytes) from)
+        ∙ data_long w offset bytes (after (room_steps w old size offset) from)
+        ∙ made_long from w old size offset x (subst (λ (g : File). length_of from g ≡ old) (sym f.0) (long x)))
+
+    last_long : HasStreamLength w size last
+    last_long x =
+        last_same.lengths (External (external_number w)) refl ∙ mid_long x
+
+    pub written_inside : size < 2 ^ 32 → WritesInside entry i w old size offset bytes from (after (inside_steps record_bytes entry i w old size offset bytes) from)
+    written_inside fit = subst (λ (image : Image). WritesInside entry i w old size offset bytes from image) (sym last_is) (record {
+      written = λ cut is. data_stays files entry i w size kind stands small inside apart mid last last_same ∙ here_data from w old size offset cut bytes made is;
+      size_is = last_size fit;
+      long = last_long;
+      middle = mid;
+      data_first = until_last (SameOutside (data_of w) from) (SameOutside (data_of w) from) (here_steps w old size offset bytes) from (here_outside from w old size offset bytes (λ blocky. let h = inside.room blocky in omega (arith, h)) few);
+      words_then = last_same;
+    })

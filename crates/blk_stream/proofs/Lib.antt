@@ -28,3 +28,7 @@ pub mod Placements
 pub mod Moved
 pub mod StreamMoved
 pub mod StreamInside
+pub mod PlaceStages
+pub mod InsideStages
+pub mod StoredStages
+pub mod RecordSeals

@@ -5,7 +5,7 @@ use Rattle.std.specs.List.{All}
 use Rattle.std.proofs.lemmas.Bool.{cases_lt}
 use Rattle.std.proofs.lemmas.Bool.Decides.{nat_tests}
 use Rattle.std.proofs.lemmas.List.Elements.{All-nil, All-cons}
-use Rattle.blk_image.specs.Image.{File, Block, Image, same_file, word}
+use Rattle.blk_image.specs.Image.{AreBytes, File, Block, Image, same_file, word}
 use Rattle.blk_image.specs.Steps.{TrailStep, with_words, word_step}
 use Rattle.blk_image.specs.Footprint.{Footprint, SameOutside, IsWithin, either, nothing, one_word, touched_by_all}
 use Rattle.blk_image.specs.Told.{Along}
@@ -24,6 +24,8 @@ use Rattle.blk_alloc.specs.Laws.{SparesHeadersAndSizes}
 use Rattle.blk_alloc.proofs.Changing.{nothing_within, within-trans}
 use Rattle.blk_stream.specs.Streams.{address_place, address_word, size_place, size_word}
 use Rattle.blk_stream.specs.Changing.{NamesInProgress, place_changes, record_word, stream_words}
+use Rattle.blk_stream.specs.Stages.{NamesShown}
+use Rattle.blk_stream.proofs.RecordSeals.{shown_midst, small_record}
 use Rattle.blk_stream.proofs.StreamPlaces.{address_at, size_at}
 
 -- The two changes of the record.
@@ -58,10 +60,10 @@ naming_within image entry i size word kind =
     (within_both B (either N nothing) S in_b
     (within_both N nothing S seal (nothing_within S))))
 
--- at each moment of them
-pub naming_moments : (files : BlockFiles) (entry i size word : ℕ) (from : Image) → kind_of entry ≡ blocks_256 → stands_among files entry ≡ true → i < 3 → Agrees files from → RecordChecks entry from
-    → Along (NamesInProgress entry i from) from (sealed_steps from entry (place_changes i size word))
-naming_moments files entry i size word from kind st small agrees good =
+-- at each moment of them the record is in the midst of the update, and nothing but its words differs
+pub naming_midst : (files : BlockFiles) (entry i size word : ℕ) (from : Image) → kind_of entry ≡ blocks_256 → stands_among files entry ≡ true → i < 3 → Agrees files from → RecordChecks entry from
+    → Along (λ image. IsMidUpdate from entry (place_changes i size word) image × SameOutside (stream_words entry i) from image) from (sealed_steps from entry (place_changes i size word))
+naming_midst files entry i size word from kind st small agrees good =
     let changes : List (ℕ × ℕ) = place_changes i size word in
     let steps : List TrailStep = sealed_steps from entry changes in
     let M : Image → Type 0 = IsMidUpdate from entry changes in
@@ -69,12 +71,25 @@ naming_moments files entry i size word from kind st small agrees good =
     let s : seal_place entry ≡ 92 = entry_seal entry kind in
     let inside = record_inside entry (inr kind) in
     let range = stands_range files from entry 0 (record_size entry) agrees st (omega (arith, inside)) in
-    until_weaker2 (λ image. M image × O image) (NamesInProgress entry i from) (λ image. M image × O image) (NamesInProgress entry i from) steps from
-    (λ image h. record { same = h.1; checks = h.0.checks }) (λ image h. record { same = h.1; checks = h.0.checks })
-    (until_both M O M O steps from
+    until_both M O M O steps from
     (moments entry from changes (omega (arith, range)) good
     (All-cons (λ c. c.0 + 4 ≤ seal_place entry) (size_place i, size) ((address_place i, word) ∷ []) (omega (arith, s, small)) (All-cons (λ c. c.0 + 4 ≤ seal_place entry) (address_place i, word) [] (omega (arith, s, small)) (All-nil (λ c. c.0 + 4 ≤ seal_place entry)))))
-    (outside_steps (stream_words entry i) steps from from (naming_within from entry i size word kind) (outside-refl (stream_words entry i) from)))
+    (outside_steps (stream_words entry i) steps from from (naming_within from entry i size word kind) (outside-refl (stream_words entry i) from))
+
+pub naming_moments : (files : BlockFiles) (entry i size word : ℕ) (from : Image) → kind_of entry ≡ blocks_256 → stands_among files entry ≡ true → i < 3 → Agrees files from → RecordChecks entry from
+    → Along (NamesInProgress entry i from) from (sealed_steps from entry (place_changes i size word))
+naming_moments files entry i size word from kind st small agrees good =
+    let B : Image → Type 0 = λ image. IsMidUpdate from entry (place_changes i size word) image × SameOutside (stream_words entry i) from image in
+    let word_of : (image : Image) → B image → NamesInProgress entry i from image = λ image h. record { same = h.1; checks = h.0.checks } in
+    until_weaker2 B (NamesInProgress entry i from) B (NamesInProgress entry i from) (sealed_steps from entry (place_changes i size word)) from word_of word_of (naming_midst files entry i size word from kind st small agrees good)
+
+-- and it is shown to check
+pub naming_shown : (files : BlockFiles) (entry i size word : ℕ) (from : Image) → kind_of entry ≡ blocks_256 → stands_among files entry ≡ true → i < 3 → Agrees files from → AreBytes from → RecordChecks entry from
+    → Along (NamesShown entry i from) from (sealed_steps from entry (place_changes i size word))
+naming_shown files entry i size word from kind st small agrees bytes good =
+    let B : Image → Type 0 = λ image. IsMidUpdate from entry (place_changes i size word) image × SameOutside (stream_words entry i) from image in
+    let word_of : (image : Image) → B image → NamesShown entry i from image = λ image h. record { names = record { same = h.1; checks = h.0.checks }; shown = shown_midst from image entry (place_changes i size word) kind (small_record from entry bytes) h.0 } in
+    until_weaker2 B (NamesShown entry i from) B (NamesShown entry i from) (sealed_steps from entry (place_changes i size word)) from word_of word_of (naming_midst files entry i size word from kind st small agrees good)
 
 -- What they leave.
 

@@ -60,7 +60,7 @@ use Rattle.blk_stream.proofs.StreamMoved.{stream_bytes_are}
 use Rattle.blk_stream.proofs.StreamPlaces.{IsStream, address_at, keeps_inside, may_both, may_parts, none_word, size_at, stored_some, stored_is, stream_facts, streams_parts, zero_kept}
 use Rattle.blk_stream.proofs.WriteStages.{off_within, words_off}
 
-size_within : (entry i : ℕ) → IsWithin (size_words entry i) (stream_words entry i)
+pub size_within : (entry i : ℕ) → IsWithin (size_words entry i) (stream_words entry i)
 size_within entry i =
     within_both (record_word entry (size_place i)) (record_word entry 92) (stream_words entry i) (within_left (record_word entry (size_place i)) (either (record_word entry (address_place i)) (record_word entry 92)))
     (within-trans (record_word entry 92) (either (record_word entry (address_place i)) (record_word entry 92)) (stream_words entry i) (within_right (record_word entry (address_place i)) (record_word entry 92)) (within_right (record_word entry (size_place i)) (either (record_word entry (address_place i)) (record_word entry 92))))

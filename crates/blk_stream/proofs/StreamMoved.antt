@@ -18,9 +18,11 @@ use Rattle.blk_stream.proofs.Joined.{IsTold, told_then}
 use Rattle.blk_stream.proofs.PlacesLeft.{told_back}
 use Rattle.blk_format.specs.Address.{blocks_256, external, external_number, file_selector, is_address, is_initialized, kind_of, names_blocks, names_external, place, rankings}
 use Rattle.blk_format.specs.BlockFiles.{is_among}
+use Rattle.blk_format.specs.Records.{entry_is_sealed}
 use Rattle.blk_format.specs.Sealed.{RecordChecks, record_at, record_size}
 use Rattle.blk_format.specs.Storage.{kind_for}
 use Rattle.blk_volume.specs.Entries.{stream}
+use Rattle.blk_volume.specs.View.{entry_at}
 use Rattle.blk_disk.specs.declared.tables.BlockFiles.{BlockFiles}
 use Rattle.blk_disk.specs.Tables.{Agrees, stands_among}
 use Rattle.blk_disk.proofs.Ranges.{stands_linked}
@@ -33,8 +35,9 @@ use Rattle.blk_stream.specs.Streams.{address_word, may_keep, size_word, stream_b
 use Rattle.blk_stream.specs.Copying.{HasOldPlace, IsOldThere, ShareNoData}
 use Rattle.blk_stream.specs.Changing.{HasWords, NamesInProgress, stream_words}
 use Rattle.blk_stream.specs.Freeing.{MayBeFreed, leaving_of}
-use Rattle.blk_stream.specs.Moving.{CanBeFilled, FillsInProgress, IsPlaceFilled, LeavesPlace, LeavesPlaceInProgress, data_at_place}
+use Rattle.blk_stream.specs.Moving.{CanBeFilled, FillsInProgress, HasPlaceLength, IsPlaceFilled, LeavesPlace, LeavesPlaceInProgress, data_at_place}
 use Rattle.blk_stream.specs.Placing.{GainsPlace, IsNewPlace, gained_by}
+use Rattle.blk_stream.specs.Stages.{FillsByStage, HasLeft, IsFilled, IsWrittenByStage, LeavesByStage, NamesShown, WritesByStage}
 use Rattle.blk_stream.specs.Writing.{have_one_storage, size_after}
 use Rattle.blk_stream.specs.Written.{CanBeWritten, HoldsStream, StreamIsWritten, WritesStream, places_of_entry}
 use Rattle.blk_stream.proofs.Apart.{new_apart, new_blocks_apart}
@@ -52,7 +55,7 @@ use Rattle.blk_stream.proofs.KeptMaps.{gains_still, place_keeps_maps}
 use Rattle.blk_stream.proofs.PlacesMoved.{gained_among}
 
 -- a file with bytes is there
-long_there : (image : Image) (f : File) → 0 < length_of image f → has_file image f ≡ true
+pub long_there : (image : Image) (f : File) → 0 < length_of image f → has_file image f ≡ true
 long_there image f long = by_file (image f) long
   where
     by_file : (o : Option (List ℕ)) → 0 < length (unwrap_or o []) → is_some o ≡ true
@@ -348,3 +351,74 @@ module _ (files kept : BlockFiles) (entry i size : ℕ) (old : Stored) (kind : k
         let read_is = read_here from there can mid.image mid.holds in
         name_ends files kept entry i size old kind stands small keeps has real other from (agrees from there) can (words from there) w offset bytes mid.image fits mid.holds cut is none image
         (passes_end (stops mid.image mid.is read_is (checks_here from there can mid.image mid.holds)) image now) (named mid.image mid.is read_is image now)
+
+  -- By stages.
+  module _ (place : Option ℕ) (w_is : w ≡ unwrap_or place 0) (fill_stages : ForSome a.files (λ from. CanBeFilled files old size from → Passes a m (FillsByStage files kept from))) (fills_by : ForSome a.files (λ from. CanBeFilled files old size from → ForSome m.files (IsFilled files kept place from))) where
+    filling : (from : Image) → a.files ≡ Some from → CanBeWritten files entry i size from → Passes a m (WritesByStage files kept entry i size offset bytes from)
+    filling from there can = passes_weaker (fill_stages from there (can_here from there can)) (λ image h. inr (inl h)) (λ image h. inr (inl h))
+
+    -- what the new place holds
+    written_there : (from : Image) (there : a.files ≡ Some from) (can : CanBeWritten files entry i size from) (cut : Bool) → size ≡ size_after cut (size_word from entry i) offset (length bytes) → data_at (mid_here from there can).image w 0 size ≡ stream_after cut (stream_bytes from entry i) offset bytes
+    written_there from there can cut is =
+        (mid_here from there can).holds.written cut (is ∙ ap (λ (n : ℕ). size_after cut n offset (length bytes)) (words from there).size_is)
+        ∙ ap (λ (l : List ℕ). stream_after cut l offset bytes) (bytes_are from entry i (unwrap_or old.addr 0) old.size (words from there).word_is (words from there).size_is)
+
+    naming : (from : Image) (there : a.files ≡ Some from) (can : CanBeWritten files entry i size from) (image : Image) → LeavesByStage entry i (address_word from entry i) size w (mid_here from there can).image image → WritesByStage files kept entry i size offset bytes from image
+    naming from there can image leaves =
+        let mid = mid_here from there can in
+        inr (inr (record { place = place; filled = mid.image; fills = fills_by from there (can_here from there can) mid.image mid.is; written = λ cut is. subst (λ (v : ℕ). data_at mid.image v 0 size ≡ stream_after cut (stream_bytes from entry i) offset bytes) w_is (written_there from there can cut is); long = subst (λ (v : ℕ). HasPlaceLength v size mid.image) w_is mid.holds.long; fits = subst (λ (v : ℕ). may_keep kept size v ≡ true) w_is fits; leaves = subst (λ (v : ℕ). LeavesByStage entry i (address_word from entry i) size v mid.image image) w_is leaves }))
+
+    moved : (from : Image) (there : a.files ≡ Some from) (can : CanBeWritten files entry i size from) (image : Image) → HasLeft entry i (address_word from entry i) size w (mid_here from there can).image image → IsWrittenByStage files kept entry i size offset bytes from image
+    moved from there can image left =
+        let mid = mid_here from there can in
+        inr (record {
+          other = ap (λ (n : ℕ). have_one_storage n size) (words from there).size_is ∙ other;
+          place = place;
+          filled = mid.image;
+          fills = fills_by from there (can_here from there can) mid.image mid.is;
+          written = λ cut is. subst (λ (v : ℕ). data_at mid.image v 0 size ≡ stream_after cut (stream_bytes from entry i) offset bytes) w_is (written_there from there can cut is);
+          long = subst (λ (v : ℕ). HasPlaceLength v size mid.image) w_is mid.holds.long;
+          fits = subst (λ (v : ℕ). may_keep kept size v ≡ true) w_is fits;
+          left = subst (λ (v : ℕ). HasLeft entry i (address_word from entry i) size v mid.image image) w_is left;
+        })
+
+    -- an old place goes
+    module _ (addr : ℕ) (addr_is : old.addr ≡ Some addr) where
+      word_now : (from : Image) → a.files ≡ Some from → addr ≡ address_word from entry i
+      word_now from there = sym (ap (λ (o : Option ℕ). unwrap_or o 0) addr_is) ∙ sym (words from there).word_is
+
+      pub leave_stages : ForSome m.files (λ B. record_bytes ≡ record_at B entry → RecordChecks entry B → addr ≢ 0 → Passes m b (LeavesByStage entry i addr size w B)) → ForSome a.files (λ from. CanBeWritten files entry i size from → Passes a b (WritesByStage files kept entry i size offset bytes from))
+      leave_stages stages from there can =
+          let mid = mid_here from there can in
+          let word : (image : Image) → LeavesByStage entry i addr size w mid.image image → WritesByStage files kept entry i size offset bytes from image = λ image h. naming from there can image (subst (λ (v : ℕ). LeavesByStage entry i v size w mid.image image) (word_now from there) h) in
+          passes_then (filling from there can) (passes_weaker (stages mid.image mid.is (read_here from there can mid.image mid.holds) (checks_here from there can mid.image mid.holds) (real addr addr_is)) word word)
+
+      pub leave_staged : ForSome m.files (λ B. record_bytes ≡ record_at B entry → RecordChecks entry B → addr ≢ 0 → ForSome b.files (HasLeft entry i addr size w B)) → ForSome a.files (λ from. CanBeWritten files entry i size from → ForSome b.files (IsWrittenByStage files kept entry i size offset bytes from))
+      leave_staged left from there can image now =
+          let mid = mid_here from there can in
+          moved from there can image (subst (λ (v : ℕ). HasLeft entry i v size w mid.image image) (word_now from there) (left mid.image mid.is (read_here from there can mid.image mid.holds) (checks_here from there can mid.image mid.holds) (real addr addr_is) image now))
+
+    -- there was none
+    module _ (none : old.addr ≡ None) where
+      pub name_stages : ForSome m.files (λ B. record_bytes ≡ record_at B entry → RecordChecks entry B → Passes m b (NamesShown entry i B)) → ForSome a.files (λ from. CanBeWritten files entry i size from → Passes a b (WritesByStage files kept entry i size offset bytes from))
+      name_stages stops from there can =
+          let mid = mid_here from there can in
+          let word : (image : Image) → NamesShown entry i mid.image image → WritesByStage files kept entry i size offset bytes from image = λ image h. naming from there can image (inl h) in
+          passes_then (filling from there can) (passes_weaker (stops mid.image mid.is (read_here from there can mid.image mid.holds) (checks_here from there can mid.image mid.holds)) word word)
+
+      pub name_staged : ForSome m.files (λ B. record_bytes ≡ record_at B entry → RecordChecks entry B → Passes m b (NamesInProgress entry i B)) → ForSome m.files (λ B. record_bytes ≡ record_at B entry → ForSome b.files (HasWords entry i size w)) → ForSome m.files (λ B. record_bytes ≡ record_at B entry → ForSome b.files (λ image. entry_is_sealed (entry_at image entry) ≡ true))
+          → ForSome a.files (λ from. CanBeWritten files entry i size from → ForSome b.files (IsWrittenByStage files kept entry i size offset bytes from))
+      name_staged stops named sealed from there can image now =
+          let mid = mid_here from there can in
+          let read_is = read_here from there can mid.image mid.holds in
+          moved from there can image (record {
+            named = image;
+            names = record { names = passes_end (stops mid.image mid.is read_is (checks_here from there can mid.image mid.holds)) image now; words = named mid.image mid.is read_is image now; sealed = sealed mid.image mid.is read_is image now };
+            frees = inl ((words from there).word_is ∙ ap (λ (o : Option ℕ). unwrap_or o 0) none, refl);
+          })
+
+  -- The record is sealed then.
+  pub moved_sealed : ForSome m.files (λ B. record_bytes ≡ record_at B entry → RecordChecks entry B → ForSome b.files (λ image. entry_is_sealed (entry_at image entry) ≡ true)) → ForSome a.files (λ from. CanBeWritten files entry i size from → ForSome b.files (λ image. entry_is_sealed (entry_at image entry) ≡ true))
+  moved_sealed sealed from there can image now =
+      let mid = mid_here from there can in
+      sealed mid.image mid.is (read_here from there can mid.image mid.holds) (checks_here from there can mid.image mid.holds) image now

@@ -2,10 +2,11 @@
 use Rattle.std.specs.Prelude.{ℕ, ◌≡◌, ◌≢◌, ◌+◌, ◌-◌, ◌<◌, ◌≤◌, min, None, Some}
 use Rattle.blk_image.specs.Image.{Image, byte}
 use Rattle.blk_image.specs.Footprint.{Footprint, either, range}
+use Rattle.blk_image.specs.Told.{Told}
 use Rattle.blk_format.specs.Address.{kind_of, external, external_number}
 use Rattle.blk_io.specs.declared.fault.Damage.{Damage}
 use Rattle.blk_disk.specs.declared.tables.BlockFiles.{BlockFiles}
-use Rattle.blk_entry.specs.Keys.{IsInFile, IsInside, data_file, data_name, data_start}
+use Rattle.blk_entry.specs.Keys.{IsCut, IsInFile, IsInside, data_file, data_start}
 use Rattle.blk_entry.specs.Writing.{ShareNoBlock}
 use Rattle.blk_stream.specs.declared.places.Stored.{Stored}
 
@@ -30,14 +31,12 @@ pub record ShareNoData (one other : ℕ) : Type 0 where
 abbrev pub IsCopied : ℕ → ℕ → ℕ → ℕ → Image → Image → Type 0
 IsCopied one other start end from image = (k : ℕ) → start ≤ k → k < end → data_byte image other k ≡ data_byte from one k
 
--- a read of some of the first bytes of data gave fewer than these: the damage has the place of the read, and finds how many there were
-pub record IsCutFront (w size : ℕ) (damage : Damage) : Type 0 where
+-- a read of some of the first bytes of data gave too few
+pub record IsCutFront (told : Told) (w size : ℕ) (damage : Damage) : Type 0 where
   pub at : ℕ
   pub count : ℕ
   pub within : at + count ≤ size
-  pub of_file : damage.file ≡ data_name w
-  pub at_place : damage.at ≡ data_start w + at
-  pub few : damage.found < count
+  pub cut : IsCut told w at count damage
 
 -- Of the bytes of a stream what stays.
 
@@ -51,10 +50,10 @@ abbrev pub IsOldThere : Stored → Image → Type 0
 IsOldThere old image = (w : ℕ) → old.addr ≡ Some w → IsInFile w 0 old.size image
 
 -- and one of its bytes could not be read
-pub record IsCutOld (old : Stored) (damage : Damage) : Type 0 where
+pub record IsCutOld (told : Told) (old : Stored) (damage : Damage) : Type 0 where
   pub word : ℕ
   pub is : old.addr ≡ Some word
-  pub cut : IsCutFront word old.size damage
+  pub cut : IsCutFront told word old.size damage
 
 -- what is copied of so many old bytes to a place of data of a size, where some bytes are written from an offset on: those before them, and those behind
 abbrev pub old_spans : ℕ → ℕ → ℕ → ℕ → ℕ → Footprint

@@ -12,3 +12,4 @@ pub mod Written
 pub mod Loading
 pub mod Placing
 pub mod Shown
+pub mod Stages

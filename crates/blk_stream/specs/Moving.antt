@@ -81,4 +81,4 @@ FillsInProgress files kept size from image = PlacesInProgress files size from im
 
 -- why there is none: no new place, or old bytes that can't be read
 abbrev pub IsFillDamage : BlockFiles → BlockFiles → Stored → ℕ → Told → Told → Damage → Type 0
-IsFillDamage files new old size before after damage = IsPlaceRefusal files new size before after damage ⊎ IsCutOld old damage
+IsFillDamage files new old size before after damage = IsPlaceRefusal files new size before after damage ⊎ IsCutOld after old damage

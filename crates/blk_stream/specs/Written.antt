@@ -96,10 +96,10 @@ pub record WritesStream (files : BlockFiles) (entry i size offset : ℕ) (cut : 
 
 -- Why a stream is not written.
 
--- the record is damaged or the words of the stream are wrong, and nothing was written; or there is no new place; or old bytes are not in their file; or the header of the file of the old blocks is damaged
+-- the record is damaged or the words of the stream are wrong, and nothing was written, and the block files are those before; or there is no new place; or old bytes are not in their file; or the header of the file of the old blocks is damaged
 abbrev pub IsWriteDamage : BlockFiles → BlockFiles → Told → Told → ℕ → ℕ → Damage → Type 0
 IsWriteDamage files kept before after entry i damage =
-    (Stays before after × (IsHeadDamage before entry damage ⊎ IsMisplacedStream files entry i damage))
+    (Stays before after × ((kept ≡ files) × (IsHeadDamage before entry damage ⊎ IsMisplacedStream files entry i damage)))
     ⊎ ((size : ℕ) × IsPlaceRefusal files kept size before after damage)
-    ⊎ ((w : ℕ) × (size : ℕ) × IsCutFront w size damage)
+    ⊎ ((w : ℕ) × (size : ℕ) × IsCutFront after w size damage)
     ⊎ ((w : ℕ) × (stands_among kept w ≡ true) × IsCause after (file_selector w) (first_block w) (block_count w) false damage)

@@ -1,12 +1,14 @@
 // The record names another place for a stream.
-ghost use Rattle.std.specs.Prelude.{◌≡◌, ◌<◌, ◌≤◌, IsTrue, None, OnErr, OnOk, length};
+ghost use Rattle.std.specs.Prelude.{◌≡◌, ◌<◌, ◌≤◌, true, IsTrue, None, OnErr, OnOk, length};
 ghost use Rattle.std.specs.Option.{ForSome};
 ghost use Rattle.blk_image.specs.Told.{Passes, Rises};
 ghost use Rattle.blk_format.specs.Address.{blocks_256, kind_of};
-ghost use Rattle.blk_format.specs.Records.{entry_size};
+ghost use Rattle.blk_format.specs.Records.{entry_is_sealed, entry_size};
 ghost use Rattle.blk_format.specs.Sealed.{RecordChecks, record_at};
+ghost use Rattle.blk_volume.specs.View.{entry_at};
 ghost use Rattle.blk_disk.specs.Tables.{Agrees, stands_among};
 ghost use Rattle.blk_stream.specs.Changing.{HasWords, NamesInProgress};
+ghost use Rattle.blk_stream.specs.Stages.{NamesShown};
 
 use crate::places::{addr_at, size_at};
 use blk_addr::Addr;
@@ -30,8 +32,10 @@ pub(crate) fn name_place<F: Folder>(
     requires agrees { ForSome (F.told f.old).files (Agrees files.now) }
     ensures named { OnOk result (ForSome (F.told f.old).files (λ from. bytes.old ≡ record_at from entry → ForSome (F.told f.new).files (HasWords entry stream size word))) }
     ensures read { OnOk result (ForSome (F.told f.old).files (λ from. bytes.old ≡ record_at from entry → ForSome (F.told f.new).files (λ image. bytes.new ≡ record_at image entry))) }
+    ensures sealed { OnOk result (ForSome (F.told f.old).files (λ from. bytes.old ≡ record_at from entry → ForSome (F.told f.new).files (λ image. entry_is_sealed (entry_at image entry) ≡ true))) }
     ensures long { length bytes.new ≡ entry_size }
     ensures stops { ForSome (F.told f.old).files (λ from. bytes.old ≡ record_at from entry → RecordChecks entry from → Passes (F.told f.old) (F.told f.new) (NamesInProgress entry stream from)) }
+    ensures stages { ForSome (F.told f.old).files (λ from. bytes.old ≡ record_at from entry → RecordChecks entry from → Passes (F.told f.old) (F.told f.new) (NamesShown entry stream from)) }
     ensures agrees { ForSome (F.told f.new).files (Agrees files.now) }
     ensures silent { (F.told f.old).files ≡ None → (F.told f.new).files ≡ None }
     ensures later { F.faults f.old ≤ F.faults f.new }

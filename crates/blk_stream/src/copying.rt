@@ -35,7 +35,7 @@ pub(crate) fn copy<F: Folder>(
     ensures stops { ForSome (F.told f.old).files (λ old. Passes (F.told f.old) (F.told f.new) (SameOutside (span_of to start end) old)) }
     ensures silent { (F.told f.old).files ≡ None → (F.told f.new).files ≡ None }
     ensures agrees { ForSome (F.told f.new).files (Agrees files.now) }
-    ensures damaged { IfDamaged result (IsCutFront from end) }
+    ensures damaged { IfDamaged result (IsCutFront (F.told f.new) from end) }
     ensures untold { ForSome (F.told f.old).files (IsInFile from 0 end) → IfDamaged result (λ _. (F.told f.old).files ≡ None) }
     ensures later { F.faults f.old ≤ F.faults f.new }
     ensures device { IfDevice result (Rises (F.faults f.old) (F.faults f.new)) }
@@ -66,7 +66,7 @@ fn copy_piece<F: Folder>(
     ensures steps { OnOk result (ForSome (F.told f.old).files (λ old. Applies (F.told f.old) (F.told f.new) (data_steps to at (data_at old from at (length piece.old))))) }
     ensures prefix { MakesPartOf (F.told f.old) (F.told f.new) (λ old. data_steps to at (data_at old from at (length piece.old))) }
     ensures agrees { ForSome (F.told f.new).files (Agrees files.now) }
-    ensures damaged { IfDamaged result (IsCut (F.told f.old) from at (length piece.old)) }
+    ensures damaged { IfDamaged result (IsCut (F.told f.new) from at (length piece.old)) }
     ensures untold { ForSome (F.told f.old).files (IsInFile from at (length piece.old)) → IfDamaged result (λ _. (F.told f.old).files ≡ None) }
     ensures later { F.faults f.old ≤ F.faults f.new }
     ensures device { IfDevice result (Rises (F.faults f.old) (F.faults f.new)) }
@@ -96,7 +96,7 @@ pub(crate) fn copy_old<F: Folder>(
     ensures stops { ForSome (F.told f.old).files (λ from. Passes (F.told f.old) (F.told f.new) (SameOutside (old_spans to old.size size offset count) from)) }
     ensures silent { (F.told f.old).files ≡ None → (F.told f.new).files ≡ None }
     ensures agrees { ForSome (F.told f.new).files (Agrees files.now) }
-    ensures damaged { IfDamaged result (IsCutOld old) }
+    ensures damaged { IfDamaged result (IsCutOld (F.told f.new) old) }
     ensures untold { ForSome (F.told f.old).files (IsOldThere old) → IfDamaged result (λ _. (F.told f.old).files ≡ None) }
     ensures later { F.faults f.old ≤ F.faults f.new }
     ensures device { IfDevice result (Rises (F.faults f.old) (F.faults f.new)) }

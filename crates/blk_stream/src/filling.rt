@@ -36,7 +36,7 @@ pub(crate) fn fill<F: Folder>(
     ensures filled { OnOk result (ForSome (F.told f.old).files (λ from. ShareNoData (unwrap_or old.addr 0) addr → HasStreamLength addr 0 from → ForSome (F.told f.new).files (FillsPlace (unwrap_or old.addr 0) addr old.size size offset bytes.now from))) }
     ensures stops { ForSome (F.told f.old).files (λ from. Passes (F.told f.old) (F.told f.new) (SameOutside (data_of addr) from)) }
     ensures agrees { ForSome (F.told f.new).files (Agrees files.now) }
-    ensures damaged { IfDamaged result (IsCutOld old) }
+    ensures damaged { IfDamaged result (IsCutOld (F.told f.new) old) }
     ensures untold { ForSome (F.told f.old).files (IsOldThere old) → ShareNoFile (unwrap_or old.addr 0) addr → IfDamaged result (λ _. (F.told f.old).files ≡ None) }
     ensures silent { (F.told f.old).files ≡ None → (F.told f.new).files ≡ None }
     ensures later { F.faults f.old ≤ F.faults f.new }

@@ -8,6 +8,7 @@ ghost use Rattle.blk_io.specs.Faults.{IfDamaged, IfDevice};
 ghost use Rattle.blk_disk.specs.Tables.{Agrees, stands_among};
 ghost use Rattle.blk_alloc.specs.Owning.{IsCause};
 ghost use Rattle.blk_stream.specs.Freeing.{IsPlaceFreed, MayBeFreed, freeing_of};
+ghost use Rattle.blk_stream.specs.Stages.{FreesPlace, FreesPlaceInProgress};
 
 use crate::places::is_of;
 use blk_addr::{Addr, Kind};
@@ -19,7 +20,9 @@ pub(crate) fn free_place<F: Folder>(f: &mut F, files: &BlockFiles, addr: Addr) -
     requires stands { kind_of addr ≢ external → IsTrue (stands_among files.now addr) }
     requires agrees { ForSome (F.told f.old).files (Agrees files.now) }
     ensures freed { OnOk result (ForSome (F.told f.old).files (λ from. ForSome (F.told f.new).files (IsPlaceFreed addr from))) }
+    ensures frees { OnOk result (ForSome (F.told f.old).files (λ from. ForSome (F.told f.new).files (FreesPlace addr from))) }
     ensures stops { ForSome (F.told f.old).files (λ from. Passes (F.told f.old) (F.told f.new) (SameOutside (freeing_of addr) from)) }
+    ensures stages { ForSome (F.told f.old).files (λ from. Passes (F.told f.old) (F.told f.new) (FreesPlaceInProgress addr from)) }
     ensures agrees { ForSome (F.told f.new).files (Agrees files.now) }
     ensures cause { IfDamaged result (λ damage. (kind_of addr ≢ external) × IsCause (F.told f.old) (file_selector addr) (first_block addr) (block_count addr) false damage) }
     ensures unwritten { IfDamaged result (λ _. Stays (F.told f.old) (F.told f.new)) }
@@ -41,7 +44,9 @@ fn delete_file<F: Folder>(f: &mut F, files: &BlockFiles, addr: Addr) -> Result<(
     requires kind { kind_of addr ≡ external }
     requires agrees { ForSome (F.told f.old).files (Agrees files.now) }
     ensures freed { OnOk result (ForSome (F.told f.old).files (λ from. ForSome (F.told f.new).files (IsPlaceFreed addr from))) }
+    ensures frees { OnOk result (ForSome (F.told f.old).files (λ from. ForSome (F.told f.new).files (FreesPlace addr from))) }
     ensures stops { ForSome (F.told f.old).files (λ from. Passes (F.told f.old) (F.told f.new) (SameOutside (freeing_of addr) from)) }
+    ensures stages { ForSome (F.told f.old).files (λ from. Passes (F.told f.old) (F.told f.new) (FreesPlaceInProgress addr from)) }
     ensures agrees { ForSome (F.told f.new).files (Agrees files.now) }
     ensures silent { (F.told f.old).files ≡ None → (F.told f.new).files ≡ None }
     ensures later { F.faults f.old ≤ F.faults f.new }

@@ -9,6 +9,7 @@ ghost use Rattle.blk_disk.specs.Tables.{Agrees, stands_among};
 ghost use Rattle.blk_entry.specs.Keys.{IsInFile, IsInside};
 ghost use Rattle.blk_entry.specs.Steps.{data_steps};
 ghost use Rattle.blk_entry.specs.Writing.{ShareNoBlock};
+ghost use Rattle.blk_stream.specs.Stages.{HasPlaceFile, KeepsSeal, WritesKeepingFiles};
 ghost use Rattle.blk_stream.specs.Inside.{HasStreamLength, WritesInProgress, WritesInside, gap_steps, here_steps, inside_steps, length_steps, room_steps, size_steps};
 
 use crate::places::{is_of, size_at};
@@ -45,6 +46,8 @@ pub(crate) fn write_inside<F: Folder>(
     ensures prefix { AppliesPrefix (F.told f.old) (F.told f.new) (inside_steps record_bytes.old entry stream addr old size offset bytes.now) }
     ensures written { OnOk result (ForSome (F.told f.old).files (λ from. record_bytes.old ≡ record_at from entry → RecordChecks entry from → HasStreamLength addr old from → (kind_of addr ≢ external → ShareNoBlock entry addr) → ForSome (F.told f.new).files (WritesInside entry stream addr old size offset bytes.now from))) }
     ensures stops { ForSome (F.told f.old).files (λ from. record_bytes.old ≡ record_at from entry → RecordChecks entry from → (kind_of addr ≢ external → ShareNoBlock entry addr) → Passes (F.told f.old) (F.told f.new) (WritesInProgress entry stream addr from)) }
+    ensures stages { ForSome (F.told f.old).files (λ from. record_bytes.old ≡ record_at from entry → RecordChecks entry from → (kind_of addr ≢ external → ShareNoBlock entry addr) → HasPlaceFile addr from → Passes (F.told f.old) (F.told f.new) (WritesKeepingFiles entry stream addr from)) }
+    ensures sealed { OnOk result (ForSome (F.told f.old).files (λ from. record_bytes.old ≡ record_at from entry → RecordChecks entry from → (kind_of addr ≢ external → ShareNoBlock entry addr) → ForSome (F.told f.new).files (KeepsSeal entry from))) }
     ensures agrees { ForSome (F.told f.new).files (Agrees files.now) }
     ensures later { F.faults f.old ≤ F.faults f.new }
     ensures failed { OnErr result (Rises (F.faults f.old) (F.faults f.new)) }

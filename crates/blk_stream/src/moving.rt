@@ -4,9 +4,10 @@ ghost use Rattle.std.specs.Option.{ForSome};
 ghost use Rattle.blk_image.specs.Told.{Passes, Rises};
 ghost use Rattle.blk_format.specs.Address.{block_count, blocks_256, external, file_selector, first_block, kind_of};
 ghost use Rattle.blk_format.specs.Headers.{HasWholeIndex};
-ghost use Rattle.blk_format.specs.Records.{entry_size};
+ghost use Rattle.blk_format.specs.Records.{entry_is_sealed, entry_size};
 ghost use Rattle.blk_format.specs.Sealed.{RecordChecks, record_at};
 ghost use Rattle.blk_volume.specs.Entries.{most_stream_bytes};
+ghost use Rattle.blk_volume.specs.View.{entry_at};
 ghost use Rattle.blk_io.specs.Faults.{IfDamaged, IfDevice};
 ghost use Rattle.blk_disk.specs.Tables.{Agrees, stands_among};
 ghost use Rattle.blk_alloc.specs.Extending.{KeepsStanding};
@@ -16,6 +17,7 @@ ghost use Rattle.blk_stream.specs.Changing.{IsStreamRead};
 ghost use Rattle.blk_stream.specs.Copying.{HasOldPlace};
 ghost use Rattle.blk_stream.specs.Freeing.{MayBeFreed};
 ghost use Rattle.blk_stream.specs.Moving.{CanBeFilled, FillsInProgress, IsFillDamage, IsPlaceFilled, LeavesPlace, LeavesPlaceInProgress};
+ghost use Rattle.blk_stream.specs.Stages.{FillsByStage, HasLeft, IsFilled, IsWrittenByStage, LeavesByStage, WritesByStage};
 ghost use Rattle.blk_stream.specs.Writing.{have_one_storage, size_after};
 ghost use Rattle.blk_stream.specs.Written.{CanBeWritten, IsWriteDamage, StreamIsWritten, WritesStream};
 
@@ -47,8 +49,11 @@ pub(crate) fn leave_place<F: Folder>(
     requires agrees { ForSome (F.told f.old).files (Agrees files.now) }
     ensures changed { OnOk result (ForSome (F.told f.old).files (λ from. bytes.old ≡ record_at from entry → RecordChecks entry from → ForSome (F.told f.new).files (LeavesPlace entry stream old size word from))) }
     ensures read { OnOk result (ForSome (F.told f.old).files (λ from. bytes.old ≡ record_at from entry → ForSome (F.told f.new).files (λ image. bytes.new ≡ record_at image entry))) }
+    ensures sealed { OnOk result (ForSome (F.told f.old).files (λ from. bytes.old ≡ record_at from entry → RecordChecks entry from → ForSome (F.told f.new).files (λ image. entry_is_sealed (entry_at image entry) ≡ true))) }
     ensures long { length bytes.new ≡ entry_size }
+    ensures staged { OnOk result (ForSome (F.told f.old).files (λ from. bytes.old ≡ record_at from entry → RecordChecks entry from → old ≢ 0 → ForSome (F.told f.new).files (HasLeft entry stream old size word from))) }
     ensures stops { ForSome (F.told f.old).files (λ from. bytes.old ≡ record_at from entry → RecordChecks entry from → Passes (F.told f.old) (F.told f.new) (LeavesPlaceInProgress entry stream old size word from)) }
+    ensures stages { ForSome (F.told f.old).files (λ from. bytes.old ≡ record_at from entry → RecordChecks entry from → old ≢ 0 → Passes (F.told f.old) (F.told f.new) (LeavesByStage entry stream old size word from)) }
     ensures agrees { ForSome (F.told f.new).files (Agrees files.now) }
     ensures cause { IfDamaged result (λ damage. (kind_of old ≢ external) × IsCause (F.told f.new) (file_selector old) (first_block old) (block_count old) false damage) }
     ensures untold { ForSome (F.told f.old).files (λ from. bytes.old ≡ record_at from entry × RecordChecks entry from × MayBeFreed old from) → IfDamaged result (λ _. (F.told f.old).files ≡ None) }
@@ -77,8 +82,10 @@ fn filled_place<F: Folder>(
     ensures fits { IfOk result (λ addr. may_keep files.new size (unwrap_or addr 0) ≡ true) }
     ensures keeps { KeepsStanding files.old files.new }
     ensures filled { IfOk result (λ addr. ForSome (F.told f.old).files (λ from. CanBeFilled files.old old size from → ForSome (F.told f.new).files (IsPlaceFilled files.old old (unwrap_or addr 0) size offset bytes.now from))) }
+    ensures staged { IfOk result (λ place. ForSome (F.told f.old).files (λ from. CanBeFilled files.old old size from → ForSome (F.told f.new).files (IsFilled files.old files.new place from))) }
     ensures agrees { OnOk result (ForSome (F.told f.new).files (Agrees files.new)) }
     ensures stops { ForSome (F.told f.old).files (λ from. CanBeFilled files.old old size from → Passes (F.told f.old) (F.told f.new) (FillsInProgress files.old files.new size from)) }
+    ensures stages { ForSome (F.told f.old).files (λ from. CanBeFilled files.old old size from → Passes (F.told f.old) (F.told f.new) (FillsByStage files.old files.new from)) }
     ensures damaged { IfDamaged result (IsFillDamage files.old files.new old size (F.told f.old) (F.told f.new)) }
     ensures untold { ForSome (F.told f.old).files (CanBeFilled files.old old size) → IfDamaged result (λ _. (F.told f.old).files ≡ None) }
     ensures silent { (F.told f.old).files ≡ None → (F.told f.new).files ≡ None }
@@ -117,9 +124,12 @@ pub(crate) fn write_moved<F: Folder>(
     requires agrees { ForSome (F.told f.old).files (Agrees files.old) }
     requires complete { ForSome (F.told f.old).files HasWholeIndex }
     ensures written { OnOk result (ForSome (F.told f.old).files (λ from. IsStreamRead record_bytes.old entry stream old.size (unwrap_or old.addr 0) from → CanBeWritten files.old entry stream size from → (cut : Bool) → size ≡ size_after cut old.size offset (length bytes.now) → ForSome (F.told f.new).files (StreamIsWritten files.old files.new entry stream offset cut bytes.now from))) }
+    ensures staged { OnOk result (ForSome (F.told f.old).files (λ from. IsStreamRead record_bytes.old entry stream old.size (unwrap_or old.addr 0) from → CanBeWritten files.old entry stream size from → ForSome (F.told f.new).files (IsWrittenByStage files.old files.new entry stream size offset bytes.now from))) }
+    ensures sealed { OnOk result (ForSome (F.told f.old).files (λ from. IsStreamRead record_bytes.old entry stream old.size (unwrap_or old.addr 0) from → CanBeWritten files.old entry stream size from → ForSome (F.told f.new).files (λ image. entry_is_sealed (entry_at image entry) ≡ true))) }
     ensures keeps { KeepsStanding files.old files.new }
     ensures agrees { OnOk result (ForSome (F.told f.new).files (Agrees files.new)) }
     ensures stops { ForSome (F.told f.old).files (λ from. IsStreamRead record_bytes.old entry stream old.size (unwrap_or old.addr 0) from → CanBeWritten files.old entry stream size from → (cut : Bool) → size ≡ size_after cut old.size offset (length bytes.now) → Passes (F.told f.old) (F.told f.new) (WritesStream files.old entry stream size offset cut bytes.now from)) }
+    ensures stages { ForSome (F.told f.old).files (λ from. IsStreamRead record_bytes.old entry stream old.size (unwrap_or old.addr 0) from → CanBeWritten files.old entry stream size from → Passes (F.told f.old) (F.told f.new) (WritesByStage files.old files.new entry stream size offset bytes.now from)) }
     ensures damaged { IfDamaged result (IsWriteDamage files.old files.new (F.told f.old) (F.told f.new) entry stream) }
     ensures untold { ForSome (F.told f.old).files (λ from. IsStreamRead record_bytes.old entry stream old.size (unwrap_or old.addr 0) from × CanBeWritten files.old entry stream size from) → IfDamaged result (λ _. (F.told f.old).files ≡ None) }
     ensures silent { (F.told f.old).files ≡ None → (F.told f.new).files ≡ None }

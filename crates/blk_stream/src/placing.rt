@@ -10,6 +10,7 @@ ghost use Rattle.blk_disk.specs.Tables.{Agrees};
 ghost use Rattle.blk_entry.specs.Keys as keys;
 ghost use Rattle.blk_alloc.specs.Extending.{HasItsBlocks, KeepsStanding};
 ghost use Rattle.blk_stream.specs.Placing.{CanBePlaced, IsPlaceRefusal, IsNewPlace, KeepsOtherLinks, PlacesInProgress};
+ghost use Rattle.blk_stream.specs.Stages.{TakesInProgress, TakesPlace};
 
 use blk_addr::{Addr, Kind, blocks_for, kind_for};
 use blk_disk::BlockFiles;
@@ -29,8 +30,10 @@ pub(crate) fn new_place<F: Folder>(
     ensures keeps { KeepsStanding files.old files.new }
     ensures links { IfOk result (λ addr. KeepsOtherLinks files.old files.new addr) }
     ensures placed { IfOk result (λ addr. ForSome (F.told f.old).files (λ from. CanBePlaced files.old size from → ForSome (F.told f.new).files (IsNewPlace files.old addr from))) }
+    ensures takes { IfOk result (λ addr. ForSome (F.told f.old).files (λ from. CanBePlaced files.old size from → ForSome (F.told f.new).files (TakesPlace files.old files.new addr from))) }
     ensures agrees { OnOk result (ForSome (F.told f.new).files (Agrees files.new)) }
     ensures stops { ForSome (F.told f.old).files (λ from. CanBePlaced files.old size from → Passes (F.told f.old) (F.told f.new) (PlacesInProgress files.old size from)) }
+    ensures stages { ForSome (F.told f.old).files (λ from. CanBePlaced files.old size from → Passes (F.told f.old) (F.told f.new) (TakesInProgress from)) }
     ensures cause { IfDamaged result (IsPlaceRefusal files.old files.new size (F.told f.old) (F.told f.new)) }
     ensures untold { ForSome (F.told f.old).files (CanBePlaced files.old size) → IfDamaged result (λ _. (F.told f.old).files ≡ None) }
     ensures silent { (F.told f.old).files ≡ None → (F.told f.new).files ≡ None }

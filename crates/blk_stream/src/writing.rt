@@ -13,6 +13,7 @@ ghost use Rattle.blk_entry.specs.Keys.{IsInFile};
 ghost use Rattle.blk_alloc.specs.Extending.{KeepsStanding};
 ghost use Rattle.blk_stream.specs.Streams.{HasStreamPlace, address_word, may_keep, size_word};
 ghost use Rattle.blk_stream.specs.Changing.{IsStreamRead};
+ghost use Rattle.blk_stream.specs.Stages.{IsWrittenByStage, KeepsSeal, WritesByStage};
 ghost use Rattle.blk_stream.specs.Writing as writes;
 ghost use Rattle.blk_stream.specs.Written.{CanBeWritten, IsWriteDamage, StreamIsWritten, WritesStream};
 
@@ -55,11 +56,19 @@ pub fn write<F: Folder>(
 
     // The stream has the bytes after the write, in the storage of their number; maps and files have its new place and not the old one, and all else is as before.
     ensures written { OnOk result (ForSome (F.told f.old).files (λ from. CanBeWritten files.old entry stream (writes.size_after cut (size_word from entry stream) offset (length bytes.now)) from → ForSome (F.told f.new).files (StreamIsWritten files.old files.new entry stream offset cut bytes.now from))) }
+
+    // It was written where it lies; or a new place was taken and filled, then the record named it, and then the old one was freed.
+    ensures staged { OnOk result (ForSome (F.told f.old).files (λ from. CanBeWritten files.old entry stream (writes.size_after cut (size_word from entry stream) offset (length bytes.now)) from → ForSome (F.told f.new).files (IsWrittenByStage files.old files.new entry stream (writes.size_after cut (size_word from entry stream) offset (length bytes.now)) offset bytes.now from))) }
+
+    ensures sealed { OnOk result (ForSome (F.told f.old).files (λ from. CanBeWritten files.old entry stream (writes.size_after cut (size_word from entry stream) offset (length bytes.now)) from → ForSome (F.told f.new).files (KeepsSeal entry from))) }
     ensures keeps { KeepsStanding files.old files.new }
     ensures agrees { OnOk result (ForSome (F.told f.new).files (Agrees files.new)) }
 
     // At each word the record checks, and nothing but its words of the stream and the two places has changed; the old place is as it was until the record names the new one, which then has the bytes.
     ensures stops { ForSome (F.told f.old).files (λ from. CanBeWritten files.old entry stream (writes.size_after cut (size_word from entry stream) offset (length bytes.now)) from → Passes (F.told f.old) (F.told f.new) (WritesStream files.old entry stream (writes.size_after cut (size_word from entry stream) offset (length bytes.now)) offset cut bytes.now from)) }
+
+    // At each word one of these stages is on its way: what was done before it is done, and of what comes after it nothing is.
+    ensures stages { ForSome (F.told f.old).files (λ from. CanBeWritten files.old entry stream (writes.size_after cut (size_word from entry stream) offset (length bytes.now)) from → Passes (F.told f.old) (F.told f.new) (WritesByStage files.old files.new entry stream (writes.size_after cut (size_word from entry stream) offset (length bytes.now)) offset bytes.now from)) }
 
     ensures damaged { IfDamaged result (IsWriteDamage files.old files.new (F.told f.old) (F.told f.new) entry stream) }
     ensures untold { ForSome (F.told f.old).files (λ from. CanBeWritten files.old entry stream (writes.size_after cut (size_word from entry stream) offset (length bytes.now)) from) → IfDamaged result (λ _. (F.told f.old).files ≡ None) }
@@ -107,9 +116,12 @@ fn write_stored<F: Folder>(
     requires complete { ForSome (F.told f.old).files HasWholeIndex }
     requires there { ForSome (F.told f.old).files (IsInFile (unwrap_or old.addr 0) 0 old.size) }
     ensures written { OnOk result (ForSome (F.told f.old).files (λ from. IsStreamRead record_bytes.old entry stream old.size (unwrap_or old.addr 0) from → CanBeWritten files.old entry stream (writes.size_after cut old.size offset (length bytes.now)) from → ForSome (F.told f.new).files (StreamIsWritten files.old files.new entry stream offset cut bytes.now from))) }
+    ensures staged { OnOk result (ForSome (F.told f.old).files (λ from. IsStreamRead record_bytes.old entry stream old.size (unwrap_or old.addr 0) from → CanBeWritten files.old entry stream (writes.size_after cut old.size offset (length bytes.now)) from → ForSome (F.told f.new).files (IsWrittenByStage files.old files.new entry stream (writes.size_after cut old.size offset (length bytes.now)) offset bytes.now from))) }
+    ensures sealed { OnOk result (ForSome (F.told f.old).files (λ from. IsStreamRead record_bytes.old entry stream old.size (unwrap_or old.addr 0) from → CanBeWritten files.old entry stream (writes.size_after cut old.size offset (length bytes.now)) from → ForSome (F.told f.new).files (KeepsSeal entry from))) }
     ensures keeps { KeepsStanding files.old files.new }
     ensures agrees { OnOk result (ForSome (F.told f.new).files (Agrees files.new)) }
     ensures stops { ForSome (F.told f.old).files (λ from. IsStreamRead record_bytes.old entry stream old.size (unwrap_or old.addr 0) from → CanBeWritten files.old entry stream (writes.size_after cut old.size offset (length bytes.now)) from → Passes (F.told f.old) (F.told f.new) (WritesStream files.old entry stream (writes.size_after cut old.size offset (length bytes.now)) offset cut bytes.now from)) }
+    ensures stages { ForSome (F.told f.old).files (λ from. IsStreamRead record_bytes.old entry stream old.size (unwrap_or old.addr 0) from → CanBeWritten files.old entry stream (writes.size_after cut old.size offset (length bytes.now)) from → Passes (F.told f.old) (F.told f.new) (WritesByStage files.old files.new entry stream (writes.size_after cut old.size offset (length bytes.now)) offset bytes.now from)) }
     ensures damaged { IfDamaged result (IsWriteDamage files.old files.new (F.told f.old) (F.told f.new) entry stream) }
     ensures untold { ForSome (F.told f.old).files (λ from. IsStreamRead record_bytes.old entry stream old.size (unwrap_or old.addr 0) from × CanBeWritten files.old entry stream (writes.size_after cut old.size offset (length bytes.now)) from) → IfDamaged result (λ _. (F.told f.old).files ≡ None) }
     ensures silent { (F.told f.old).files ≡ None → (F.told f.new).files ≡ None }

@@ -1,4 +1,4 @@
-use Rattle.std.proofs.Common.{◌≡◌, ◌+◌, ◌*◌, ℕ, sym, ◌∙◌, ap, subst, List, [], ◌∷◌, arith, refl}
+use Rattle.std.proofs.Common.{◌≡◌, Some, ◌+◌, ◌*◌, ℕ, sym, ◌∙◌, ap, subst, List, [], ◌∷◌, arith, refl}
 use Rattle.std.proofs.lemmas.Result.{on_ok_weaker}
 use Rattle.blk_image.specs.Image.{Image}
 use Rattle.blk_image.specs.Steps.{TrailStep, with_words}
@@ -10,7 +10,10 @@ use Rattle.blk_disk.proofs.SealedWrites.{front_read}
 use Rattle.blk_format.proofs.SealedRecords.{entry_bytes}
 use Rattle.blk_laws.proofs.lists.WriteSteps.{quiet-sealed}
 use Rattle.blk_stream.specs.Changing.{NamesInProgress, place_changes}
-use Rattle.blk_stream.proofs.Naming.{changed_long, named_words, naming_moments, place_are}
+use Rattle.blk_stream.specs.Streams.{address_place, size_place}
+use Rattle.blk_stream.proofs.RecordSeals.{updated_sealed}
+use Rattle.blk_stream.specs.Stages.{NamesShown}
+use Rattle.blk_stream.proofs.Naming.{changed_long, named_words, naming_moments, naming_shown, place_are}
 use Rattle.blk_stream.proofs.changing.name_place.Given as given
 use Rattle.blk_stream.proofs.changing.name_place.Goals as goal
 
@@ -46,14 +49,34 @@ returns-clause-named g c =
     record { size_is = words.0; word_is = words.1 })
     c.update_record.ensures.updated
 
+-- a front of the steps was made
+part : (g : given.Over) (c : goal.After-slice_known-2-1 g) (from : Image) → (g.F.Folder.told c.args.f.now).files ≡ Some from → c.args.bytes.now ≡ record_at from c.args.entry
+    → AppliesPrefix (g.F.Folder.told c.args.f.now) (g.F.Folder.told c.update_record.new.f) (sealed_steps from c.args.entry (place_changes c.args.stream c.args.size c.args.word))
+part g c from there read =
+    subst (λ (l : List (ℕ × ℕ)). AppliesPrefix (g.F.Folder.told c.args.f.now) (g.F.Folder.told c.update_record.new.f) (sealed_steps from c.args.entry l)) (changes_are g c)
+    (front_read c.args.entry ((c.size_at.result, c.args.size) ∷ (c.addr_at.result, c.args.word) ∷ []) c.args.bytes.now (g.F.Folder.told c.args.f.now) (g.F.Folder.told c.args.f.now) (g.F.Folder.told c.update_record.new.f) refl
+    (λ image now. subst (λ (i : Image). c.args.bytes.now ≡ record_at i c.args.entry) (some_inj (sym there ∙ now)) read) c.update_record.ensures.prefix from there)
+
+pub returns-clause-stages : goal.returns-clause-stages
+returns-clause-stages g c from there read good =
+    let P : Image → Type 0 = NamesShown c.args.entry c.args.stream from in
+    let steps : List TrailStep = sealed_steps from c.args.entry (place_changes c.args.stream c.args.size c.args.word) in
+    passes_part P P (part g c from there read) (quiet-sealed from c.args.entry (place_changes c.args.stream c.args.size c.args.word)) (λ image h. h)
+    (λ image now. subst (λ (i : Image). Along P i steps) (some_inj (sym there ∙ now))
+    (naming_shown c.args.files.now c.args.entry c.args.stream c.args.size c.args.word from c.requires.kind c.requires.stands c.requires.stream (c.requires.agrees from there) (g.met.F.Folder.are_bytes c.args.f.now from there) good))
+
 pub returns-clause-stops : goal.returns-clause-stops
 returns-clause-stops g c from there read good =
     let P : Image → Type 0 = NamesInProgress c.args.entry c.args.stream from in
     let steps : List TrailStep = sealed_steps from c.args.entry (place_changes c.args.stream c.args.size c.args.word) in
-    let part : AppliesPrefix (g.F.Folder.told c.args.f.now) (g.F.Folder.told c.update_record.new.f) steps =
-    subst (λ (l : List (ℕ × ℕ)). AppliesPrefix (g.F.Folder.told c.args.f.now) (g.F.Folder.told c.update_record.new.f) (sealed_steps from c.args.entry l)) (changes_are g c)
-    (front_read c.args.entry ((c.size_at.result, c.args.size) ∷ (c.addr_at.result, c.args.word) ∷ []) c.args.bytes.now (g.F.Folder.told c.args.f.now) (g.F.Folder.told c.args.f.now) (g.F.Folder.told c.update_record.new.f) refl
-    (λ image now. subst (λ (i : Image). c.args.bytes.now ≡ record_at i c.args.entry) (some_inj (sym there ∙ now)) read) c.update_record.ensures.prefix from there) in
-    passes_part P P part (quiet-sealed from c.args.entry (place_changes c.args.stream c.args.size c.args.word)) (λ image h. h)
+    passes_part P P (part g c from there read) (quiet-sealed from c.args.entry (place_changes c.args.stream c.args.size c.args.word)) (λ image h. h)
     (λ image now. subst (λ (i : Image). Along P i steps) (some_inj (sym there ∙ now))
     (naming_moments c.args.files.now c.args.entry c.args.stream c.args.size c.args.word from c.requires.kind c.requires.stands c.requires.stream (c.requires.agrees from there) good))
+
+pub returns-clause-sealed : goal.returns-clause-sealed
+returns-clause-sealed g c =
+    on_ok_weaker c.update_record.result
+    (λ updated from there read image now.
+    updated_sealed from image c.args.entry (place_changes c.args.stream c.args.size c.args.word) (g.met.F.Folder.are_bytes c.update_record.new.f image now) c.requires.kind (place_are c.args.entry c.args.stream (size_place c.args.stream) (address_place c.args.stream) c.args.size c.args.word c.requires.kind c.requires.stream refl refl)
+    (subst (λ (l : List (ℕ × ℕ)). IsUpdated from c.args.entry l image) (changes_are g c) (updated from there read image now)))
+    c.update_record.ensures.updated

@@ -34,9 +34,9 @@ returns-in_err-copy_piece-clause-untold g c from_there =
 pub returns-in_err-copy_piece-clause-damaged : goal.returns-in_err-copy_piece-clause-damaged
 returns-in_err-copy_piece-clause-damaged g c =
     let n : length (take c.min-n.result c.loop-at.buffer) ≡ c.min-n.result = omega (arith, length-take c.min-n.result c.loop-at.buffer, c.loop-at.invariant.long, c.min-n.ensures) in
-    carried c.copy_piece.result c.from_residual.result c.in_err-copy_piece.field-0.0 (IsCutFront c.args.from c.args.end) c.in_err-copy_piece.was c.from_residual.ensures.1
+    carried c.copy_piece.result c.from_residual.result c.in_err-copy_piece.field-0.0 (IsCutFront (g.F.Folder.told c.copy_piece.new.f) c.args.from c.args.end) c.in_err-copy_piece.was c.from_residual.ensures.1
     (if_damaged_weaker c.copy_piece.result _ _
-    (λ damage cut. record { at = c.loop-at.at; count = length (take c.min-n.result c.loop-at.buffer); within = omega (arith, n, c.min-n.ensures, c.loop-at-test.true); of_file = cut.of_file; at_place = cut.at_place; few = cut.few })
+    (λ damage cut. record { at = c.loop-at.at; count = length (take c.min-n.result c.loop-at.buffer); within = omega (arith, n, c.min-n.ensures, c.loop-at-test.true); cut = cut })
     c.copy_piece.ensures.damaged)
 
 pub loop-at-preserved : goal.loop-at-preserved

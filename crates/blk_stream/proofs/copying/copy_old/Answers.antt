@@ -53,11 +53,11 @@ returns-in_err-copy-clause-untold g c there =
 
 pub returns-in_err-copy-clause-damaged : goal.returns-in_err-copy-clause-damaged
 returns-in_err-copy-clause-damaged g c =
-    carried c.copy.result c.from_residual.result c.in_err-copy.field-0.0 (IsCutOld c.args.old) c.in_err-copy.was c.from_residual.ensures.1
-    (if_damaged_weaker c.copy.result _ _ (λ damage cut. cut_old c.args.old c.in-Some.from c.min.result damage c.in-Some.is (omega (arith, c.min.ensures)) cut) c.copy.ensures.damaged)
+    carried c.copy.result c.from_residual.result c.in_err-copy.field-0.0 (IsCutOld (g.F.Folder.told c.copy.new.f) c.args.old) c.in_err-copy.was c.from_residual.ensures.1
+    (if_damaged_weaker c.copy.result _ _ (λ damage cut. cut_old (g.F.Folder.told c.copy.new.f) c.args.old c.in-Some.from c.min.result damage c.in-Some.is (omega (arith, c.min.ensures)) cut) c.copy.ensures.damaged)
 
 pub returns-clause-damaged : goal.returns-clause-damaged
-returns-clause-damaged g c = if_damaged_weaker c.copy-2.result _ _ (λ damage cut. cut_old c.args.old c.in-Some.from c.min-2.result damage c.in-Some.is (omega (arith, c.min-2.ensures)) cut) c.copy-2.ensures.damaged
+returns-clause-damaged g c = if_damaged_weaker c.copy-2.result _ _ (λ damage cut. cut_old (g.F.Folder.told c.copy-2.new.f) c.args.old c.in-Some.from c.min-2.result damage c.in-Some.is (omega (arith, c.min-2.ensures)) cut) c.copy-2.ensures.damaged
 
 pub returns-clause-copied : goal.returns-clause-copied
 returns-clause-copied g c =

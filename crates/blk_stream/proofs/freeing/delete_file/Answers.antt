@@ -1,4 +1,5 @@
-use Rattle.std.proofs.Common.{sym, subst}
+use Rattle.std.proofs.Common.{inr, sym, ap, subst}
+use Rattle.std.specs.Prelude.{is_some}
 use Rattle.std.proofs.lemmas.Result.{on_ok_weaker}
 use Rattle.blk_image.specs.Footprint.{Footprint, SameOutside}
 use Rattle.blk_image.specs.Told.{Passes}
@@ -21,3 +22,9 @@ returns-clause-agrees g c = agrees_deleted c.args.files.now (g.F.Folder.told c.a
 
 pub returns-clause-silent : goal.returns-clause-silent
 returns-clause-silent g c none = silent_part c.delete.ensures.prefix none
+
+pub returns-clause-frees : goal.returns-clause-frees
+returns-clause-frees g c = on_ok_weaker c.delete.result (λ none from there image now. inr (record { external_kind = c.requires.kind; same = (passes_end (c.delete.ensures.stops from there) image now).outside; gone = ap is_some (none image now) })) c.delete.ensures.file
+
+pub returns-clause-stages : goal.returns-clause-stages
+returns-clause-stages g c from there = passes_weaker (c.delete.ensures.stops from there) (λ image h. inr (c.requires.kind, h.outside)) (λ image h. inr (c.requires.kind, h.outside))

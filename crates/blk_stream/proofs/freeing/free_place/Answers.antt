@@ -1,12 +1,13 @@
-use Rattle.std.proofs.Common.{◌≢◌, sym, ◌∙◌, subst}
+use Rattle.std.proofs.Common.{◌≢◌, inl, sym, ◌∙◌, subst}
 use Rattle.std.proofs.lemmas.Result.{on_ok_weaker}
 use Rattle.blk_image.specs.Footprint.{Footprint, SameOutside}
 use Rattle.blk_image.specs.Told.{Passes}
-use Rattle.blk_image.proofs.Runs.{passes_weaker}
+use Rattle.blk_image.proofs.Runs.{passes_end, passes_weaker}
 use Rattle.blk_format.specs.Address.{kind_of, external}
 use Rattle.blk_io.proofs.Carried.{if_damaged_weaker}
 use Rattle.blk_entry.proofs.KeyPlaces.{of_other}
 use Rattle.blk_stream.proofs.PlacesFreed.{freed_blocks, freed_only, freeing_blocks, map_only}
+use Rattle.blk_stream.proofs.PlaceStages.{frees_whole}
 use Rattle.blk_stream.proofs.freeing.free_place.Goals as goal
 
 pub returns-else-is_of-clause-freed : goal.returns-else-is_of-clause-freed
@@ -27,3 +28,11 @@ returns-else-is_of-clause-untold g c may =
 pub returns-else-is_of-clause-cause : goal.returns-else-is_of-clause-cause
 returns-else-is_of-clause-cause g c =
     if_damaged_weaker c.free.result _ _ (λ damage cause. (of_other (kind_of c.args.addr) external (sym c.is_of.ensures ∙ c.if-is_of.false), cause)) c.free.ensures.cause
+
+pub returns-else-is_of-clause-frees : goal.returns-else-is_of-clause-frees
+returns-else-is_of-clause-frees g c =
+    let blocky : kind_of c.args.addr ≢ external = of_other (kind_of c.args.addr) external (sym c.is_of.ensures ∙ c.if-is_of.false) in
+    on_ok_weaker c.free.result (λ freed from there image now. inl (record { block_kind = blocky; freed = freed from there image now; stays = frees_whole c.args.addr from image (passes_end (c.free.ensures.stops from there) image now) })) c.free.ensures.freed
+
+pub returns-else-is_of-clause-stages : goal.returns-else-is_of-clause-stages
+returns-else-is_of-clause-stages g c from there = passes_weaker (c.free.ensures.stops from there) (λ image h. inl h.stays) (λ image h. inl (frees_whole c.args.addr from image h))

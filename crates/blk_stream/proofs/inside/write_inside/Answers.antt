@@ -1,11 +1,14 @@
-use Rattle.std.proofs.Common.{sym, ◌∙◌, subst, arith}
+use Rattle.std.proofs.Common.{◌≡◌, List, sym, ◌∙◌, ap, subst, arith}
+use Rattle.std.specs.Option.{option_map}
 use Rattle.std.proofs.lemmas.Result.{on_ok_weaker}
-use Rattle.blk_image.specs.Image.{Image}
-use Rattle.blk_image.specs.Steps.{after}
+use Rattle.blk_image.specs.Image.{AreBytes, Image}
+use Rattle.blk_image.specs.Steps.{TrailStep, after}
 use Rattle.blk_image.specs.Told.{Along, AppliesPrefix}
 use Rattle.blk_image.proofs.Runs.{grows_then, part_then, passes_part, some_inj, told_whole}
 use Rattle.blk_stream.specs.Inside.{WritesInProgress, WritesInside, here_steps, inside_steps}
-use Rattle.blk_stream.proofs.InsideWritten.{written_inside}
+use Rattle.blk_stream.proofs.InsideWritten.{inside_sealed, written_inside}
+use Rattle.blk_stream.specs.Stages.{KeepsSeal, WritesKeepingFiles}
+use Rattle.blk_stream.proofs.InsideStages.{here_stages, inside_stages}
 use Rattle.blk_stream.proofs.InsideSteps.{here_moments, inside_moments, quiet_here, quiet_inside}
 use Rattle.blk_stream.proofs.inside.write_inside.Given as given
 use Rattle.blk_stream.proofs.inside.write_inside.Goals as goal
@@ -37,5 +40,28 @@ returns-clause-written g c =
     (λ grown from there read checks full apart.
     told_whole (WritesInside c.args.entry c.args.stream c.args.addr c.args.old c.args.size c.args.offset c.args.bytes.now from) (grows_then c.in_ok-write_here.ensures.steps grown)
     (λ image now. subst (λ (i : Image). WritesInside c.args.entry c.args.stream c.args.addr c.args.old c.args.size c.args.offset c.args.bytes.now from (after (inside_steps c.args.record_bytes.now c.args.entry c.args.stream c.args.addr c.args.old c.args.size c.args.offset c.args.bytes.now) i)) (some_inj (sym there ∙ now))
-    (written_inside c.args.files.now c.args.entry c.args.stream c.args.addr c.args.old c.args.size c.args.offset c.args.bytes.now c.requires.kind c.requires.stands c.requires.stream c.requires.inside c.requires.few apart from (c.requires.agrees from there) checks full c.args.record_bytes.now read (omega (arith, c.ranges.size.fits)))))
+    (written_inside c.args.files.now c.args.entry c.args.stream c.args.addr c.args.old c.args.size c.args.offset c.args.bytes.now c.requires.kind c.requires.stands c.requires.stream c.requires.inside c.requires.few apart from (c.requires.agrees from there) checks c.args.record_bytes.now read full (omega (arith, c.ranges.size.fits)))))
+    c.write_size.ensures.steps
+
+pub returns-in_err-write_here-clause-stages : goal.returns-in_err-write_here-clause-stages
+returns-in_err-write_here-clause-stages g c from there read checks apart file =
+    passes_part (WritesKeepingFiles c.args.entry c.args.stream c.args.addr from) (WritesKeepingFiles c.args.entry c.args.stream c.args.addr from) c.in_err-write_here.ensures.prefix (quiet_here c.args.addr c.args.old c.args.size c.args.offset c.args.bytes.now) (λ image h. h)
+    (λ image now. subst (λ (i : Image). Along (WritesKeepingFiles c.args.entry c.args.stream c.args.addr from) i (here_steps c.args.addr c.args.old c.args.size c.args.offset c.args.bytes.now)) (some_inj (sym there ∙ now))
+    (here_stages c.args.files.now c.args.entry c.args.stream c.args.addr c.args.old c.args.size c.args.offset c.args.bytes.now c.requires.kind c.requires.stands c.requires.stream c.requires.inside c.requires.few apart from (c.requires.agrees from there) (g.met.F.Folder.are_bytes c.args.f.now from there) checks file))
+
+pub returns-clause-stages : goal.returns-clause-stages
+returns-clause-stages g c from there read checks apart file =
+    passes_part (WritesKeepingFiles c.args.entry c.args.stream c.args.addr from) (WritesKeepingFiles c.args.entry c.args.stream c.args.addr from) (part g c) (quiet_inside c.args.record_bytes.now c.args.entry c.args.stream c.args.addr c.args.old c.args.size c.args.offset c.args.bytes.now) (λ image h. h)
+    (λ image now. subst (λ (i : Image). Along (WritesKeepingFiles c.args.entry c.args.stream c.args.addr from) i (inside_steps c.args.record_bytes.now c.args.entry c.args.stream c.args.addr c.args.old c.args.size c.args.offset c.args.bytes.now)) (some_inj (sym there ∙ now))
+    (inside_stages c.args.files.now c.args.entry c.args.stream c.args.addr c.args.old c.args.size c.args.offset c.args.bytes.now c.requires.kind c.requires.stands c.requires.stream c.requires.inside c.requires.few apart from (c.requires.agrees from there) (g.met.F.Folder.are_bytes c.args.f.now from there) checks file c.args.record_bytes.now read))
+
+pub returns-clause-sealed : goal.returns-clause-sealed
+returns-clause-sealed g c =
+    on_ok_weaker c.write_size.result
+    (λ grown from there read checks apart image now.
+    let S : List TrailStep = inside_steps c.args.record_bytes.now c.args.entry c.args.stream c.args.addr c.args.old c.args.size c.args.offset c.args.bytes.now in
+    let is : image ≡ after S from = some_inj (sym now ∙ (grows_then c.in_ok-write_here.ensures.steps grown).files ∙ ap (option_map (after S)) there) in
+    subst (KeepsSeal c.args.entry from) (sym is)
+    (inside_sealed c.args.files.now c.args.entry c.args.stream c.args.addr c.args.old c.args.size c.args.offset c.args.bytes.now c.requires.kind c.requires.stands c.requires.stream c.requires.inside c.requires.few apart from (c.requires.agrees from there) checks c.args.record_bytes.now read
+    (g.met.F.Folder.are_bytes c.args.f.now from there) (subst AreBytes is (g.met.F.Folder.are_bytes c.write_size.new.f image now))))
     c.write_size.ensures.steps

@@ -2,9 +2,11 @@ use Rattle.std.proofs.Common.{◌≡◌, ℕ, inl, inr, None, true, refl, sym, �
 use Rattle.blk_image.proofs.Runs.{passes_none, passes_weaker, some_inj}
 use Rattle.blk_io.proofs.Carried.{carried, if_damaged_weaker}
 use Rattle.blk_stream.specs.Streams.{may_keep}
+use Rattle.blk_stream.specs.Stages.{FillsByStage}
 use Rattle.blk_stream.specs.Moving.{FillsInProgress, IsFillDamage, IsPlaceFilled}
 use Rattle.blk_stream.proofs.Placements.{both_fill, both_pass, fill_untold, none_filled, place_still}
-use Rattle.blk_stream.proofs.StreamPlaces.{keeps_inside, may_both, zero_kept}
+use Rattle.blk_stream.proofs.PlaceStages.{filled_staged, filling_stages, still_whole}
+use Rattle.blk_stream.proofs.StreamPlaces.{keeps_inside, may_both, stored_some, zero_kept}
 use Rattle.blk_stream.proofs.moving.filled_place.Goals as goal
 
 pub returns-then-size-eq0-clause-fits : goal.returns-then-size-eq0-clause-fits
@@ -57,3 +59,26 @@ pub returns-in_err-fill-clause-untold : goal.returns-in_err-fill-clause-untold
 returns-in_err-fill-clause-untold g c can =
     carried c.fill.result c.from_residual-in_err-fill.result c.in_err-fill.field-0.0 (λ _. (g.F.Folder.told c.args.f.now).files ≡ None) c.in_err-fill.was c.from_residual-in_err-fill.ensures.1
     (fill_untold c.args.files.now c.new_place.new.files c.args.old c.in_ok-addr.addr c.args.size c.args.offset c.args.bytes.now (g.F.Folder.told c.args.f.now) (g.F.Folder.told c.new_place.new.f) (g.F.Folder.told c.fill.new.f) c.requires.agrees c.requires.old (omega (arith, c.if-size-eq0.false)) (may_both c.new_place.new.files c.args.size c.in_ok-addr.addr c.requires.size c.in_ok-addr.ensures.stores) c.in_ok-addr.ensures.stops c.in_ok-addr.ensures.placed c.fill.result c.fill.ensures.untold c.new_place.ensures.silent can)
+
+pub returns-then-size-eq0-clause-staged : goal.returns-then-size-eq0-clause-staged
+returns-then-size-eq0-clause-staged g c from there can image now = some_inj (sym now ∙ there)
+
+pub returns-then-size-eq0-clause-stages : goal.returns-then-size-eq0-clause-stages
+returns-then-size-eq0-clause-stages g c from there can =
+    passes_none (FillsByStage c.args.files.now c.args.files.now from) refl (λ image now. subst (FillsByStage c.args.files.now c.args.files.now from) (some_inj (sym there ∙ now)) (inl (inl (still_whole from))))
+
+pub returns-in_err-addr-clause-stages : goal.returns-in_err-addr-clause-stages
+returns-in_err-addr-clause-stages g c from there can =
+    passes_weaker (c.in_err-addr.ensures.stages from there (can.room (omega (arith, c.if-size-eq0.false)))) (λ image h. inl h) (λ image h. inl h)
+
+pub returns-in_err-fill-clause-stages : goal.returns-in_err-fill-clause-stages
+returns-in_err-fill-clause-stages g c = filling_stages c.args.files.now c.new_place.new.files c.args.old c.in_ok-addr.addr c.args.size (g.F.Folder.told c.args.f.now) (g.F.Folder.told c.new_place.new.f) (g.F.Folder.told c.fill.new.f) (omega (arith, c.if-size-eq0.false)) c.in_ok-addr.ensures.stages c.in_ok-addr.ensures.takes c.in_err-fill.ensures.stops
+
+pub returns-clause-stages : goal.returns-clause-stages
+returns-clause-stages g c = filling_stages c.args.files.now c.new_place.new.files c.args.old c.in_ok-addr.addr c.args.size (g.F.Folder.told c.args.f.now) (g.F.Folder.told c.new_place.new.f) (g.F.Folder.told c.fill.new.f) (omega (arith, c.if-size-eq0.false)) c.in_ok-addr.ensures.stages c.in_ok-addr.ensures.takes c.in_ok-fill.ensures.stops
+
+pub returns-clause-staged : goal.returns-clause-staged
+returns-clause-staged g c =
+    filled_staged c.args.files.now c.new_place.new.files c.args.old c.in_ok-addr.addr c.args.size (g.F.Folder.told c.args.f.now) (g.F.Folder.told c.new_place.new.f) (g.F.Folder.told c.fill.new.f) (omega (arith, c.if-size-eq0.false)) c.in_ok-addr.ensures.stages c.in_ok-addr.ensures.takes c.in_ok-fill.ensures.stops
+    (stored_some c.new_place.new.files c.args.size c.in_ok-addr.addr (omega (arith, c.if-size-eq0.false)) c.in_ok-addr.ensures.stores)
+    (λ from there can image now. (both_fill c.args.files.now c.new_place.new.files c.args.old c.in_ok-addr.addr c.args.size c.args.offset c.args.bytes.now (g.F.Folder.told c.args.f.now) (g.F.Folder.told c.new_place.new.f) (g.F.Folder.told c.fill.new.f) c.requires.agrees c.requires.old (omega (arith, c.if-size-eq0.false)) (may_both c.new_place.new.files c.args.size c.in_ok-addr.addr c.requires.size c.in_ok-addr.ensures.stores) c.in_ok-addr.ensures.stops c.in_ok-addr.ensures.placed c.in_ok-fill.ensures.stops c.in_ok-fill.ensures.filled from there can image now).long)

@@ -1,4 +1,4 @@
-use Rattle.std.proofs.Common.{◌≡◌, ◌∙◌, false, sym, subst}
+use Rattle.std.proofs.Common.{◌≡◌, ◌∙◌, inl, inr, false, sym, subst}
 use Rattle.std.proofs.lemmas.Result.{on_ok_weaker}
 use Rattle.blk_image.specs.Told.{Told}
 use Rattle.blk_image.proofs.Runs.{passes_end, passes_then, passes_weaker}
@@ -8,6 +8,8 @@ use Rattle.blk_io.proofs.Carried.{if_damaged_weaker, told_at_end}
 use Rattle.blk_alloc.specs.Owning.{IsCause}
 use Rattle.blk_stream.specs.Changing.{NamesInProgress}
 use Rattle.blk_stream.specs.Freeing.{MayBeFreed}
+use Rattle.blk_stream.specs.Stages.{NamesPlace}
+use Rattle.blk_stream.proofs.RecordSeals.{still_sealed}
 use Rattle.blk_stream.proofs.Joined.{told_then}
 use Rattle.blk_stream.proofs.PlacesLeft.{both_damaged, freed_changes, freeing_changes, named_free, naming_changes, record_freed, told_back}
 use Rattle.blk_stream.proofs.moving.leave_place.Goals as goal
@@ -58,3 +60,29 @@ returns-clause-untold g c can =
     (λ from there mid now.
     named_free c.args.entry c.args.stream c.args.old from c.args.files.now mid (c.requires.agrees from there)
     (passes_end (c.in_ok-name_place.ensures.stops from there (can from there).0 (can from there).1) mid now).same c.requires.old (can from there).2)))
+
+pub returns-in_err-name_place-clause-stages : goal.returns-in_err-name_place-clause-stages
+returns-in_err-name_place-clause-stages g c from there read good some = passes_weaker (c.in_err-name_place.ensures.stages from there read good) (λ image h. inl h) (λ image h. inl h)
+
+pub returns-clause-stages : goal.returns-clause-stages
+returns-clause-stages g c from there read good some =
+    let mid = told_then (g.F.Folder.told c.args.f.now) (g.F.Folder.told c.name_place.new.f) from (NamesInProgress c.args.entry c.args.stream from) there (c.in_ok-name_place.ensures.stops from there read good) in
+    let names : NamesPlace c.args.entry c.args.stream c.args.size c.args.word from mid.image = record { names = mid.holds; words = c.in_ok-name_place.ensures.named from there read mid.image mid.is; sealed = c.in_ok-name_place.ensures.sealed from there read mid.image mid.is } in
+    passes_then (passes_weaker (c.in_ok-name_place.ensures.stages from there read good) (λ image h. inl h) (λ image h. inl h))
+    (passes_weaker (c.free_place.ensures.stages mid.image mid.is) (λ image h. inr (record { some = some; named = mid.image; names = names; frees = h })) (λ image h. inr (record { some = some; named = mid.image; names = names; frees = h })))
+
+pub returns-clause-staged : goal.returns-clause-staged
+returns-clause-staged g c =
+    on_ok_weaker c.free_place.result
+    (λ frees from there read good some image now.
+    let mid = told_then (g.F.Folder.told c.args.f.now) (g.F.Folder.told c.name_place.new.f) from (NamesInProgress c.args.entry c.args.stream from) there (c.in_ok-name_place.ensures.stops from there read good) in
+    record { named = mid.image; names = record { names = mid.holds; words = c.in_ok-name_place.ensures.named from there read mid.image mid.is; sealed = c.in_ok-name_place.ensures.sealed from there read mid.image mid.is }; frees = inr (some, frees mid.image mid.is image now) })
+    c.free_place.ensures.frees
+
+pub returns-clause-sealed : goal.returns-clause-sealed
+returns-clause-sealed g c =
+    on_ok_weaker c.free_place.result
+    (λ freed from there read good image now.
+    let mid = told_then (g.F.Folder.told c.args.f.now) (g.F.Folder.told c.name_place.new.f) from (NamesInProgress c.args.entry c.args.stream from) there (c.in_ok-name_place.ensures.stops from there read good) in
+    still_sealed mid.image image c.args.entry (g.met.F.Folder.are_bytes c.name_place.new.f mid.image mid.is) (g.met.F.Folder.are_bytes c.free_place.new.f image now) c.requires.kind (record_freed c.args.old mid.image image (freed mid.image mid.is image now).same c.args.entry) (c.in_ok-name_place.ensures.sealed from there read mid.image mid.is))
+    c.free_place.ensures.freed

@@ -1,4 +1,4 @@
-use Rattle.std.proofs.Common.{◌≡◌, ℕ, None, true, sym, subst}
+use Rattle.std.proofs.Common.{◌≡◌, inl, inr, ℕ, None, true, sym, subst}
 use Rattle.std.specs.Prelude.{unwrap_or}
 use Rattle.std.proofs.lemmas.Result.{on_ok_weaker}
 use Rattle.blk_format.specs.Sealed.{record_at}
@@ -8,7 +8,7 @@ use Rattle.blk_stream.specs.Streams.{may_keep}
 use Rattle.blk_stream.specs.Changing.{HasWords}
 use Rattle.blk_stream.specs.Moving.{IsPlaceFilled}
 use Rattle.blk_stream.proofs.Joined.{told_is}
-use Rattle.blk_stream.proofs.StreamMoved.{can_fill, fill_writes, leave_back, leave_can, leave_done, leave_passes, name_done, name_passes}
+use Rattle.blk_stream.proofs.StreamMoved.{can_fill, fill_writes, leave_back, leave_can, leave_done, leave_passes, leave_staged, leave_stages, moved_sealed, name_done, name_passes, name_staged, name_stages}
 use Rattle.blk_stream.proofs.moving.write_moved.Goals as goal
 
 pub returns-in_err-new-clause-stops : goal.returns-in_err-new-clause-stops
@@ -42,3 +42,27 @@ returns-in_ok-name_place-in-None-clause-written g c from there stored = name_don
 
 pub returns-in_ok-name_place-in-None-clause-stops : goal.returns-in_ok-name_place-in-None-clause-stops
 returns-in_ok-name_place-in-None-clause-stops g c from there stored = name_passes c.args.files.now c.filled_place.new.files c.args.entry c.args.stream c.args.size c.args.old c.requires.kind c.requires.stands c.requires.stream c.filled_place.ensures.keeps c.requires.old c.requires.some c.requires.other c.word_of-word.result c.args.offset c.args.bytes.now c.args.record_bytes.now (subst (λ (v : ℕ). may_keep c.filled_place.new.files c.args.size v ≡ true) (sym c.word_of-word.ensures) c.in_ok-new.ensures.fits) (g.F.Folder.told c.args.f.now) (g.F.Folder.told c.filled_place.new.f) (g.F.Folder.told c.name_place.new.f) c.requires.agrees (told_is (HasWords c.args.entry c.args.stream c.args.old.size (unwrap_or c.args.old.addr 0)) from there stored.words) (told_is (λ image. c.args.record_bytes.now ≡ record_at image c.args.entry) from there stored.read) c.in_ok-new.ensures.stops (λ from there can image now. subst (λ (v : ℕ). IsPlaceFilled c.args.files.now c.args.old v c.args.size c.args.offset c.args.bytes.now from image) (sym c.word_of-word.ensures) (c.in_ok-new.ensures.filled from there can image now)) c.in-None.is c.in_ok-name_place-in-None.ensures.stops from there
+
+pub returns-in_err-new-clause-stages : goal.returns-in_err-new-clause-stages
+returns-in_err-new-clause-stages g c from there stored can = passes_weaker (c.in_err-new.ensures.stages from there (can_fill c.args.files.now c.filled_place.new.files c.args.entry c.args.stream c.args.size c.args.old c.requires.kind c.requires.stands c.requires.stream c.filled_place.ensures.keeps c.requires.old c.requires.some c.requires.other from (c.requires.agrees from there) can stored.words)) (λ image h. inr (inl h)) (λ image h. inr (inl h))
+
+pub returns-in-Some-clause-stages : goal.returns-in-Some-clause-stages
+returns-in-Some-clause-stages g c from there stored = leave_stages c.args.files.now c.filled_place.new.files c.args.entry c.args.stream c.args.size c.args.old c.requires.kind c.requires.stands c.requires.stream c.filled_place.ensures.keeps c.requires.old c.requires.some c.requires.other c.word_of-word.result c.args.offset c.args.bytes.now c.args.record_bytes.now (subst (λ (v : ℕ). may_keep c.filled_place.new.files c.args.size v ≡ true) (sym c.word_of-word.ensures) c.in_ok-new.ensures.fits) (g.F.Folder.told c.args.f.now) (g.F.Folder.told c.filled_place.new.f) (g.F.Folder.told c.leave_place.new.f) c.requires.agrees (told_is (HasWords c.args.entry c.args.stream c.args.old.size (unwrap_or c.args.old.addr 0)) from there stored.words) (told_is (λ image. c.args.record_bytes.now ≡ record_at image c.args.entry) from there stored.read) c.in_ok-new.ensures.stops (λ from there can image now. subst (λ (v : ℕ). IsPlaceFilled c.args.files.now c.args.old v c.args.size c.args.offset c.args.bytes.now from image) (sym c.word_of-word.ensures) (c.in_ok-new.ensures.filled from there can image now)) c.in_ok-new.new c.word_of-word.ensures c.in_ok-new.ensures.stages c.in_ok-new.ensures.staged c.in-Some.addr c.in-Some.is c.leave_place.ensures.stages from there
+
+pub returns-in-Some-clause-staged : goal.returns-in-Some-clause-staged
+returns-in-Some-clause-staged g c = on_ok_weaker c.leave_place.result (λ left from there stored. leave_staged c.args.files.now c.filled_place.new.files c.args.entry c.args.stream c.args.size c.args.old c.requires.kind c.requires.stands c.requires.stream c.filled_place.ensures.keeps c.requires.old c.requires.some c.requires.other c.word_of-word.result c.args.offset c.args.bytes.now c.args.record_bytes.now (subst (λ (v : ℕ). may_keep c.filled_place.new.files c.args.size v ≡ true) (sym c.word_of-word.ensures) c.in_ok-new.ensures.fits) (g.F.Folder.told c.args.f.now) (g.F.Folder.told c.filled_place.new.f) (g.F.Folder.told c.leave_place.new.f) c.requires.agrees (told_is (HasWords c.args.entry c.args.stream c.args.old.size (unwrap_or c.args.old.addr 0)) from there stored.words) (told_is (λ image. c.args.record_bytes.now ≡ record_at image c.args.entry) from there stored.read) c.in_ok-new.ensures.stops (λ from there can image now. subst (λ (v : ℕ). IsPlaceFilled c.args.files.now c.args.old v c.args.size c.args.offset c.args.bytes.now from image) (sym c.word_of-word.ensures) (c.in_ok-new.ensures.filled from there can image now)) c.in_ok-new.new c.word_of-word.ensures c.in_ok-new.ensures.stages c.in_ok-new.ensures.staged c.in-Some.addr c.in-Some.is left from there) c.leave_place.ensures.staged
+
+pub returns-in_err-name_place-in-None-clause-stages : goal.returns-in_err-name_place-in-None-clause-stages
+returns-in_err-name_place-in-None-clause-stages g c from there stored = name_stages c.args.files.now c.filled_place.new.files c.args.entry c.args.stream c.args.size c.args.old c.requires.kind c.requires.stands c.requires.stream c.filled_place.ensures.keeps c.requires.old c.requires.some c.requires.other c.word_of-word.result c.args.offset c.args.bytes.now c.args.record_bytes.now (subst (λ (v : ℕ). may_keep c.filled_place.new.files c.args.size v ≡ true) (sym c.word_of-word.ensures) c.in_ok-new.ensures.fits) (g.F.Folder.told c.args.f.now) (g.F.Folder.told c.filled_place.new.f) (g.F.Folder.told c.name_place.new.f) c.requires.agrees (told_is (HasWords c.args.entry c.args.stream c.args.old.size (unwrap_or c.args.old.addr 0)) from there stored.words) (told_is (λ image. c.args.record_bytes.now ≡ record_at image c.args.entry) from there stored.read) c.in_ok-new.ensures.stops (λ from there can image now. subst (λ (v : ℕ). IsPlaceFilled c.args.files.now c.args.old v c.args.size c.args.offset c.args.bytes.now from image) (sym c.word_of-word.ensures) (c.in_ok-new.ensures.filled from there can image now)) c.in_ok-new.new c.word_of-word.ensures c.in_ok-new.ensures.stages c.in_ok-new.ensures.staged c.in-None.is c.in_err-name_place-in-None.ensures.stages from there
+
+pub returns-in_ok-name_place-in-None-clause-stages : goal.returns-in_ok-name_place-in-None-clause-stages
+returns-in_ok-name_place-in-None-clause-stages g c from there stored = name_stages c.args.files.now c.filled_place.new.files c.args.entry c.args.stream c.args.size c.args.old c.requires.kind c.requires.stands c.requires.stream c.filled_place.ensures.keeps c.requires.old c.requires.some c.requires.other c.word_of-word.result c.args.offset c.args.bytes.now c.args.record_bytes.now (subst (λ (v : ℕ). may_keep c.filled_place.new.files c.args.size v ≡ true) (sym c.word_of-word.ensures) c.in_ok-new.ensures.fits) (g.F.Folder.told c.args.f.now) (g.F.Folder.told c.filled_place.new.f) (g.F.Folder.told c.name_place.new.f) c.requires.agrees (told_is (HasWords c.args.entry c.args.stream c.args.old.size (unwrap_or c.args.old.addr 0)) from there stored.words) (told_is (λ image. c.args.record_bytes.now ≡ record_at image c.args.entry) from there stored.read) c.in_ok-new.ensures.stops (λ from there can image now. subst (λ (v : ℕ). IsPlaceFilled c.args.files.now c.args.old v c.args.size c.args.offset c.args.bytes.now from image) (sym c.word_of-word.ensures) (c.in_ok-new.ensures.filled from there can image now)) c.in_ok-new.new c.word_of-word.ensures c.in_ok-new.ensures.stages c.in_ok-new.ensures.staged c.in-None.is c.in_ok-name_place-in-None.ensures.stages from there
+
+pub returns-in_ok-name_place-in-None-clause-staged : goal.returns-in_ok-name_place-in-None-clause-staged
+returns-in_ok-name_place-in-None-clause-staged g c from there stored = name_staged c.args.files.now c.filled_place.new.files c.args.entry c.args.stream c.args.size c.args.old c.requires.kind c.requires.stands c.requires.stream c.filled_place.ensures.keeps c.requires.old c.requires.some c.requires.other c.word_of-word.result c.args.offset c.args.bytes.now c.args.record_bytes.now (subst (λ (v : ℕ). may_keep c.filled_place.new.files c.args.size v ≡ true) (sym c.word_of-word.ensures) c.in_ok-new.ensures.fits) (g.F.Folder.told c.args.f.now) (g.F.Folder.told c.filled_place.new.f) (g.F.Folder.told c.name_place.new.f) c.requires.agrees (told_is (HasWords c.args.entry c.args.stream c.args.old.size (unwrap_or c.args.old.addr 0)) from there stored.words) (told_is (λ image. c.args.record_bytes.now ≡ record_at image c.args.entry) from there stored.read) c.in_ok-new.ensures.stops (λ from there can image now. subst (λ (v : ℕ). IsPlaceFilled c.args.files.now c.args.old v c.args.size c.args.offset c.args.bytes.now from image) (sym c.word_of-word.ensures) (c.in_ok-new.ensures.filled from there can image now)) c.in_ok-new.new c.word_of-word.ensures c.in_ok-new.ensures.stages c.in_ok-new.ensures.staged c.in-None.is c.in_ok-name_place-in-None.ensures.stops c.in_ok-name_place-in-None.ensures.named c.in_ok-name_place-in-None.ensures.sealed from there
+
+pub returns-in-Some-clause-sealed : goal.returns-in-Some-clause-sealed
+returns-in-Some-clause-sealed g c = on_ok_weaker c.leave_place.result (λ sealed from there stored. moved_sealed c.args.files.now c.filled_place.new.files c.args.entry c.args.stream c.args.size c.args.old c.requires.kind c.requires.stands c.requires.stream c.filled_place.ensures.keeps c.requires.old c.requires.some c.requires.other c.word_of-word.result c.args.offset c.args.bytes.now c.args.record_bytes.now (subst (λ (v : ℕ). may_keep c.filled_place.new.files c.args.size v ≡ true) (sym c.word_of-word.ensures) c.in_ok-new.ensures.fits) (g.F.Folder.told c.args.f.now) (g.F.Folder.told c.filled_place.new.f) (g.F.Folder.told c.leave_place.new.f) c.requires.agrees (told_is (HasWords c.args.entry c.args.stream c.args.old.size (unwrap_or c.args.old.addr 0)) from there stored.words) (told_is (λ image. c.args.record_bytes.now ≡ record_at image c.args.entry) from there stored.read) c.in_ok-new.ensures.stops (λ from there can image now. subst (λ (v : ℕ). IsPlaceFilled c.args.files.now c.args.old v c.args.size c.args.offset c.args.bytes.now from image) (sym c.word_of-word.ensures) (c.in_ok-new.ensures.filled from there can image now)) sealed from there) c.leave_place.ensures.sealed
+
+pub returns-in_ok-name_place-in-None-clause-sealed : goal.returns-in_ok-name_place-in-None-clause-sealed
+returns-in_ok-name_place-in-None-clause-sealed g c from there stored = moved_sealed c.args.files.now c.filled_place.new.files c.args.entry c.args.stream c.args.size c.args.old c.requires.kind c.requires.stands c.requires.stream c.filled_place.ensures.keeps c.requires.old c.requires.some c.requires.other c.word_of-word.result c.args.offset c.args.bytes.now c.args.record_bytes.now (subst (λ (v : ℕ). may_keep c.filled_place.new.files c.args.size v ≡ true) (sym c.word_of-word.ensures) c.in_ok-new.ensures.fits) (g.F.Folder.told c.args.f.now) (g.F.Folder.told c.filled_place.new.f) (g.F.Folder.told c.name_place.new.f) c.requires.agrees (told_is (HasWords c.args.entry c.args.stream c.args.old.size (unwrap_or c.args.old.addr 0)) from there stored.words) (told_is (λ image. c.args.record_bytes.now ≡ record_at image c.args.entry) from there stored.read) c.in_ok-new.ensures.stops (λ from there can image now. subst (λ (v : ℕ). IsPlaceFilled c.args.files.now c.args.old v c.args.size c.args.offset c.args.bytes.now from image) (sym c.word_of-word.ensures) (c.in_ok-new.ensures.filled from there can image now)) (λ B here read checks. c.in_ok-name_place-in-None.ensures.sealed B here read) from there

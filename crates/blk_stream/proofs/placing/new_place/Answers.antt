@@ -1,10 +1,12 @@
-use Rattle.std.proofs.Common.{◌≡◌, ◌<◌, ◌≤◌, ℕ, None, sym, ◌∙◌, ap, subst}
+use Rattle.std.proofs.Common.{◌≡◌, inr, ◌<◌, ◌≤◌, ℕ, None, sym, ◌∙◌, ap, subst}
 use Rattle.blk_format.specs.Address.{is_address}
 use Rattle.blk_addr.specs.Kind.{kind_number}
+use Rattle.blk_image.proofs.Runs.{passes_weaker}
 use Rattle.blk_io.proofs.Carried.{carried}
 use Rattle.blk_alloc.specs.Allocating.{AreCounted}
 use Rattle.blk_stream.proofs.Created.{created_agrees, created_place, creating_passes}
 use Rattle.blk_stream.proofs.Placed.{allocated_links, allocated_place, allocating_passes, blocks_are, of_blocks, of_file, stored_blocks, stored_file}
+use Rattle.blk_stream.proofs.PlaceStages.{allocated_takes, allocating_takes, created_takes}
 use Rattle.blk_stream.proofs.placing.new_place.Goals as goal
 
 -- An external file.
@@ -80,3 +82,30 @@ pub returns-clause-untold : goal.returns-clause-untold
 returns-clause-untold g c can =
     let blocky = of_blocks (kind_number c.kind_for-kind.result) c.args.size c.is_external.result c.kind_for-kind.ensures c.is_external.ensures c.if-is_external.false in
     c.allocate.ensures.untold (λ image there. subst (λ (k : ℕ). AreCounted c.args.files.now k image) (sym c.kind_for-kind.ensures) ((can image there).counted blocky))
+
+-- What is done, and on its way.
+
+pub returns-in_err-addr-clause-stages : goal.returns-in_err-addr-clause-stages
+returns-in_err-addr-clause-stages g c from there can =
+    let kind = of_file (kind_number c.kind_for-kind.result) c.args.size c.is_external.result c.kind_for-kind.ensures c.is_external.ensures c.if-is_external.true in
+    passes_weaker (c.create.ensures.stops from there (can.free kind)) (λ image h. inr h) (λ image h. inr h)
+
+pub returns-then-is_external-clause-stages : goal.returns-then-is_external-clause-stages
+returns-then-is_external-clause-stages g c from there can =
+    let kind = of_file (kind_number c.kind_for-kind.result) c.args.size c.is_external.result c.kind_for-kind.ensures c.is_external.ensures c.if-is_external.true in
+    passes_weaker (c.create.ensures.stops from there (can.free kind)) (λ image h. inr h) (λ image h. inr h)
+
+pub returns-then-is_external-clause-takes : goal.returns-then-is_external-clause-takes
+returns-then-is_external-clause-takes g c from there can =
+    created_takes c.args.files.now c.args.files.now c.in_ok-addr.addr (g.F.Folder.told c.args.f.now) (g.F.Folder.told c.create.new.f) c.in_ok-addr.ensures.kind (ap is_address (sym c.word-word.ensures.word) ∙ c.word-word.ensures.address) c.in_ok-addr.ensures.first c.in_ok-addr.ensures.made c.in_ok-addr.ensures.steps from there
+
+pub returns-clause-stages : goal.returns-clause-stages
+returns-clause-stages g c =
+    let blocky = of_blocks (kind_number c.kind_for-kind.result) c.args.size c.is_external.result c.kind_for-kind.ensures c.is_external.ensures c.if-is_external.false in
+    allocating_takes c.args.files.now c.allocate.new.files c.args.size (kind_number c.kind_for-kind.result) c.blocks_for.result (g.F.Folder.told c.args.f.now) (g.F.Folder.told c.allocate.new.f) c.requires.some blocky (sym c.kind_for-kind.ensures) c.allocate.ensures.stops
+
+pub returns-clause-takes : goal.returns-clause-takes
+returns-clause-takes g c =
+    let blocky = of_blocks (kind_number c.kind_for-kind.result) c.args.size c.is_external.result c.kind_for-kind.ensures c.is_external.ensures c.if-is_external.false in
+    allocated_takes c.args.files.now c.allocate.new.files c.args.size (kind_number c.kind_for-kind.result) c.blocks_for.result (g.F.Folder.told c.args.f.now) (g.F.Folder.told c.allocate.new.f) c.requires.some blocky (sym c.kind_for-kind.ensures) c.allocate.ensures.stops
+    c.allocate.result c.allocate.ensures.kind c.allocate.ensures.address c.allocate.ensures.stands c.allocate.ensures.long c.allocate.ensures.links c.allocate.ensures.allocates c.allocate.ensures.within c.allocate.ensures.agrees

@@ -1,4 +1,4 @@
-use Rattle.std.proofs.Common.{◌≡◌, ◌⊎◌, ℕ, inl, Some, None, sym, ◌∙◌, ap, subst}
+use Rattle.std.proofs.Common.{◌≡◌, ◌⊎◌, ℕ, inl, Some, None, refl, sym, ◌∙◌, ap, subst}
 use Rattle.std.specs.Prelude.{length, unwrap_or}
 use Rattle.std.specs.Option.{ForSome}
 use Rattle.std.proofs.lemmas.Result.{on_ok_weaker}
@@ -19,6 +19,8 @@ use Rattle.blk_stream.specs.Changing.{HasWords, IsStreamRead}
 use Rattle.blk_stream.specs.Writing as writes
 use Rattle.blk_stream.specs.Written.{CanBeWritten, IsWriteDamage, WritesStream}
 use Rattle.blk_stream.proofs.PlacesLeft.{read_size, read_word}
+use Rattle.blk_stream.specs.Stages.{IsWrittenByStage, WritesByStage}
+use Rattle.blk_stream.proofs.StoredStages.{begun_stages}
 use Rattle.blk_stream.proofs.StreamInside.{begun_writes, read_words}
 use Rattle.blk_stream.proofs.StreamPlaces.{clash, stream_facts}
 use Rattle.blk_stream.proofs.writing.write.Given as given
@@ -36,7 +38,7 @@ pub returns-in_err-read_record-clause-damaged : goal.returns-in_err-read_record-
 returns-in_err-read_record-clause-damaged g c =
     carried c.read_record.result c.from_residual.result c.in_err-read_record.field-0.0 (IsWriteDamage c.args.files.now c.args.files.now (g.F.Folder.told c.args.f.now) (g.F.Folder.told c.read_record.new.f) c.args.entry c.args.stream) c.in_err-read_record.was c.from_residual.ensures.1
     (if_damaged_weaker c.read_record.result _ _
-    (λ damage d. inl (c.in_err-read_record.ensures.stays, inl (subst (λ (n : ℕ). IsShort (g.F.Folder.told c.args.f.now) (FileId.Block (file_selector c.args.entry)) (place c.args.entry) n damage ⊎ IsUnsealed (g.F.Folder.told c.args.f.now) c.args.entry damage) (entry_bytes c.args.entry c.requires.kind) d)))
+    (λ damage d. inl (c.in_err-read_record.ensures.stays, (refl, inl (subst (λ (n : ℕ). IsShort (g.F.Folder.told c.args.f.now) (FileId.Block (file_selector c.args.entry)) (place c.args.entry) n damage ⊎ IsUnsealed (g.F.Folder.told c.args.f.now) c.args.entry damage) (entry_bytes c.args.entry c.requires.kind) d))))
     c.read_record.ensures.damaged)
 
 pub returns-in_err-old-clause-stops : goal.returns-in_err-old-clause-stops
@@ -110,3 +112,41 @@ returns-clause-untold g c can =
     (λ from now.
     let there : (g.F.Folder.told c.args.f.now).files ≡ Some from = ap (λ (t : Told). t.files) (sym c.in_ok-read_record.ensures.stays) ∙ now in
     (stored_is g c from there, subst (λ (n : ℕ). CanBeWritten c.args.files.now c.args.entry c.args.stream (writes.size_after c.args.cut n c.args.offset (length c.args.bytes.now)) from) (size_read g c from there) (can from there))))
+
+-- By stages.
+
+pub returns-in_err-read_record-clause-stages : goal.returns-in_err-read_record-clause-stages
+returns-in_err-read_record-clause-stages g c from there can =
+    passes_none (WritesByStage c.args.files.now c.args.files.now c.args.entry c.args.stream (writes.size_after c.args.cut (size_word from c.args.entry c.args.stream) c.args.offset (length c.args.bytes.now)) c.args.offset c.args.bytes.now from) c.in_err-read_record.ensures.stays
+    (λ image now. subst (WritesByStage c.args.files.now c.args.files.now c.args.entry c.args.stream (writes.size_after c.args.cut (size_word from c.args.entry c.args.stream) c.args.offset (length c.args.bytes.now)) c.args.offset c.args.bytes.now from) (some_inj (sym there ∙ now)) (begun_stages c.args.files.now c.args.files.now c.args.entry c.args.stream (writes.size_after c.args.cut (size_word from c.args.entry c.args.stream) c.args.offset (length c.args.bytes.now)) c.args.offset c.args.bytes.now from))
+
+pub returns-in_err-old-clause-stages : goal.returns-in_err-old-clause-stages
+returns-in_err-old-clause-stages g c from there can =
+    passes_none (WritesByStage c.args.files.now c.args.files.now c.args.entry c.args.stream (writes.size_after c.args.cut (size_word from c.args.entry c.args.stream) c.args.offset (length c.args.bytes.now)) c.args.offset c.args.bytes.now from) c.in_ok-read_record.ensures.stays
+    (λ image now. subst (WritesByStage c.args.files.now c.args.files.now c.args.entry c.args.stream (writes.size_after c.args.cut (size_word from c.args.entry c.args.stream) c.args.offset (length c.args.bytes.now)) c.args.offset c.args.bytes.now from) (some_inj (sym there ∙ now)) (begun_stages c.args.files.now c.args.files.now c.args.entry c.args.stream (writes.size_after c.args.cut (size_word from c.args.entry c.args.stream) c.args.offset (length c.args.bytes.now)) c.args.offset c.args.bytes.now from))
+
+pub returns-clause-staged : goal.returns-clause-staged
+returns-clause-staged g c =
+    on_ok_weaker c.write_stored.result
+    (λ done from there can image now.
+    let e = size_read g c from there in
+    subst (λ (n : ℕ). IsWrittenByStage c.args.files.now c.write_stored.new.files c.args.entry c.args.stream (writes.size_after c.args.cut n c.args.offset (length c.args.bytes.now)) c.args.offset c.args.bytes.now from image) (sym e)
+    (done from (ap (λ (t : Told). t.files) c.in_ok-read_record.ensures.stays ∙ there) (stored_is g c from there)
+    (subst (λ (n : ℕ). CanBeWritten c.args.files.now c.args.entry c.args.stream (writes.size_after c.args.cut n c.args.offset (length c.args.bytes.now)) from) e can) image now))
+    c.write_stored.ensures.staged
+
+pub returns-clause-stages : goal.returns-clause-stages
+returns-clause-stages g c from there can =
+    let e = size_read g c from there in
+    passes_stayed c.in_ok-read_record.ensures.stays
+    (subst (λ (n : ℕ). Passes (g.F.Folder.told c.read_record.new.f) (g.F.Folder.told c.write_stored.new.f) (WritesByStage c.args.files.now c.write_stored.new.files c.args.entry c.args.stream (writes.size_after c.args.cut n c.args.offset (length c.args.bytes.now)) c.args.offset c.args.bytes.now from)) (sym e)
+    (c.write_stored.ensures.stages from (ap (λ (t : Told). t.files) c.in_ok-read_record.ensures.stays ∙ there) (stored_is g c from there)
+    (subst (λ (n : ℕ). CanBeWritten c.args.files.now c.args.entry c.args.stream (writes.size_after c.args.cut n c.args.offset (length c.args.bytes.now)) from) e can)))
+
+pub returns-clause-sealed : goal.returns-clause-sealed
+returns-clause-sealed g c =
+    on_ok_weaker c.write_stored.result
+    (λ sealed from there can.
+    sealed from (ap (λ (t : Told). t.files) c.in_ok-read_record.ensures.stays ∙ there) (stored_is g c from there)
+    (subst (λ (n : ℕ). CanBeWritten c.args.files.now c.args.entry c.args.stream (writes.size_after c.args.cut n c.args.offset (length c.args.bytes.now)) from) (size_read g c from there) can))
+    c.write_stored.ensures.sealed

@@ -1,5 +1,7 @@
-use Rattle.std.proofs.Common.{◌≡◌, ◌+◌, ◌≤◌, ℕ, Option, true, refl, sym, ◌∙◌, ap, subst, arith}
+use Rattle.std.proofs.Common.{◌≡◌, inl, ◌+◌, ◌≤◌, ℕ, Option, true, refl, sym, ◌∙◌, ap, subst, arith}
 use Rattle.std.specs.Prelude.{length, unwrap_or}
+use Rattle.std.proofs.lemmas.Result.{on_ok_weaker}
+use Rattle.blk_image.specs.Told.{Passes}
 use Rattle.blk_image.proofs.Runs.{passes_none, some_inj}
 use Rattle.blk_format.specs.Sealed.{RecordChecks, record_at}
 use Rattle.blk_volume.specs.Entries.{most_stream_bytes}
@@ -7,8 +9,10 @@ use Rattle.blk_stream.specs.Streams.{may_keep}
 use Rattle.blk_stream.specs.Changing.{HasWords}
 use Rattle.blk_stream.specs.Writing as writes
 use Rattle.blk_stream.specs.Written.{CanBeWritten, StreamIsWritten, WritesStream}
+use Rattle.blk_stream.specs.Stages.{IsWrittenByStage, KeepsSeal, WritesByStage}
+use Rattle.blk_stream.proofs.StoredStages.{inside_by_stage, inside_staged, nothing_in_place}
 use Rattle.blk_stream.proofs.Joined.{told_is}
-use Rattle.blk_stream.proofs.StreamInside.{inside_end, inside_told, nothing_writes, nothing_written, one_none, size_few, size_most, storage_stays}
+use Rattle.blk_stream.proofs.StreamInside.{inside_apart, inside_end, inside_told, nothing_writes, nothing_written, one_none, size_few, size_most, storage_stays}
 use Rattle.blk_stream.proofs.StreamPlaces.{keeps_inside, may_parts}
 use Rattle.blk_stream.proofs.writing.write_stored.Goals as goal
 
@@ -53,3 +57,51 @@ pub returns-in-None-clause-stops : goal.returns-in-None-clause-stops
 returns-in-None-clause-stops g c from there stored can =
     let P = WritesStream c.args.files.now c.args.entry c.args.stream (writes.size_after c.args.cut c.args.old.size c.args.offset (length c.args.bytes.now)) c.args.offset c.args.cut c.args.bytes.now from in
     passes_none P refl (λ image now. subst P (some_inj (sym there ∙ now)) (nothing_writes c.args.files.now c.args.entry c.args.stream (writes.size_after c.args.cut c.args.old.size c.args.offset (length c.args.bytes.now)) c.args.offset c.args.cut c.args.bytes.now from (stored.words.size_is ∙ (c.requires.none c.in-None.is)) (stored.words.word_is ∙ ap (λ (o : Option ℕ). unwrap_or o 0) c.in-None.is) can.checks (sym c.size_after-size.ensures ∙ one_none c.size_after-size.result (subst (λ (n : ℕ). writes.have_one_storage n c.size_after-size.result ≡ true) (c.requires.none c.in-None.is) (sym c.have_one_storage.ensures ∙ c.if-not-have_one_storage.false))) (ap (λ (n : ℕ). writes.size_after c.args.cut n c.args.offset (length c.args.bytes.now)) (c.requires.none c.in-None.is)) (size_few c.args.cut c.args.old.size c.args.offset (length c.args.bytes.now)) c.requires.stands))
+
+-- By stages.
+
+pub returns-then-not-have_one_storage-clause-stages : goal.returns-then-not-have_one_storage-clause-stages
+returns-then-not-have_one_storage-clause-stages g c from there stored can =
+    subst (λ (n : ℕ). Passes (g.F.Folder.told c.args.f.now) (g.F.Folder.told c.write_moved.new.f) (WritesByStage c.args.files.now c.write_moved.new.files c.args.entry c.args.stream n c.args.offset c.args.bytes.now from)) c.size_after-size.ensures
+    (c.write_moved.ensures.stages from there stored (subst (λ (n : ℕ). CanBeWritten c.args.files.now c.args.entry c.args.stream n from) (sym c.size_after-size.ensures) can))
+
+pub returns-then-not-have_one_storage-clause-staged : goal.returns-then-not-have_one_storage-clause-staged
+returns-then-not-have_one_storage-clause-staged g c =
+    on_ok_weaker c.write_moved.result
+    (λ done from there stored can image now.
+    subst (λ (n : ℕ). IsWrittenByStage c.args.files.now c.write_moved.new.files c.args.entry c.args.stream n c.args.offset c.args.bytes.now from image) c.size_after-size.ensures
+    (done from there stored (subst (λ (n : ℕ). CanBeWritten c.args.files.now c.args.entry c.args.stream n from) (sym c.size_after-size.ensures) can) image now))
+    c.write_moved.ensures.staged
+
+pub returns-in_err-write_inside-in-Some-clause-stages : goal.returns-in_err-write_inside-in-Some-clause-stages
+returns-in_err-write_inside-in-Some-clause-stages g c from there stored can = inside_by_stage c.args.files.now c.args.entry c.args.stream c.size_after-size.result c.in-Some.addr c.args.old c.args.offset c.args.cut c.args.bytes.now c.requires.kind c.requires.stands c.requires.stream (c.requires.some c.in-Some.addr c.in-Some.is) (subst (λ (v : ℕ). may_keep c.args.files.now c.args.old.size v ≡ true) (ap (λ (o : Option ℕ). unwrap_or o 0) c.in-Some.is) c.requires.place) (storage_stays c.args.files.now c.args.old.size c.size_after-size.result c.in-Some.addr (c.requires.some c.in-Some.addr c.in-Some.is) (subst (λ (v : ℕ). may_keep c.args.files.now c.args.old.size v ≡ true) (ap (λ (o : Option ℕ). unwrap_or o 0) c.in-Some.is) c.requires.place) (sym c.have_one_storage.ensures ∙ c.if-not-have_one_storage.false) (subst (λ (n : ℕ). n ≤ most_stream_bytes) (sym c.size_after-size.ensures) (size_most c.args.cut c.args.old.size c.args.offset (length c.args.bytes.now) most_stream_bytes (may_parts c.args.files.now c.args.old.size (unwrap_or c.args.old.addr 0) c.requires.place).0 c.requires.most))) c.in-Some.is (sym c.have_one_storage.ensures ∙ c.if-not-have_one_storage.false) c.size_after-size.ensures (g.F.Folder.told c.args.f.now) c.requires.agrees (told_is (HasWords c.args.entry c.args.stream c.args.old.size (unwrap_or c.args.old.addr 0)) from there stored.words) (g.F.Folder.told c.write_inside.new.f) (λ x at. c.in_err-write_inside-in-Some.ensures.stages x at (told_is (λ image. c.args.record_bytes.now ≡ record_at image c.args.entry) from there stored.read x at) (told_is (RecordChecks c.args.entry) from there can.checks x at)) from there can
+
+pub returns-in_ok-write_inside-in-Some-clause-stages : goal.returns-in_ok-write_inside-in-Some-clause-stages
+returns-in_ok-write_inside-in-Some-clause-stages g c from there stored can = inside_by_stage c.args.files.now c.args.entry c.args.stream c.size_after-size.result c.in-Some.addr c.args.old c.args.offset c.args.cut c.args.bytes.now c.requires.kind c.requires.stands c.requires.stream (c.requires.some c.in-Some.addr c.in-Some.is) (subst (λ (v : ℕ). may_keep c.args.files.now c.args.old.size v ≡ true) (ap (λ (o : Option ℕ). unwrap_or o 0) c.in-Some.is) c.requires.place) (storage_stays c.args.files.now c.args.old.size c.size_after-size.result c.in-Some.addr (c.requires.some c.in-Some.addr c.in-Some.is) (subst (λ (v : ℕ). may_keep c.args.files.now c.args.old.size v ≡ true) (ap (λ (o : Option ℕ). unwrap_or o 0) c.in-Some.is) c.requires.place) (sym c.have_one_storage.ensures ∙ c.if-not-have_one_storage.false) (subst (λ (n : ℕ). n ≤ most_stream_bytes) (sym c.size_after-size.ensures) (size_most c.args.cut c.args.old.size c.args.offset (length c.args.bytes.now) most_stream_bytes (may_parts c.args.files.now c.args.old.size (unwrap_or c.args.old.addr 0) c.requires.place).0 c.requires.most))) c.in-Some.is (sym c.have_one_storage.ensures ∙ c.if-not-have_one_storage.false) c.size_after-size.ensures (g.F.Folder.told c.args.f.now) c.requires.agrees (told_is (HasWords c.args.entry c.args.stream c.args.old.size (unwrap_or c.args.old.addr 0)) from there stored.words) (g.F.Folder.told c.write_inside.new.f) (λ x at. c.in_ok-write_inside-in-Some.ensures.stages x at (told_is (λ image. c.args.record_bytes.now ≡ record_at image c.args.entry) from there stored.read x at) (told_is (RecordChecks c.args.entry) from there can.checks x at)) from there can
+
+pub returns-in_ok-write_inside-in-Some-clause-staged : goal.returns-in_ok-write_inside-in-Some-clause-staged
+returns-in_ok-write_inside-in-Some-clause-staged g c from there stored can = inside_staged c.args.files.now c.args.entry c.args.stream c.size_after-size.result c.in-Some.addr c.args.old c.args.offset c.args.cut c.args.bytes.now c.requires.kind c.requires.stands c.requires.stream (c.requires.some c.in-Some.addr c.in-Some.is) (subst (λ (v : ℕ). may_keep c.args.files.now c.args.old.size v ≡ true) (ap (λ (o : Option ℕ). unwrap_or o 0) c.in-Some.is) c.requires.place) (storage_stays c.args.files.now c.args.old.size c.size_after-size.result c.in-Some.addr (c.requires.some c.in-Some.addr c.in-Some.is) (subst (λ (v : ℕ). may_keep c.args.files.now c.args.old.size v ≡ true) (ap (λ (o : Option ℕ). unwrap_or o 0) c.in-Some.is) c.requires.place) (sym c.have_one_storage.ensures ∙ c.if-not-have_one_storage.false) (subst (λ (n : ℕ). n ≤ most_stream_bytes) (sym c.size_after-size.ensures) (size_most c.args.cut c.args.old.size c.args.offset (length c.args.bytes.now) most_stream_bytes (may_parts c.args.files.now c.args.old.size (unwrap_or c.args.old.addr 0) c.requires.place).0 c.requires.most))) c.in-Some.is (sym c.have_one_storage.ensures ∙ c.if-not-have_one_storage.false) c.size_after-size.ensures (g.F.Folder.told c.args.f.now) c.requires.agrees (told_is (HasWords c.args.entry c.args.stream c.args.old.size (unwrap_or c.args.old.addr 0)) from there stored.words) (g.F.Folder.told c.write_inside.new.f) (λ x at. c.in_ok-write_inside-in-Some.ensures.stages x at (told_is (λ image. c.args.record_bytes.now ≡ record_at image c.args.entry) from there stored.read x at) (told_is (RecordChecks c.args.entry) from there can.checks x at)) from there can
+
+pub returns-in-None-clause-stages : goal.returns-in-None-clause-stages
+returns-in-None-clause-stages g c from there stored can =
+    let P = WritesByStage c.args.files.now c.args.files.now c.args.entry c.args.stream (writes.size_after c.args.cut c.args.old.size c.args.offset (length c.args.bytes.now)) c.args.offset c.args.bytes.now from in
+    passes_none P refl (λ image now. subst P (some_inj (sym there ∙ now)) (inl (nothing_in_place c.args.entry c.args.stream (writes.size_after c.args.cut c.args.old.size c.args.offset (length c.args.bytes.now)) from c.requires.kind (g.met.F.Folder.are_bytes c.args.f.now from there) (subst (λ (n : ℕ). writes.have_one_storage n (writes.size_after c.args.cut c.args.old.size c.args.offset (length c.args.bytes.now)) ≡ true) (sym stored.words.size_is) (subst (λ (n : ℕ). writes.have_one_storage c.args.old.size n ≡ true) c.size_after-size.ensures (sym c.have_one_storage.ensures ∙ c.if-not-have_one_storage.false))) can.checks)))
+
+pub returns-in-None-clause-staged : goal.returns-in-None-clause-staged
+returns-in-None-clause-staged g c from there stored can image now =
+    subst (IsWrittenByStage c.args.files.now c.args.files.now c.args.entry c.args.stream (writes.size_after c.args.cut c.args.old.size c.args.offset (length c.args.bytes.now)) c.args.offset c.args.bytes.now from) (some_inj (sym there ∙ now)) (inl (nothing_in_place c.args.entry c.args.stream (writes.size_after c.args.cut c.args.old.size c.args.offset (length c.args.bytes.now)) from c.requires.kind (g.met.F.Folder.are_bytes c.args.f.now from there) (subst (λ (n : ℕ). writes.have_one_storage n (writes.size_after c.args.cut c.args.old.size c.args.offset (length c.args.bytes.now)) ≡ true) (sym stored.words.size_is) (subst (λ (n : ℕ). writes.have_one_storage c.args.old.size n ≡ true) c.size_after-size.ensures (sym c.have_one_storage.ensures ∙ c.if-not-have_one_storage.false))) can.checks))
+
+-- The seal.
+
+pub returns-then-not-have_one_storage-clause-sealed : goal.returns-then-not-have_one_storage-clause-sealed
+returns-then-not-have_one_storage-clause-sealed g c =
+    on_ok_weaker c.write_moved.result
+    (λ sealed from there stored can image now was. sealed from there stored (subst (λ (n : ℕ). CanBeWritten c.args.files.now c.args.entry c.args.stream n from) (sym c.size_after-size.ensures) can) image now)
+    c.write_moved.ensures.sealed
+
+pub returns-in_ok-write_inside-in-Some-clause-sealed : goal.returns-in_ok-write_inside-in-Some-clause-sealed
+returns-in_ok-write_inside-in-Some-clause-sealed g c from there stored can =
+    c.in_ok-write_inside-in-Some.ensures.sealed from there stored.read can.checks (inside_apart c.args.files.now c.args.entry c.args.stream c.size_after-size.result c.in-Some.addr c.requires.kind c.requires.stands c.requires.stream from (c.requires.agrees from there) (subst (λ (n : ℕ). CanBeWritten c.args.files.now c.args.entry c.args.stream n from) (sym c.size_after-size.ensures) can) (stored.words.word_is ∙ ap (λ (o : Option ℕ). unwrap_or o 0) c.in-Some.is) (c.requires.some c.in-Some.addr c.in-Some.is) (storage_stays c.args.files.now c.args.old.size c.size_after-size.result c.in-Some.addr (c.requires.some c.in-Some.addr c.in-Some.is) (subst (λ (v : ℕ). may_keep c.args.files.now c.args.old.size v ≡ true) (ap (λ (o : Option ℕ). unwrap_or o 0) c.in-Some.is) c.requires.place) (sym c.have_one_storage.ensures ∙ c.if-not-have_one_storage.false) (subst (λ (n : ℕ). n ≤ most_stream_bytes) (sym c.size_after-size.ensures) (size_most c.args.cut c.args.old.size c.args.offset (length c.args.bytes.now) most_stream_bytes (may_parts c.args.files.now c.args.old.size (unwrap_or c.args.old.addr 0) c.requires.place).0 c.requires.most))))
+
+pub returns-in-None-clause-sealed : goal.returns-in-None-clause-sealed
+returns-in-None-clause-sealed g c from there stored can image now = subst (KeepsSeal c.args.entry from) (some_inj (sym there ∙ now)) (λ was. was)
