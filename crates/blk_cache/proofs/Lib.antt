@@ -62,3 +62,9 @@ pub mod ListedRows
 pub mod ListedRecords
 pub mod Replies
 pub mod StepEnds
+pub mod WriteRefusing
+pub mod WriteSteps
+pub mod WriteUses
+pub mod WriteEnds
+pub mod WriteWhole
+pub mod Writes

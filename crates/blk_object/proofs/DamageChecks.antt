@@ -1,5 +1,5 @@
 -- What the calls below meet is a failed check.
-use Rattle.std.proofs.Common.{◌≡◌, ◌≢◌, ◌⊎◌, inl, inr, ℕ, List, Bool, true, false, Option, None, Some, length, refl, sym, subst, Result, Ok, Err, ap, ◌∙◌, ◌+◌, ◌≤◌, take, arith}
+use Rattle.std.proofs.Common.{◌≡◌, ◌≢◌, ◌⊎◌, inl, inr, ℕ, List, Bool, true, Option, None, Some, length, refl, sym, subst, Result, Ok, Err, ap, ◌∙◌, ◌+◌, ◌≤◌, take, arith}
 use Rattle.std.proofs.lemmas.Bool.{and_parts, leb-true}
 use Rattle.std.proofs.lemmas.List.{take_all}
 use Rattle.blk_image.proofs.Words.{length-range}
@@ -27,17 +27,16 @@ use Rattle.blk_io.specs.Faults.{IfDamaged, IsShort}
 use Rattle.blk_io.proofs.Carried.{carried, if_damaged_weaker}
 use Rattle.blk_disk.specs.declared.tables.BlockFiles.{BlockFiles}
 use Rattle.blk_disk.specs.Damages.{IsFailedRecord, IsNodeWordDamage}
-use Rattle.blk_disk.specs.Tables.{all_files, is_node_among, is_record_among, stands_among}
-use Rattle.blk_alloc.specs.Allocating.{IsCauseOf, IsKindFull, IsRefusal}
+use Rattle.blk_disk.specs.Tables.{all_files, stands_among}
+use Rattle.blk_alloc.specs.Allocating.{IsKindFull, IsRefusal}
 use Rattle.blk_alloc.specs.Extending.{KeepsStanding}
-use Rattle.blk_alloc.specs.Fitting.{IsShortOf}
 use Rattle.blk_alloc.specs.Owning.{IsCause}
 use Rattle.blk_alloc.proofs.Members.{member_all}
 use Rattle.blk_external.specs.Making.{AreNumbersUsedUp, last_file_place}
 use Rattle.blk_io.specs.declared.folder.FileId.TheVariants as names
-use Rattle.blk_entry.specs.Keys.{IsCut, IsCutPiece, IsCutPart, IsHeadDamage, IsKeyDamage, IsMisplacedKey, IsPartDamage, IsPiece, IsPlaceDamage, IsRecordHead, HasKeyPlace, key_bytes, may_have, most_key}
+use Rattle.blk_entry.specs.Keys.{IsCut, IsCutPart, IsHeadDamage, IsKeyDamage, IsMisplacedKey, IsPartDamage, IsPiece, IsPlaceDamage, IsRecordHead, HasKeyPlace, key_bytes, may_have, most_key}
 use Rattle.blk_entry.specs.declared.keys.Head.{Head}
-use Rattle.blk_lru.specs.Damages.{IsInsertDamage, IsListHeadDamage, IsNeighbourDamage, IsRemovalDamage, IsTouchDamage, IsWrongNode}
+use Rattle.blk_lru.specs.Damages.{IsInsertDamage, IsNeighbourDamage, IsRemovalDamage, IsTouchDamage, IsWrongNode}
 use Rattle.blk_lru.proofs.NodeWords.{node_kind, node_stands}
 use Rattle.blk_chain.specs.Finding.{IsSearchDamage, IsWrongRecord}
 use Rattle.blk_chain.specs.Unlinking.{IsUnlinkDamage}

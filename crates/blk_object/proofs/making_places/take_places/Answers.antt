@@ -3,7 +3,6 @@ use Rattle.std.specs.Option.{ForSome}
 use Rattle.blk_image.specs.Told.{Passes, Told}
 use Rattle.blk_format.specs.Address.{external, kind_of}
 use Rattle.blk_io.proofs.Carried.{carried, if_damaged_weaker}
-use Rattle.blk_entry.specs.Writing.{LiesApart}
 use Rattle.blk_kept.specs.Changes.{StillFinds}
 use Rattle.blk_object.specs.Making.{LeavesRoom, Takes}
 use Rattle.blk_object.specs.declared.making_places.Places.{Places}
