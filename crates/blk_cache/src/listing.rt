@@ -62,7 +62,7 @@ impl Cache {
     /// Prints the rows of a List, a line each, from the front of the use list on: of an object its key and the lengths of
     /// its streams, and of a part its number and how many bytes it has. A doomed object has none.
     ///
-    /// One folder call finds the first item, and four more are made for each. Nothing is written. After a fault a front
+    /// One folder call finds the first item, and five more are made for each. Nothing is written. After a fault a front
     /// of the lines is printed.
     pub(crate) fn print_rows<F: Folder, K: Sink>(
         &mut self,
