@@ -18,7 +18,7 @@ use Rattle.blk_model.proofs.Doomed.{state_doomed}
 use Rattle.blk_format.specs.SparseIndex.{ParentIndex}
 use Rattle.blk_laws.specs.CommandLaws.{IsPlacedAsLive}
 use Rattle.blk_laws.proofs.states.Settling.{main-owned}
-use Rattle.blk_volume.specs.Entries.{IsParent}
+use Rattle.blk_volume.specs.Entries.{IsParent, IsPart, IsPlain, Role}
 use Rattle.blk_volume.specs.Found.{charge_of}
 use Rattle.blk_volume.specs.Layout.{Layout, is_in, is_listed, nodes_of}
 use Rattle.blk_volume.specs.Loads.{Loaded}
@@ -40,7 +40,7 @@ use Rattle.blk_sparse.specs.Parents.{ArePartsTold, IsGoneWhole, IsGroupTold, IsH
 use Rattle.blk_sparse.specs.declared.dropping.Gone.{Gone}
 use Rattle.blk_cache.specs.declared.dooming_objects.Target.{Target}
 use Rattle.blk_cache.specs.declared.item_names.EntryKind.TheVariants as kinds
-use Rattle.blk_cache.specs.Dooming.{IsDoomed, LiesAsTarget, NamedObjectsLieOn}
+use Rattle.blk_cache.specs.Dooming.{IsDoomed, LiesAsTarget, NamedObjectsLieOn, has_index}
 use Rattle.blk_cache.specs.EvictingGroups.{kind_of_role}
 use Rattle.blk_cache.specs.RoomLaws.{item_charge}
 use Rattle.blk_cache.proofs.DoomedCounts.{bytes-less, items-less, main-charge}
@@ -51,6 +51,24 @@ use Rattle.blk_cache.proofs.WholeGroups.{charges-are, parent-role, parts-listed}
 -- where nothing was done what was at rest is found
 pub stayed-either : (told now : Told) (state : State) (number : ℕ) (object : Object) (layout : Layout) (from : Image) → told.files ≡ Some from → now ≡ told → Keeps state layout [] from → Passes told now (FindsEither state (doomed number state (Some object)))
 stayed-either told now state number object layout from there same k = stayed-stops told now state (doomed number state (Some object)) layout from there same k
+
+-- an object of a kept state has a key that is one
+pub object-key : (state : State) (layout : Layout) (image : Image) → Keeps state layout [] image → (number : ℕ) (object : Object) → object_at state number ≡ Some object → no_key object.key ≡ false
+object-key state layout image k number object here =
+    let valid : IsObject object = subst (λ (o : Option Object). IfSome o IsObject) here (k.entries.valid.objects number) in
+    let some = valid.key.some in
+    let short = valid.key.short in
+    grind (arith, nat_tests)
+
+plain-kind : (role : Role) → has_index (kind_of_role role) ≡ false → (kind_of_role role ≡ kinds.Part → ⊥) → kind_of_role role ≡ kinds.Plain
+plain-kind IsPlain none differs = refl
+plain-kind (IsParent index) none differs = cc
+plain-kind (IsPart name index) none differs = absurd (differs refl)
+
+index-kind : (role : Role) → has_index (kind_of_role role) ≡ true → kind_of_role role ≡ kinds.Parent
+index-kind IsPlain some = cc
+index-kind (IsParent index) some = refl
+index-kind (IsPart name index) some = cc
 
 one-more : (item : Item) (items : List Item) → length (item ∷ items) ≡ 1 + length items
 one-more item items = omega arith
@@ -88,13 +106,13 @@ module _ {held : Bool} (state : State) (layout : Layout) (image : Image) (number
       let same : o.object ≡ object = some_inj (sym o.here ∙ ap (object_at state) numbers ∙ t.here) in
       ap (λ (x : Object). x.parts) (sym same) ∙ none
 
-  -- its key is one
-  pub target-key : no_key object.key ≡ false
-  target-key =
-      let valid : IsObject object = subst (λ (o : Option Object). IfSome o IsObject) t.here (k.entries.valid.objects number) in
-      let some = valid.key.some in
-      let short = valid.key.short in
-      grind (arith, nat_tests)
+  -- and it has none where its kind tells no index
+  pub parts-none : has_index target.kind ≡ false → object.parts ≡ []
+  parts-none none = no-parts (plain-kind was.role (ap has_index t.kind ∙ none) no-part)
+
+  -- it has an index where its kind tells one
+  pub parent-kind : has_index target.kind ≡ true → kind_of_role was.role ≡ kinds.Parent
+  parent-kind some = index-kind was.role (ap has_index t.kind ∙ some)
 
   -- what its items are charged
   items-listed : AllByRecursion (λ item. is_listed state item ≡ true) (main object.key ∷ map (part object.key) (parts_among object.key state.uses))

@@ -22,6 +22,8 @@ use Rattle.blk_object.specs.RemovingFound.{LiesAsFound}
 use Rattle.blk_sparse.specs.declared.dropping.Gone.{Gone}
 use Rattle.blk_cache.specs.declared.cache.Cache.{Cache}
 use Rattle.blk_cache.specs.declared.dooming_objects.Target.{Target}
+use Rattle.blk_cache.specs.declared.item_names.EntryKind.{EntryKind}
+use Rattle.blk_cache.specs.declared.item_names.EntryKind.TheVariants.{Parent, Part, Plain}
 use Rattle.blk_cache.specs.CacheKeeping.{KeepsState, node_of_object}
 use Rattle.blk_cache.specs.EvictingGroups.{kind_of_role}
 
@@ -32,6 +34,12 @@ abbrev pub doom_refusal : Bindings → ℕ → Option Refusal
 doom_refusal bindings handle = first_refusal ((is_none (binding_of bindings handle), refusal.BadHandle) ∷ (option_map_or (λ object. object.doomed) (binding_of bindings handle) false, refusal.Doomed) ∷ [])
 
 -- What lies there.
+
+-- whether an entry of a kind has an index of parts
+abbrev pub has_index : EntryKind → Bool
+has_index Parent = true
+has_index Plain = false
+has_index Part = false
 
 -- a live object, which a handle names or none does, lies as a target: at its node with its record, behind the record before that, with an entry of its kind and its charge
 pub record LiesAsTarget (held : Bool) (state : State) (layout : Layout) (number : ℕ) (object : Object) (target : Target) : Type 0 where

@@ -13,6 +13,7 @@ ghost use Rattle.blk_format.specs.Address.{blocks_256, kind_of};
 ghost use Rattle.blk_disk.specs.Open.{IsOpen};
 ghost use Rattle.blk_disk.specs.Tables.{is_node_among, is_record_among, stands_among};
 ghost use Rattle.blk_kept.specs.Commands.{Does, MayStopAtEach};
+ghost use Rattle.blk_object.specs.FailedChecks.{IsFailedCheck};
 ghost use Rattle.blk_object.specs.RemovingObjects.{FindsEither};
 ghost use Rattle.blk_cache.specs.CacheKeeping.{KeepsState};
 ghost use Rattle.blk_cache.specs.CommandClauses.{IsRefused, KeepsAny};
@@ -31,8 +32,8 @@ impl Cache {
     /// and its places stay until its last handle is closed.
     ///
     /// It is refused with `BadHandle` where the name is free, or 4096 or more, and `Doomed` where its object is doomed.
-    /// An object without parts takes 39 folder calls at most where its record is the first of its chain. After a fault
-    /// nothing is promised of the cache but that it may be let go.
+    /// An object without parts takes at most 39 folder calls where the search passes one record of its chain or none, and one
+    /// more for each further one. After a fault nothing is promised of the cache but that it may be let go.
     pub(crate) fn doom<F: Folder>(&mut self, f: &mut F, handle: u16) -> Result<Answer, Fault>
         requires is_open { ForSome (F.told f.old).files (IsOpen self.old.files) }
         ensures does { (moment : ℕ) → IfOk result (λ answer. Does (KeepsState self.old) (KeepsState self.new) (F.told f.old) (F.told f.new) moment (to_doom handle) answer) }
@@ -45,6 +46,9 @@ impl Cache {
 
         ensures is_open { ForSome (F.told f.new).files (IsOpen self.new.files) }
         ensures notes { self.new.notes ≡ self.old.notes }
+
+        // A damage is a check that fails on what is read here; nothing is written after it.
+        ensures damaged { IfDamaged result (IsFailedCheck self.new.files (F.told f.new)) }
 
         // A folder that tells its files gives no damage where the cache keeps a state.
         ensures untold { ForSome (F.told f.old).files (KeepsAny self.old) → IfDamaged result (λ _. (F.told f.old).files ≡ None) }
@@ -79,6 +83,9 @@ impl Cache {
         ensures is_open { ForSome (F.told f.new).files (IsOpen self.new.files) }
         ensures notes { self.new.notes ≡ self.old.notes }
 
+        // A damage is a check that fails on what is read here; nothing is written after it.
+        ensures damaged { IfDamaged result (IsFailedCheck self.new.files (F.told f.new)) }
+
         // A folder that tells its files gives no damage where the cache keeps a state.
         ensures untold { ForSome (F.told f.old).files (KeepsAny self.old) → IfDamaged result (λ _. (F.told f.old).files ≡ None) }
         ensures silent { (F.told f.old).files ≡ None → (F.told f.new).files ≡ None }
@@ -104,6 +111,7 @@ impl Cache {
         ensures stops { ForSome (F.told f.old).files (λ from. ForEachOpen self.old node entry from (λ state number object. Passes (F.told f.old) (F.told f.new) (FindsEither state (doomed number state (Some object))))) }
         ensures is_open { ForSome (F.told f.new).files (IsOpen self.new.files) }
         ensures notes { self.new.notes ≡ self.old.notes }
+        ensures damaged { IfDamaged result (IsFailedCheck self.new.files (F.told f.new)) }
         ensures untold { ForSome (F.told f.old).files (λ from. ForEachOpen self.old node entry from (λ state number object. IfDamaged result (λ _. (F.told f.old).files ≡ None))) }
         ensures silent { (F.told f.old).files ≡ None → (F.told f.new).files ≡ None }
         ensures later { F.faults f.old ≤ F.faults f.new }
@@ -115,12 +123,8 @@ impl Cache {
     }
 
     // Dooms a live object with a key, as it was found.
-    fn doom_found<F: Folder>(
-        &mut self,
-        f: &mut F,
-        target: &Target,
-        key: &[u8],
-    ) -> Result<(), Fault>
+    fn doom_found<F: Folder>(&mut self, f: &mut F, target: &Target, key: &[u8]) -> Result<(), Fault>
+        requires some { 1 ≤ length key.now }
         requires short { length key.now ≤ longest_key }
         requires node { IsTrue (is_node_among self.old.files target.now.node) }
         requires kind { kind_of target.now.found.entry ≡ blocks_256 }
@@ -132,6 +136,7 @@ impl Cache {
         ensures stops { ForSome (F.told f.old).files (λ from. ForEachKept self.old key.now target.now from (λ state number object. Passes (F.told f.old) (F.told f.new) (FindsEither state (doomed number state (Some object))))) }
         ensures is_open { ForSome (F.told f.new).files (IsOpen self.new.files) }
         ensures notes { self.new.notes ≡ self.old.notes }
+        ensures damaged { IfDamaged result (IsFailedCheck self.new.files (F.told f.new)) }
         ensures untold { ForSome (F.told f.old).files (λ from. ForEachKept self.old key.now target.now from (λ state number object. IfDamaged result (λ _. (F.told f.old).files ≡ None))) }
         ensures silent { (F.told f.old).files ≡ None → (F.told f.new).files ≡ None }
         ensures later { F.faults f.old ≤ F.faults f.new }

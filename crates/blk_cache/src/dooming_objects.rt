@@ -1,20 +1,23 @@
 // A live object is doomed in a folder.
-ghost use Rattle.std.specs.Prelude.{◌≡◌, ◌≤◌, ◌+◌, ℕ, IfOk, IfSome, IsTrue, List, None, Some, length, true};
+ghost use Rattle.std.specs.Prelude.{◌≡◌, ◌≤◌, ℕ, IfOk, IfSome, IsTrue, List, None, Some, false, length, true};
 ghost use Rattle.std.specs.Option.{ForSome};
 ghost use Rattle.blk_image.specs.Told.{Passes, Rises, Stays};
 ghost use Rattle.blk_io.specs.Faults.{IfDamaged, IfDevice};
 ghost use Rattle.blk_model.specs.Effects.{doomed};
+ghost use Rattle.blk_model.specs.Sizes.{longest_key};
 ghost use Rattle.blk_model.specs.State.{State};
 ghost use Rattle.blk_format.specs.Address.{blocks_256, kind_of};
-ghost use Rattle.blk_format.specs.Sealed.{RecordChecks};
+ghost use Rattle.blk_format.specs.Names.{longest_name};
 ghost use Rattle.blk_volume.specs.Layout.{Layout};
+ghost use Rattle.blk_volume.specs.Loads.{Loaded};
 ghost use Rattle.blk_volume.specs.View.{entry_at};
 ghost use Rattle.blk_disk.specs.Open.{IsOpen};
 ghost use Rattle.blk_disk.specs.Tables.{Agrees, is_node_among, is_record_among, stands_among};
 ghost use Rattle.blk_kept.specs.Keeping.{KeepsUncounted};
+ghost use Rattle.blk_object.specs.FailedChecks.{IsFailedCheck};
+ghost use Rattle.blk_object.specs.Owning.{LoadsWith};
 ghost use Rattle.blk_object.specs.RemovingObjects.{FindsEither};
-ghost use Rattle.blk_cache.specs.declared.item_names.EntryKind.TheVariants as kinds;
-ghost use Rattle.blk_cache.specs.Dooming.{ForEachOpenAt, ForEachTarget, ForEachWithKey, IsDoomed, IsTarget};
+ghost use Rattle.blk_cache.specs.Dooming.{ForEachOpenAt, ForEachTarget, ForEachWithKey, IsDoomed, IsTarget, has_index};
 ghost use Rattle.blk_cache.specs.EvictingGroups.{kind_said};
 ghost use Rattle.blk_cache.specs.Looking.{IsEntryDamage, IsLookDamage, KeepsSomeState, charge_at};
 ghost use Rattle.blk_cache.specs.NameRoom.{name_room};
@@ -30,9 +33,6 @@ use blk_io::{Fault, Folder};
 use blk_object::{doom_plain, remove_item};
 use blk_record::EntryView;
 use blk_sparse::{Gone, doom_parent, remove_parent_with};
-
-// The flags of the record of a part.
-const CHILD: u32 = 2;
 
 /// A live object that is to be doomed: its record and the one before it in its chain, its node, what kind of entry it
 /// has, and what it is charged as a main item.
@@ -79,7 +79,7 @@ fn read_target<F: Folder>(f: &mut F, files: &BlockFiles, found: &Found) -> Resul
     ensures stands { IfOk result (λ target. IsTrue (is_node_among files.now target.node)) }
     ensures stays { Stays (F.told f.old) (F.told f.new) }
     ensures damaged { IfDamaged result (IsEntryDamage files.now (F.told f.old) found.now.entry) }
-    ensures untold { ForSome (F.told f.old).files (Agrees files.now) → ForSome (F.told f.old).files (RecordChecks found.now.entry) → ForSome (F.told f.old).files (λ image. is_node_among files.now (entry_at image found.now.entry).rankings_node ≡ true) → IfDamaged result (λ _. (F.told f.old).files ≡ None) }
+    ensures untold { ForSome (F.told f.old).files (Agrees files.now) → ForSome (F.told f.old).files (λ image. (loaded : Loaded) × LoadsWith found.now.entry loaded image) → ForSome (F.told f.old).files (λ image. is_node_among files.now (entry_at image found.now.entry).rankings_node ≡ true) → IfDamaged result (λ _. (F.told f.old).files ≡ None) }
     ensures later { F.faults f.old ≤ F.faults f.new }
     ensures device { IfDevice result (Rises (F.faults f.old) (F.faults f.new)) }
 {
@@ -101,7 +101,7 @@ fn read_target<F: Folder>(f: &mut F, files: &BlockFiles, found: &Found) -> Resul
 /// Dooms a live object that a handle names, by its record and its node. Its key is read into `name`, and the names of its
 /// parts are made behind that. What is counted no longer is given: its parts.
 ///
-/// A damage is one of `read_name`, `find_listed` or `doom_target`.
+/// A damage is one of `read_name`, `find_listed` or `doom_target`, or a key that is none.
 pub(crate) fn doom_named<F: Folder>(
     f: &mut F,
     files: &BlockFiles,
@@ -116,6 +116,7 @@ pub(crate) fn doom_named<F: Folder>(
     ensures doomed { IfOk result (λ gone. ForSome (F.told f.old).files (λ from. ForEachOpenAt node entry from (λ state layout number object. ForSome (F.told f.new).files (IsDoomed state layout number object gone from)))) }
     ensures stops { ForSome (F.told f.old).files (λ from. ForEachOpenAt node entry from (λ state layout number object. Passes (F.told f.old) (F.told f.new) (FindsEither state (doomed number state (Some object))))) }
     ensures is_open { ForSome (F.told f.new).files (IsOpen files.now) }
+    ensures damaged { IfDamaged result (IsFailedCheck files.now (F.told f.new)) }
     ensures untold { ForSome (F.told f.old).files (λ from. ForEachOpenAt node entry from (λ state layout number object. IfDamaged result (λ _. (F.told f.old).files ≡ None))) }
     ensures silent { (F.told f.old).files ≡ None → (F.told f.new).files ≡ None }
     ensures later { F.faults f.old ≤ F.faults f.new }
@@ -123,6 +124,10 @@ pub(crate) fn doom_named<F: Folder>(
 {
     let named = read_name(f, files, entry, name)?;
     let (key, room) = name.split_at_mut(named.len);
+    if is_no_key(key) {
+        let len = key.len() as u32;
+        return Err(record_damage(entry, EntryView::KEY_LEN, len));
+    }
     let found = find_listed(f, files, key, false, entry)?;
     let target = Target {
         found,
@@ -137,7 +142,7 @@ pub(crate) fn doom_named<F: Folder>(
 /// with its parts, these are freed, and its record gets the state of a doomed one; of another all goes. What is counted no
 /// longer is given: the parts of an open object, and else all its items.
 ///
-/// A damage is one of the calls below, a key that no object with an index has, or a record of a part.
+/// A damage is one of the calls below.
 pub(crate) fn doom_target<F: Folder>(
     f: &mut F,
     files: &BlockFiles,
@@ -146,8 +151,9 @@ pub(crate) fn doom_target<F: Folder>(
     room: &mut [u8],
     is_held: bool,
 ) -> Result<Gone, Fault>
-    requires room { name_room ≤ length key.now + length room.old }
-    requires few { length key.now ≤ name_room }
+    requires some { 1 ≤ length key.now }
+    requires short { length key.now ≤ longest_key }
+    requires room { longest_name ≤ length room.old }
     requires node { IsTrue (is_node_among files.now target.now.node) }
     requires kind { kind_of target.now.found.entry ≡ blocks_256 }
     requires stands { IsTrue (stands_among files.now target.now.found.entry) }
@@ -160,16 +166,24 @@ pub(crate) fn doom_target<F: Folder>(
     ensures stops { ForSome (F.told f.old).files (λ from. ForEachWithKey is_held key.now target.now from (λ state layout number object. Passes (F.told f.old) (F.told f.new) (FindsEither state (doomed number state (Some object))))) }
 
     ensures is_open { ForSome (F.told f.new).files (IsOpen files.now) }
+    ensures damaged { IfDamaged result (IsFailedCheck files.now (F.told f.new)) }
     ensures untold { ForSome (F.told f.old).files (λ from. ForEachWithKey is_held key.now target.now from (λ state layout number object. IfDamaged result (λ _. (F.told f.old).files ≡ None))) }
     ensures silent { (F.told f.old).files ≡ None → (F.told f.new).files ≡ None }
     ensures later { F.faults f.old ≤ F.faults f.new }
     ensures device { IfDevice result (Rises (F.faults f.old) (F.faults f.new)) }
 {
-    match target.kind {
-        EntryKind::Plain => doom_without_index(f, files, target, is_held),
-        EntryKind::Parent => doom_with_index(f, files, target, key, room, is_held),
-        EntryKind::Part => Err(record_damage(target.found.entry, EntryView::FLAGS, CHILD)),
+    if has_index(target.kind) {
+        doom_with_index(f, files, target, key, room, is_held)
+    } else {
+        doom_without_index(f, files, target, is_held)
     }
+}
+
+// Whether an entry has an index of parts.
+fn has_index(kind: EntryKind) -> bool
+    ensures { result ≡ has_index kind }
+{
+    matches!(kind, EntryKind::Parent)
 }
 
 // Dooms a live object without an index, which has no parts.
@@ -179,7 +193,7 @@ fn doom_without_index<F: Folder>(
     target: &Target,
     is_held: bool,
 ) -> Result<Gone, Fault>
-    requires plain { target.now.kind ≡ kinds.Plain }
+    requires plain { has_index target.now.kind ≡ false }
     requires node { IsTrue (is_node_among files.now target.now.node) }
     requires kind { kind_of target.now.found.entry ≡ blocks_256 }
     requires stands { IsTrue (stands_among files.now target.now.found.entry) }
@@ -189,6 +203,7 @@ fn doom_without_index<F: Folder>(
     ensures doomed { IfOk result (λ gone. ForSome (F.told f.old).files (λ from. ForEachTarget is_held target.now from (λ state layout number object. ForSome (F.told f.new).files (IsDoomed state layout number object gone from)))) }
     ensures stops { ForSome (F.told f.old).files (λ from. ForEachTarget is_held target.now from (λ state layout number object. Passes (F.told f.old) (F.told f.new) (FindsEither state (doomed number state (Some object))))) }
     ensures is_open { ForSome (F.told f.new).files (IsOpen files.now) }
+    ensures damaged { IfDamaged result (IsFailedCheck files.now (F.told f.new)) }
     ensures untold { ForSome (F.told f.old).files (λ from. ForEachTarget is_held target.now from (λ state layout number object. IfDamaged result (λ _. (F.told f.old).files ≡ None))) }
     ensures silent { (F.told f.old).files ≡ None → (F.told f.new).files ≡ None }
     ensures later { F.faults f.old ≤ F.faults f.new }
@@ -212,9 +227,10 @@ fn doom_with_index<F: Folder>(
     room: &mut [u8],
     is_held: bool,
 ) -> Result<Gone, Fault>
-    requires parent { target.now.kind ≡ kinds.Parent }
-    requires room { name_room ≤ length key.now + length room.old }
-    requires few { length key.now ≤ name_room }
+    requires parent { has_index target.now.kind ≡ true }
+    requires some { 1 ≤ length key.now }
+    requires short { length key.now ≤ longest_key }
+    requires room { longest_name ≤ length room.old }
     requires node { IsTrue (is_node_among files.now target.now.node) }
     requires kind { kind_of target.now.found.entry ≡ blocks_256 }
     requires stands { IsTrue (stands_among files.now target.now.found.entry) }
@@ -224,15 +240,12 @@ fn doom_with_index<F: Folder>(
     ensures doomed { IfOk result (λ gone. ForSome (F.told f.old).files (λ from. ForEachWithKey is_held key.now target.now from (λ state layout number object. ForSome (F.told f.new).files (IsDoomed state layout number object gone from)))) }
     ensures stops { ForSome (F.told f.old).files (λ from. ForEachWithKey is_held key.now target.now from (λ state layout number object. Passes (F.told f.old) (F.told f.new) (FindsEither state (doomed number state (Some object))))) }
     ensures is_open { ForSome (F.told f.new).files (IsOpen files.now) }
+    ensures damaged { IfDamaged result (IsFailedCheck files.now (F.told f.new)) }
     ensures untold { ForSome (F.told f.old).files (λ from. ForEachWithKey is_held key.now target.now from (λ state layout number object. IfDamaged result (λ _. (F.told f.old).files ≡ None))) }
     ensures silent { (F.told f.old).files ≡ None → (F.told f.new).files ≡ None }
     ensures later { F.faults f.old ≤ F.faults f.new }
     ensures device { IfDevice result (Rises (F.faults f.old) (F.faults f.new)) }
 {
-    if is_no_key(key) {
-        let len = key.len() as u32;
-        return Err(record_damage(target.found.entry, EntryView::KEY_LEN, len));
-    }
     if is_held {
         let charge = target.charge;
         doom_parent(f, files, &target.found, target.node, key, charge, room)

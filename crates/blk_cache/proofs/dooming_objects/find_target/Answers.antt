@@ -7,7 +7,7 @@ use Rattle.blk_volume.specs.View.{entry_at, view_of}
 use Rattle.blk_laws.proofs.chains.Searches.{none-missing}
 use Rattle.blk_cache.specs.EvictingGroups.{kind_said}
 use Rattle.blk_cache.specs.Looking.{KeepsSomeState, charge_at}
-use Rattle.blk_cache.proofs.Looks.{can-search, found-checks, found-names}
+use Rattle.blk_cache.proofs.Looks.{can-search, found-loads, found-names}
 use Rattle.blk_cache.proofs.FoundTargets.{found-is-target}
 use Rattle.blk_cache.proofs.dooming_objects.find_target.Goals as goal
 
@@ -32,7 +32,7 @@ returns-in_err-read_target-clause-untold g c is_open kept =
     if_damaged_weaker c.from_residual-in_err-read_target.result (λ _. mid.files ≡ None) (λ _. old.files ≡ None) (λ damage none. sym same ∙ none)
     (carried c.read_target.result c.from_residual-in_err-read_target.result c.in_err-read_target.field-0.0 (λ _. mid.files ≡ None) c.in_err-read_target.was c.from_residual-in_err-read_target.ensures.1
     (c.read_target.ensures.untold (λ image there. (is_open image (back image there)).agrees)
-    (λ image there. let s : KeepsSomeState image = kept image (back image there) in found-checks s.state s.layout s.unlinked image s.kept c.args.key.now c.in-Some.found.entry c.in-Some.found.before (found image (back image there) s) (g.met.F.Folder.are_bytes c.args.f.now image (back image there)))
+    (λ image there. let s : KeepsSomeState image = kept image (back image there) in found-loads s.state s.layout s.unlinked image s.kept c.args.key.now c.in-Some.found.entry c.in-Some.found.before (found image (back image there) s))
     (λ image there. let s : KeepsSomeState image = kept image (back image there) in found-names s.state s.layout s.unlinked image s.kept c.args.key.now c.in-Some.found.entry c.in-Some.found.before (found image (back image there) s) c.args.files.now (is_open image (back image there)).agrees)))
 
 pub returns-clause-target : goal.returns-clause-target

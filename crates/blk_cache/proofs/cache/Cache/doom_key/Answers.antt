@@ -14,7 +14,9 @@ use Rattle.blk_cache.specs.CacheKeeping.{KeepsState}
 use Rattle.blk_cache.specs.CommandClauses.{KeepsAny}
 use Rattle.blk_cache.specs.Dooming.{IsTarget, IsTargetAt}
 use Rattle.blk_cache.proofs.DoomSteps.{key-done, key-stops, missing-refused, no-key-refused}
+use Rattle.blk_object.proofs.DamageChecks.{handed, moved}
 use Rattle.blk_cache.proofs.Evictions.{untold-where}
+use Rattle.blk_cache.proofs.LookDamages.{look-checked}
 use Rattle.blk_cache.proofs.Refusing.{says-kept}
 use Rattle.blk_cache.proofs.cache.Cache.doom_key.Goals as goal
 
@@ -90,3 +92,9 @@ returns-clause-stops g c moment =
     let bytes : IsBytes c.args.key.now = All-from_get_or (λ (b : ℕ). b < 256) c.args.key.now 0 (λ i within. omega (arith, c.type_inv.key i)) in
     let some : no_key c.args.key.now ≡ false = search rules in
     key-stops c.args.self.now c.args.key.now bytes some c.in-Some.target (g.F.Folder.told c.args.f.now) (g.F.Folder.told c.find_target.new.f) (g.F.Folder.told c.doom_found.new.f) c.in_ok-target.ensures.stays moment found c.in_ok-doom_found.ensures.stops
+
+pub returns-in_err-target-clause-damaged : goal.returns-in_err-target-clause-damaged
+returns-in_err-target-clause-damaged g c =
+    handed c.find_target.result c.from_residual.result c.in_err-target.field-0.0 _ c.args.self.now.files (g.F.Folder.told c.find_target.new.f)
+    (λ damage wrong. moved c.args.self.now.files (g.F.Folder.told c.args.f.now) (g.F.Folder.told c.find_target.new.f) damage c.find_target.ensures.stays (look-checked c.args.self.now.files (g.F.Folder.told c.args.f.now) c.args.key.now damage wrong))
+    c.in_err-target.was c.from_residual.ensures.1 c.find_target.ensures.damaged
