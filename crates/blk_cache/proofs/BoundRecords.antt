@@ -30,6 +30,8 @@ use Rattle.blk_verdict.proofs.RoleFacts.{index_length}
 use Rattle.blk_verdict.proofs.StreamFacts.{AreStored, are_stored, stored_length}
 use Rattle.blk_kept.specs.Keeping.{KeepsUncounted}
 use Rattle.blk_stream.specs.Streams.{streams_at}
+use Rattle.blk_object.specs.Owning.{LoadsWith}
+use Rattle.blk_object.proofs.OwnedPlaces.{kept-load}
 use Rattle.blk_cache.specs.CacheKeeping.{IsBoundTo, node_of_object}
 use Rattle.blk_cache.specs.Looking.{charge_at}
 use Rattle.blk_cache.proofs.Looks.{said-charge}
@@ -202,6 +204,10 @@ module _ (state : State) (layout : Layout) (unlinked : List ℕ) (image : Image)
     by : (t : Bool) → is.object.live ≡ t → row_of_loaded is.loaded ≡ main_row is.object.key is.object.shape is.object.streams
     by true e = live-row e
     by false e = dead-row e
+
+  -- what lies at its node loads with its record
+  pub bound-loads : LoadsWith b.entry is.loaded image
+  bound-loads = subst (λ (w : ℕ). LoadsWith w is.loaded image) (sym is.entry) (kept-load state layout unlinked image b.node is.loaded k bound-node)
 
   -- its record checks
   pub bound-checks : AreBytes image → RecordChecks b.entry image

@@ -15,9 +15,9 @@ use Rattle.blk_model.specs.State.{State, is_named}
 use Rattle.blk_model.specs.Step.{step}
 use Rattle.blk_model.specs.declared.Answer.TheVariants as answer
 use Rattle.blk_format.specs.Headers.{this_id_of}
-use Rattle.blk_format.specs.Sealed.{RecordChecks}
 use Rattle.blk_volume.specs.Layout.{Layout}
 use Rattle.blk_volume.specs.Sound.{words_of}
+use Rattle.blk_volume.specs.View.{list_of}
 use Rattle.blk_laws.specs.CommandLaws.{IsPlacedAsDoomed}
 use Rattle.blk_disk.specs.declared.tables.BlockFiles.{BlockFiles}
 use Rattle.blk_disk.specs.Open.{IsOpen}
@@ -158,8 +158,7 @@ module _ (cache : Cache) (old mid now : Told) (stays : mid ≡ old) (handle : �
   closed-may any = by object.doomed refl where
     by : (t : Bool) → object.doomed ≡ t → ForSome mid.files (MayEnd t object.entry object.node)
     by true e = subst (λ (o : OpenObject). ForSome mid.files (HasFreeable o.entry)) (sym was.object_is) (mid-freeable cache handle small b bound shut (sym same-mark ∙ e) old mid now stays any)
-    by false e = subst (λ (o : OpenObject). ForSome mid.files (RecordChecks o.node)) (sym was.object_is)
-        (mid-node cache handle small b bound old mid mid stays shut (sym same-mark ∙ e) bytes (subst (λ (o : OpenObject). is_node_among cache.files o.node ≡ true) was.object_is stands) any)
+    by false e = subst (λ (o : OpenObject). ForSome mid.files (λ image. (list_of image).checks o.node ≡ true)) (sym was.object_is) (mid-node cache handle small b bound old mid mid stays shut (sym same-mark ∙ e) any)
 
   module _ {A : Type 0} (result : Result A Fault) (cleans : object.doomed ≡ false → Cleans new.files mid now object result) (freeing : object.doomed ≡ true → FreesAll mid now object.entry result) (moment : ℕ) where
     its-freeing : object.doomed ≡ true → FreesAll mid now b.entry result
@@ -201,16 +200,6 @@ module _ (cache : Cache) (old mid now : Told) (stays : mid ≡ old) (handle : �
           (λ (e : object.doomed ≡ false).
           cleaned-done cache old mid now stays handle small b bound new frees others object was (sym same-mark ∙ e) bytes result (cleans e) stands ok last still counts.handles (counts-same e) charged charge counts.open_bytes says moment)
           (cases_Bool object.doomed)
-
--- ---- damages
-
--- a damage that a folder gives for what it doesn't have
-pub damaged-unless : {A : Type 0} (r : Result A Fault) (told : Told) (P : Image → Type 0) → (ForSome told.files P → IfDamaged r (λ _. told.files ≡ None)) → IfDamaged r (λ _. ForSome told.files (λ image. P image → ⊥))
-damaged-unless (Ok a) told P never = tt
-damaged-unless (Err Device) told P never = tt
-damaged-unless (Err (Damaged damage)) told P never = λ image there holds. no (sym there ∙ never (λ i at. subst P (some_inj (sym there ∙ at)) holds)) where
-  no : {i : Image} → ◌≡◌ {A = Option Image} (Some i) None → ⊥
-  no e = cc
 
 -- a fault that is handed on is no success
 pub no-freed : {A : Type 0} (q : Result A Fault) (e : Fault) → IsErrAnd q (λ (x : Fault). x ≡ e) → (P : Type 0) → OnOk q P

@@ -19,6 +19,7 @@ use Rattle.blk_model.specs.declared.Answer.TheVariants as answer
 use Rattle.blk_model.specs.declared.Refusal.TheVariants as refusal
 use Rattle.blk_format.specs.BlockFiles.{IsWellFormed}
 use Rattle.blk_format.specs.Sealed.{RecordChecks}
+use Rattle.blk_volume.specs.Loads.{Loaded}
 use Rattle.blk_volume.specs.View.{list_of}
 use Rattle.blk_laws.specs.CommandLaws.{marked, turned}
 use Rattle.blk_disk.specs.declared.tables.BlockFiles.{BlockFiles}
@@ -26,6 +27,7 @@ use Rattle.blk_disk.specs.Open.{IsOpen}
 use Rattle.blk_disk.specs.Tables.{is_node_among, is_record_among}
 use Rattle.blk_lru.proofs.NodeWords.{node_kind}
 use Rattle.blk_entry.specs.Marks.{SetsDirtyInProgress, mark_steps}
+use Rattle.blk_object.specs.Owning.{LoadsWith}
 use Rattle.blk_handles.specs.declared.open_object.OpenObject.{OpenObject}
 use Rattle.blk_handles.specs.declared.open_object.Released.{Released}
 use Rattle.blk_handles.specs.declared.open_object.Released.TheVariants as released
@@ -47,7 +49,7 @@ use Rattle.blk_cache.specs.Closing.{Cleans}
 use Rattle.blk_cache.specs.CommandClauses.{KeepsAny, OnlyNamesChange}
 use Rattle.blk_cache.specs.Looking.{charge_at}
 use Rattle.blk_cache.proofs.BoundObjects.{free-of}
-use Rattle.blk_cache.proofs.BoundRecords.{bound-checks, bound-node, bound-says}
+use Rattle.blk_cache.proofs.BoundRecords.{bound-loads, bound-node, bound-says}
 use Rattle.blk_cache.proofs.Closes.{at-place, is, layout-now, less, less-keeps, less-open, named, node-place, number, settled-keeps, within-some}
 use Rattle.blk_cache.proofs.Refusing.{says-kept}
 
@@ -165,15 +167,18 @@ module _ (cache : Cache) (handle : ℕ) (small : handle < 2 ^ 16) (b : Binding) 
       mid-here : mid.files ≡ Some image
       mid-here = ap (λ (t : Told). t.files) stays ∙ here
 
+      pub node-good : (list_of image).checks b.node ≡ true
+      node-good = nodes-check state k.layout [] image b.node it.loaded k.kept.entries at-node
+
       pub node-checks : AreBytes image → is_node_among cache.files b.node ≡ true → RecordChecks b.node image
-      node-checks bytes stands = check-as-records image b.node bytes (node_kind cache.files b.node stands) (nodes-check state k.layout [] image b.node it.loaded k.kept.entries at-node)
+      node-checks bytes stands = check-as-records image b.node bytes (node_kind cache.files b.node stands) node-good
 
       pub its-charge : charge_at image b.entry ≡ own_charge it.object
       its-charge = (bound-says state k.layout [] image k.kept.entries n b it).charge
 
     -- a folder where the cache keeps a state has its node check
-    pub mid-node : TellsBytes mid → is_node_among cache.files b.node ≡ true → ForSome old.files (KeepsAny cache) → ForSome mid.files (RecordChecks b.node)
-    mid-node bytes stands any image there = let here : old.files ≡ Some image = ap (λ (t : Told). t.files) (sym stays) ∙ there in let one : KeepsAny cache image = any image here in node-checks image here one.0 one.1 (bytes image there) stands
+    pub mid-node : ForSome old.files (KeepsAny cache) → ForSome mid.files (λ image. (list_of image).checks b.node ≡ true)
+    mid-node any image there = let here : old.files ≡ Some image = ap (λ (t : Told). t.files) (sym stays) ∙ there in let one : KeepsAny cache image = any image here in node-good image here one.0 one.1
 
     -- at each word
     pub last-stops : TellsBytes mid → is_node_among cache.files b.node ≡ true → (b.dirty ≡ true → ForSome mid.files (λ from. RecordChecks b.node from → Passes mid now (SetsDirtyInProgress from b.node 0))) → (b.dirty ≡ false → Stays mid now)
@@ -256,14 +261,14 @@ module _ (files now : BlockFiles) (bindings left : Bindings) (stand : AreBoundAm
 pub freed-last : (bindings now : Bindings) (handle : ℕ) (b : Binding) (object : OpenObject) → now ≡ set bindings handle None → WasLast bindings now b object → is_open (set bindings handle None) b.entry ≡ false
 freed-last bindings now handle b object frees was = ap (λ (bs : Bindings). is_open bs b.entry) (sym frees) ∙ was.last
 
--- where the cache keeps a state its record checks
+-- where the cache keeps a state something lies there with its record
 pub last-entry : (cache : Cache) (old : Told) (handle : ℕ) (b : Binding) (bound : binding_of cache.handles handle ≡ Some b) (new : Cache) (object : OpenObject) → WasLast cache.handles new.handles b object
-    → TellsBytes old → ForSome old.files (KeepsAny cache) → ForSome old.files (RecordChecks object.entry)
-last-entry cache old handle b bound new object was bytes any image there =
+    → ForSome old.files (KeepsAny cache) → ForSome old.files (λ image. (loaded : Loaded) × LoadsWith object.entry loaded image)
+last-entry cache old handle b bound new object was any image there =
     let one : KeepsAny cache image = any image there in
     let k : KeepsState cache one.0 image = one.1 in
-    subst (λ (o : OpenObject). RecordChecks o.entry image) (sym was.object_is)
-    (bound-checks one.0 k.layout [] image k.kept.entries (number cache one.0 image k handle b bound) b (is cache one.0 image k handle b bound) (bytes image there))
+    let it = is cache one.0 image k handle b bound in
+    (it.loaded, subst (λ (o : OpenObject). LoadsWith o.entry it.loaded image) (sym was.object_is) (bound-loads one.0 k.layout [] image k.kept.entries (number cache one.0 image k handle b bound) b it))
 
 module _ {A : Type 0} (cache : Cache) (old mid now : Told) (stays : mid ≡ old) (handle : ℕ) (small : handle < 2 ^ 16) (b : Binding) (bound : binding_of cache.handles handle ≡ Some b) (new : Cache) (frees : new.handles ≡ set cache.handles handle None) (others : OnlyNamesChange cache new)
     (object : OpenObject) (was : WasLast cache.handles new.handles b object) (alive : b.doomed ≡ false) (bytes : TellsBytes mid) (result : Result A Fault) (cleans : Cleans new.files mid now object result) (stands : is_node_among cache.files object.node ≡ true) where

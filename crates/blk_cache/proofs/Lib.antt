@@ -7,6 +7,7 @@ pub mod Starts
 pub mod MakingSteps
 pub mod CreationTimes
 pub mod Looks
+pub mod LookDamages
 pub mod NamedObjects
 pub mod Bound
 pub mod BoundObjects

@@ -10,7 +10,6 @@ use Rattle.blk_model.specs.Holding as model
 use Rattle.blk_model.specs.Room.{own_charge}
 use Rattle.blk_model.specs.State.{Object, State, live_with, object_at}
 use Rattle.blk_format.specs.BlockFiles.{is_among}
-use Rattle.blk_format.specs.Sealed.{RecordChecks}
 use Rattle.blk_volume.specs.Entries.{stream}
 use Rattle.blk_volume.specs.Found.{charge_of, row_of_loaded}
 use Rattle.blk_volume.specs.Layout.{IsPlacedAt, Layout, Represents, is_listed, rule_of}
@@ -18,6 +17,8 @@ use Rattle.blk_volume.specs.Loads.{Loaded}
 use Rattle.blk_volume.specs.Searches.{HasCheckedKey, IsOfLive, chained_for}
 use Rattle.blk_volume.specs.View.{RecordFields, entry_at, stands_as, store_of, view_of}
 use Rattle.blk_format.specs.Address.{rankings}
+use Rattle.blk_object.specs.Owning.{LoadsWith}
+use Rattle.blk_object.proofs.OwnedPlaces.{kept-load}
 use Rattle.blk_laws.specs.SearchLaws.{IsSearchable}
 use Rattle.blk_laws.proofs.chains.ChainWords.{shown-fields}
 use Rattle.blk_laws.proofs.chains.Searches.{found-live, searchable}
@@ -99,11 +100,8 @@ module _ (state : State) (layout : Layout) (unlinked : List ℕ) (image : Image)
     node-word : (entry_at image entry).rankings_node ≡ found.has_key.fields.rankings_node
     node-word = ap (λ (z : RecordFields). z.rankings_node) (shown-fields image entry found.has_key.fields found.has_key.here)
 
-    pub found-checks : AreBytes image → RecordChecks entry image
-    found-checks bytes =
-        let s : IsSearchable (view_of image) key = searchable (view_of image) state layout k.represents key in
-        let c : HasCheckedKey (store_of image) entry = s.keys entry there in
-        keyed-checks image entry bytes (record { fields = c.fields; here = c.here; good = c.checks; key = readable image entry c })
+    pub found-loads : (loaded : Loaded) × LoadsWith entry loaded image
+    found-loads = let l : IsOfLive state layout key entry found.has_key.fields.rankings_node = of-live in (l.loaded, subst (λ (w : ℕ). LoadsWith w l.loaded image) l.contents (kept-load state layout unlinked image found.has_key.fields.rankings_node l.loaded k l.at))
 
     pub found-names : (files : BlockFiles) → Agrees files image → is_node_among files (entry_at image entry).rankings_node ≡ true
     found-names files agrees =

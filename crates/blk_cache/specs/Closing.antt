@@ -1,20 +1,15 @@
 -- What the last Close of an object does to it, and what the cache counts then.
-use Rattle.std.specs.Prelude.{◌≡◌, ◌⊎◌, ◌-◌, ℕ, Bool, IsOk, OnOk, false, if◌then◌else◌, true}
+use Rattle.std.specs.Prelude.{◌≡◌, ◌-◌, ℕ, Bool, IsOk, OnOk, false, if◌then◌else◌, true}
 use Rattle.std.specs.Option.{ForSome}
-use Rattle.std.specs.declared.option.Option.TheVariants.{Some}
 use Rattle.std.specs.declared.result.Result.{Result}
 use Rattle.blk_image.specs.Image.{Image}
 use Rattle.blk_image.specs.Told.{Passes, Stays, Told}
-use Rattle.blk_format.specs.Sealed.{RecordChecks, record_size}
 use Rattle.blk_volume.specs.Loads.{Loaded}
 use Rattle.blk_volume.specs.Sound.{words_of}
-use Rattle.blk_io.specs.declared.fault.Damage.{Damage}
+use Rattle.blk_volume.specs.View.{list_of}
 use Rattle.blk_io.specs.declared.fault.Fault.{Fault}
 use Rattle.blk_disk.specs.declared.tables.BlockFiles.{BlockFiles}
-use Rattle.blk_disk.specs.Damages.{IsFailedRecord}
 use Rattle.blk_handles.specs.declared.open_object.OpenObject.{OpenObject}
-use Rattle.blk_handles.specs.Bindings.{Binding, Bindings, binding_of}
-use Rattle.blk_entry.specs.Keys.{IsHeadDamage}
 use Rattle.blk_entry.specs.Marks.{SetsDirty}
 use Rattle.blk_object.specs.Freeing.{AreFreeable, AreGoing, Removes}
 use Rattle.blk_object.specs.Owning.{LoadsWith}
@@ -47,7 +42,7 @@ pub record FreesAll {A : Type 0} (old new : Told) (entry : ℕ) (result : Result
 -- What is asked of an end: where the object is doomed something lies there with its record that may be freed, and else its node checks
 abbrev pub MayEnd : (doomed : Bool) (entry node : ℕ) → Image → Type 0
 MayEnd true entry node image = HasFreeable entry image
-MayEnd false entry node image = RecordChecks node image
+MayEnd false entry node image = (list_of image).checks node ≡ true
 
 -- What is counted.
 
@@ -61,20 +56,3 @@ pub record CountsClosed (old new : Cache) (doomed : Bool) (charge : ℕ) : Type 
   pub files : new.files ≡ old.files
   pub mark : new.mark ≡ old.mark
   pub notes : new.notes ≡ old.notes
-
--- Damages.
-
--- nothing lies there with a record that may be freed
-abbrev pub HasNoFreeable : ℕ → Image → Type 0
-HasNoFreeable entry image = HasFreeable entry image → ⊥
-
--- a damage of an end: the folder has not what was to be freed of a doomed object, or the node fails its check or has too few bytes
-abbrev pub IsEndDamage : (doomed : Bool) (entry node : ℕ) → Told → Damage → Type 0
-IsEndDamage true entry node told damage = ForSome told.files (HasNoFreeable entry)
-IsEndDamage false entry node told damage = IsFailedRecord told node (record_size node) damage
-
--- the damages of a Close: of the record of its object, or of the end of it
-pub record IsCloseDamage (bindings : Bindings) (told : Told) (handle : ℕ) (damage : Damage) : Type 0 where
-  pub object : Binding
-  pub here : binding_of bindings handle ≡ Some object
-  pub wrong : IsHeadDamage told object.entry damage ⊎ IsEndDamage object.doomed object.entry object.node told damage

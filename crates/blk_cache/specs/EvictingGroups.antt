@@ -11,6 +11,7 @@ use Rattle.blk_format.specs.Records.{child, parent}
 use Rattle.blk_volume.specs.Entries.{IsParent, IsPart, IsPlain, Role}
 use Rattle.blk_volume.specs.Layout.{Layout, is_listed}
 use Rattle.blk_volume.specs.Loads.{Loaded}
+use Rattle.blk_entry.specs.Keys.{key_bytes}
 use Rattle.blk_kept.specs.Changes.{SameSession}
 use Rattle.blk_kept.specs.Keeping.{Keeps, KeepsUncounted}
 use Rattle.blk_object.specs.FindingOut.{is_child_item}
@@ -34,6 +35,10 @@ kind_of_role (IsPart name index) = Part
 -- what kind of entry the flags of a record say
 abbrev pub kind_said : ℕ → EntryKind
 kind_said flags = if flags == parent then Parent else if flags == child then Part else Plain
+
+-- these are the bytes of the key of a record
+abbrev pub IsNameOf : (entry : ℕ) → List ℕ → Image → Type 0
+IsNameOf entry name image = key_bytes image entry ≡ name
 
 -- the kind of what lies there is told, and its key is at the front of some bytes
 pub record IsNamedAs (loaded : Loaded) (named : Named) (bytes : List ℕ) : Type 0 where

@@ -5,6 +5,7 @@ ghost use Rattle.blk_image.specs.Told.{Rises, Stays};
 ghost use Rattle.blk_io.specs.Faults.{IfDamaged, IfDevice};
 ghost use Rattle.blk_model.specs.State.{State};
 ghost use Rattle.blk_disk.specs.Tables.{Agrees};
+ghost use Rattle.blk_object.specs.FailedChecks.{IsFailedCheck};
 ghost use Rattle.blk_cache.specs.Asking.{IsAskDamage, IsAsked, StandsAmong, early_stream_refusal, keeps_stream};
 ghost use Rattle.blk_cache.specs.declared.asking.Asked.TheVariants as asked;
 ghost use Rattle.blk_cache.specs.CacheKeeping.{KeepsState};
@@ -55,6 +56,7 @@ impl Cache {
         ensures stands { IfOk result (StandsAmong self.now.files stream) }
         ensures stays { Stays (F.told f.old) (F.told f.new) }
         ensures damaged { IfDamaged result (IsAskDamage self.now.handles (F.told f.old) handle) }
+        ensures cause { IfDamaged result (IsFailedCheck self.now.files (F.told f.new)) }
         ensures untold { ForSome (F.told f.old).files (KeepsAny self.now) → IfDamaged result (λ _. (F.told f.old).files ≡ None) }
         ensures later { F.faults f.old ≤ F.faults f.new }
         ensures device { IfDevice result (Rises (F.faults f.old) (F.faults f.new)) }

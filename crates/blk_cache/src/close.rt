@@ -7,13 +7,15 @@ ghost use Rattle.blk_model.specs.Request.{to_close};
 ghost use Rattle.blk_disk.specs.Open.{IsOpen};
 ghost use Rattle.blk_disk.specs.Tables.{is_node_among, is_record_among};
 ghost use Rattle.blk_disk.specs.Damages.{IsFailedRecord};
-ghost use Rattle.blk_format.specs.Sealed.{RecordChecks, record_size};
+ghost use Rattle.blk_format.specs.Sealed.{record_size};
+ghost use Rattle.blk_volume.specs.View.{list_of};
 ghost use Rattle.blk_model.specs.declared.Answer.TheVariants as answer;
 ghost use Rattle.blk_model.specs.declared.Refusal.TheVariants as refusal;
 ghost use Rattle.blk_handles.specs.Bindings.{AreShared, binding_of, is_open, open_object};
 ghost use Rattle.blk_kept.specs.Commands.{Does, MayStopAtEach};
+ghost use Rattle.blk_object.specs.FailedChecks.{IsFailedCheck};
 ghost use Rattle.blk_cache.specs.CacheKeeping.{KeepsState};
-ghost use Rattle.blk_cache.specs.Closing.{Cleans, CountsClosed, FreesAll, HasFreeable, IsCloseDamage, IsEndDamage, MayEnd};
+ghost use Rattle.blk_cache.specs.Closing.{Cleans, CountsClosed, FreesAll, HasFreeable, MayEnd};
 ghost use Rattle.blk_cache.specs.CommandClauses.{IsRefused, KeepsAny, OnlyNamesChange};
 
 use crate::cache::Cache;
@@ -50,8 +52,10 @@ impl Cache {
         ensures is_open { ForSome (F.told f.new).files (IsOpen self.new.files) }
         ensures notes { self.new.notes ≡ self.old.notes }
 
+        // A damage is a check that fails on what is read here; nothing is written after it.
+        ensures damaged { IfDamaged result (IsFailedCheck self.new.files (F.told f.new)) }
+
         // A folder that tells its files gives no damage where the cache keeps a state.
-        ensures damaged { IfDamaged result (IsCloseDamage self.old.handles (F.told f.old) handle) }
         ensures untold { ForSome (F.told f.old).files (KeepsAny self.old) → IfDamaged result (λ _. (F.told f.old).files ≡ None) }
         ensures silent { (F.told f.old).files ≡ None → (F.told f.new).files ≡ None }
         ensures later { F.faults f.old ≤ F.faults f.new }
@@ -103,7 +107,7 @@ fn end_object<F: Folder>(f: &mut F, files: &BlockFiles, object: &OpenObject) -> 
     ensures cleans { object.now.doomed ≡ false → Cleans files.now (F.told f.old) (F.told f.new) object.now result }
     ensures frees { object.now.doomed ≡ true → FreesAll (F.told f.old) (F.told f.new) object.now.entry result }
     ensures is_open { ForSome (F.told f.new).files (IsOpen files.now) }
-    ensures damaged { IfDamaged result (IsEndDamage object.now.doomed object.now.entry object.now.node (F.told f.old)) }
+    ensures damaged { IfDamaged result (IsFailedCheck files.now (F.told f.new)) }
     ensures untold { ForSome (F.told f.old).files (MayEnd object.now.doomed object.now.entry object.now.node) → IfDamaged result (λ _. (F.told f.old).files ≡ None) }
     ensures silent { (F.told f.old).files ≡ None → (F.told f.new).files ≡ None }
     ensures later { F.faults f.old ≤ F.faults f.new }
@@ -122,6 +126,7 @@ fn free_entry<F: Folder>(f: &mut F, files: &BlockFiles, entry: Addr) -> Result<(
     requires is_open { ForSome (F.told f.old).files (IsOpen files.now) }
     ensures frees { FreesAll (F.told f.old) (F.told f.new) entry result }
     ensures is_open { ForSome (F.told f.new).files (IsOpen files.now) }
+    ensures damaged { IfDamaged result (IsFailedCheck files.now (F.told f.new)) }
     ensures untold { ForSome (F.told f.old).files (HasFreeable entry) → IfDamaged result (λ _. (F.told f.old).files ≡ None) }
     ensures silent { (F.told f.old).files ≡ None → (F.told f.new).files ≡ None }
     ensures later { F.faults f.old ≤ F.faults f.new }
@@ -138,7 +143,8 @@ fn clean<F: Folder>(f: &mut F, files: &BlockFiles, object: &OpenObject) -> Resul
     ensures cleans { Cleans files.now (F.told f.old) (F.told f.new) object.now result }
     ensures is_open { ForSome (F.told f.new).files (IsOpen files.now) }
     ensures damaged { IfDamaged result (IsFailedRecord (F.told f.old) object.now.node (record_size object.now.node)) }
-    ensures untold { ForSome (F.told f.old).files (RecordChecks object.now.node) → IfDamaged result (λ _. (F.told f.old).files ≡ None) }
+    ensures cause { IfDamaged result (IsFailedCheck files.now (F.told f.new)) }
+    ensures untold { ForSome (F.told f.old).files (λ image. (list_of image).checks object.now.node ≡ true) → IfDamaged result (λ _. (F.told f.old).files ≡ None) }
     ensures silent { (F.told f.old).files ≡ None → (F.told f.new).files ≡ None }
     ensures later { F.faults f.old ≤ F.faults f.new }
     ensures device { IfDevice result (Rises (F.faults f.old) (F.faults f.new)) }

@@ -15,6 +15,7 @@ ghost use Rattle.blk_disk.specs.Tables.{is_node_among, is_record_among};
 ghost use Rattle.blk_handles.specs.Bindings.{AreShared, binding_for, binding_of, open_with};
 ghost use Rattle.blk_kept.specs.Changes.{Finds};
 ghost use Rattle.blk_kept.specs.Commands.{Does, IsDone, MayStop, MayStopAtEach};
+ghost use Rattle.blk_object.specs.FailedChecks.{IsFailedCheck};
 ghost use Rattle.blk_object.specs.Making.{CanHaveNew};
 ghost use Rattle.blk_cache.specs.CacheKeeping.{KeepsState};
 ghost use Rattle.blk_cache.specs.CommandClauses.{IsRefused, KeepsAny, open_refusal};
@@ -65,6 +66,9 @@ impl Cache {
         ensures is_open { OnOk result (ForSome (F.told f.new).files (IsOpen self.new.files)) }
         ensures notes { self.new.notes ≡ self.old.notes }
 
+        // A damage is a check that fails on what is read here; nothing is written after it.
+        ensures damaged { IfDamaged result (IsFailedCheck self.new.files (F.told f.new)) }
+
         // A folder that tells its files gives no damage where the cache keeps a state.
         ensures untold { ForSome (F.told f.old).files (KeepsAny self.old) → IfDamaged result (λ _. (F.told f.old).files ≡ None) }
         ensures silent { (F.told f.old).files ≡ None → (F.told f.new).files ≡ None }
@@ -103,6 +107,7 @@ impl Cache {
         ensures done { IfOk result (λ given. given ≡ answer.Done) }
         ensures notes { self.new.notes ≡ self.old.notes }
         ensures is_open { OnOk result (ForSome (F.told f.new).files (IsOpen self.new.files)) }
+        ensures damaged { IfDamaged result (IsFailedCheck self.new.files (F.told f.new)) }
         ensures untold { ForSome (F.told f.old).files (IsReadyForSome self.old handle key.now) → IfDamaged result (λ _. (F.told f.old).files ≡ None) }
         ensures silent { (F.told f.old).files ≡ None → (F.told f.new).files ≡ None }
         ensures later { F.faults f.old ≤ F.faults f.new }
@@ -138,6 +143,9 @@ impl Cache {
 
         ensures notes { self.new.notes ≡ self.old.notes }
         ensures is_open { OnOk result (ForSome (F.told f.new).files (IsOpen self.new.files)) }
+
+        // A damage is a check that fails on what is read here; nothing is written after it.
+        ensures damaged { IfDamaged result (IsFailedCheck self.new.files (F.told f.new)) }
 
         // A folder that tells its files gives no damage where the cache keeps such a state.
         ensures untold { ForSome (F.told f.old).files (KeepsWithRoom self.old handle key.now) → IfDamaged result (λ _. (F.told f.old).files ≡ None) }

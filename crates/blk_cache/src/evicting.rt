@@ -9,6 +9,7 @@ ghost use Rattle.blk_script.specs.Reply.{evicted_text};
 ghost use Rattle.blk_disk.specs.Open.{IsOpen};
 ghost use Rattle.blk_disk.specs.Tables.{is_node_among, is_record_among};
 ghost use Rattle.blk_kept.specs.Commands.{ForKept};
+ghost use Rattle.blk_object.specs.FailedChecks.{IsFailedCheck};
 ghost use Rattle.blk_object.specs.RemovingObjects.{FindsEither};
 ghost use Rattle.blk_cache.specs.CacheKeeping.{KeepsState};
 ghost use Rattle.blk_cache.specs.CommandClauses.{KeepsAny};
@@ -51,6 +52,9 @@ impl Cache {
         ensures others { OnlyItemsChange self.old self.new }
         ensures is_open { ForSome (F.told f.new).files (IsOpen self.new.files) }
 
+        // A damage is a check that fails on what is read here; nothing is written after it.
+        ensures damaged { IfDamaged result (IsFailedCheck self.new.files (F.told f.new)) }
+
         // A folder that tells its files gives no damage where the cache keeps a state.
         ensures untold { ForSome (F.told f.old).files (KeepsAny self.old) → IfDamaged result (λ _. (F.told f.old).files ≡ None) }
         ensures silent { (F.told f.old).files ≡ None → (F.told f.new).files ≡ None }
@@ -81,6 +85,7 @@ impl Cache {
         ensures fails { FailsWhereItRose failed.old failed.new (K.faults out.old) (K.faults out.new) }
         ensures others { OnlyItemsChange self.old self.new }
         ensures is_open { ForSome (F.told f.new).files (IsOpen self.new.files) }
+        ensures damaged { IfDamaged result (IsFailedCheck self.new.files (F.told f.new)) }
         ensures untold { ForSome (F.told f.old).files (KeepsAny self.old) → IfDamaged result (λ _. (F.told f.old).files ≡ None) }
         ensures silent { (F.told f.old).files ≡ None → (F.told f.new).files ≡ None }
         ensures later { F.faults f.old ≤ F.faults f.new }
@@ -123,6 +128,7 @@ impl Cache {
         ensures fails { FailsWhereItRose failed.old failed.new (K.faults out.old) (K.faults out.new) }
         ensures others { OnlyItemsChange self.old self.new }
         ensures is_open { ForSome (F.told f.new).files (IsOpen self.new.files) }
+        ensures damaged { IfDamaged result (IsFailedCheck self.new.files (F.told f.new)) }
         ensures untold { ForSome (F.told f.old).files (KeepsLastAt self.old found.now) → IfDamaged result (λ _. (F.told f.old).files ≡ None) }
         ensures silent { (F.told f.old).files ≡ None → (F.told f.new).files ≡ None }
         ensures later { F.faults f.old ≤ F.faults f.new }

@@ -15,9 +15,10 @@ ghost use Rattle.blk_ranges.specs.ChildNames.{name_within};
 ghost use Rattle.blk_disk.specs.Open.{IsOpen};
 ghost use Rattle.blk_disk.specs.Tables.{is_node_among, is_record_among, stands_among};
 ghost use Rattle.blk_kept.specs.Changes.{SameSession};
+ghost use Rattle.blk_object.specs.FailedChecks.{IsFailedCheck};
 ghost use Rattle.blk_object.specs.Removing.{LiesBehind};
 ghost use Rattle.blk_object.specs.RemovingObjects.{FindsEither};
-ghost use Rattle.blk_cache.specs.EvictingGroups.{ForEachGoing, ForEachListed, ForEachOfKind, IsGroupOut, alone_kind, text_of_parts};
+ghost use Rattle.blk_cache.specs.EvictingGroups.{ForEachGoing, ForEachListed, ForEachOfKind, IsGroupOut, IsNameOf, alone_kind, text_of_parts};
 ghost use Rattle.blk_cache.specs.NameRoom.{name_room};
 ghost use Rattle.blk_cache.specs.RoomPrinting.{FailsWhereItRose, Prints};
 ghost use Rattle.blk_sparse.specs.Parents.{ForEachParent, IsGoneWhole, IsGroupTold};
@@ -64,6 +65,7 @@ pub(crate) fn evict_group<F: Folder, K: Sink>(
     ensures quiet { failed.old ≡ true → (failed.new ≡ true) × (K.written out.new ≡ K.written out.old) }
     ensures fails { FailsWhereItRose failed.old failed.new (K.faults out.old) (K.faults out.new) }
     ensures is_open { ForSome (F.told f.new).files (IsOpen files.now) }
+    ensures damaged { IfDamaged result (IsFailedCheck files.now (F.told f.new)) }
     ensures untold { ForSome (F.told f.old).files (λ from. ForEachGoing found.now from (λ state layout group. IfDamaged result (λ _. (F.told f.old).files ≡ None))) }
     ensures silent { (F.told f.old).files ≡ None → (F.told f.new).files ≡ None }
     ensures later { F.faults f.old ≤ F.faults f.new }
@@ -100,6 +102,7 @@ fn evict_plain<F: Folder, K: Sink>(
     ensures quiet { failed.old ≡ true → (failed.new ≡ true) × (K.written out.new ≡ K.written out.old) }
     ensures fails { FailsWhereItRose failed.old failed.new (K.faults out.old) (K.faults out.new) }
     ensures is_open { ForSome (F.told f.new).files (IsOpen files.now) }
+    ensures damaged { ForSome (F.told f.old).files (IsNameOf found.now.entry key.now) → IfDamaged result (IsFailedCheck files.now (F.told f.new)) }
     ensures untold { ForSome (F.told f.old).files (λ from. ForEachOfKind found.now EntryKind.Plain key.now from (λ state layout group. IfDamaged result (λ _. (F.told f.old).files ≡ None))) }
     ensures silent { (F.told f.old).files ≡ None → (F.told f.new).files ≡ None }
     ensures later { F.faults f.old ≤ F.faults f.new }
@@ -129,6 +132,7 @@ fn evict_part<F: Folder, K: Sink>(
     ensures quiet { failed.old ≡ true → (failed.new ≡ true) × (K.written out.new ≡ K.written out.old) }
     ensures fails { FailsWhereItRose failed.old failed.new (K.faults out.old) (K.faults out.new) }
     ensures is_open { ForSome (F.told f.new).files (IsOpen files.now) }
+    ensures damaged { ForSome (F.told f.old).files (IsNameOf found.now.entry name.now) → IfDamaged result (IsFailedCheck files.now (F.told f.new)) }
     ensures untold { ForSome (F.told f.old).files (λ from. ForEachOfKind found.now EntryKind.Part name.now from (λ state layout group. IfDamaged result (λ _. (F.told f.old).files ≡ None))) }
     ensures silent { (F.told f.old).files ≡ None → (F.told f.new).files ≡ None }
     ensures later { F.faults f.old ≤ F.faults f.new }
@@ -164,6 +168,7 @@ fn evict_parent<F: Folder, K: Sink>(
     ensures quiet { failed.old ≡ true → (failed.new ≡ true) × (K.written out.new ≡ K.written out.old) }
     ensures fails { FailsWhereItRose failed.old failed.new (K.faults out.old) (K.faults out.new) }
     ensures is_open { ForSome (F.told f.new).files (IsOpen files.now) }
+    ensures damaged { ForSome (F.told f.old).files (IsNameOf found.now.entry key.now) → IfDamaged result (IsFailedCheck files.now (F.told f.new)) }
     ensures untold { ForSome (F.told f.old).files (λ from. ForEachOfKind found.now EntryKind.Parent key.now from (λ state layout group. IfDamaged result (λ _. (F.told f.old).files ≡ None))) }
     ensures silent { (F.told f.old).files ≡ None → (F.told f.new).files ≡ None }
     ensures later { F.faults f.old ≤ F.faults f.new }
@@ -215,6 +220,7 @@ fn remove_parent<F: Folder, K: Sink>(
     ensures fails { FailsWhereItRose failed.old failed.new (K.faults out.old) (K.faults out.new) }
     ensures stops { ForSome (F.told f.old).files (λ from. ForEachParent key.now node at.now.entry at.now.before from (λ state layout unlinked number object. Passes (F.told f.old) (F.told f.new) (FindsEither state (doomed number state (Some object))))) }
     ensures is_open { ForSome (F.told f.new).files (IsOpen files.now) }
+    ensures damaged { IfDamaged result (IsFailedCheck files.now (F.told f.new)) }
     ensures untold { ForSome (F.told f.old).files (λ from. ForEachParent key.now node at.now.entry at.now.before from (λ state layout unlinked number object. IfDamaged result (λ _. (F.told f.old).files ≡ None))) }
     ensures silent { (F.told f.old).files ≡ None → (F.told f.new).files ≡ None }
     ensures later { F.faults f.old ≤ F.faults f.new }
@@ -248,6 +254,7 @@ fn remove_alone<F: Folder>(
     ensures out { IfOk result (λ gone. ForSome (F.told f.old).files (λ from. ForEachOfKind found.now (alone_kind is_child) name.now from (λ state layout group. ForSome (F.told f.new).files (IsGroupOut state layout group gone from)))) }
     ensures stops { ForSome (F.told f.old).files (λ from. ForEachOfKind found.now (alone_kind is_child) name.now from (λ state layout group. Passes (F.told f.old) (F.told f.new) (FindsEither state (without (group ∷ []) state)))) }
     ensures is_open { ForSome (F.told f.new).files (IsOpen files.now) }
+    ensures damaged { ForSome (F.told f.old).files (IsNameOf found.now.entry name.now) → IfDamaged result (IsFailedCheck files.now (F.told f.new)) }
     ensures untold { ForSome (F.told f.old).files (λ from. ForEachOfKind found.now (alone_kind is_child) name.now from (λ state layout group. IfDamaged result (λ _. (F.told f.old).files ≡ None))) }
     ensures silent { (F.told f.old).files ≡ None → (F.told f.new).files ≡ None }
     ensures later { F.faults f.old ≤ F.faults f.new }
@@ -275,6 +282,7 @@ fn find_listed<F: Folder>(
     ensures kind_before { IfOk result (λ at. IfSome at.before (λ before. kind_of before ≡ blocks_256)) }
     ensures stands_before { IfOk result (λ at. IfSome at.before (λ before. IsTrue (stands_among files.now before))) }
     ensures stays { Stays (F.told f.old) (F.told f.new) }
+    ensures damaged { ForSome (F.told f.old).files (IsNameOf entry name.now) → IfDamaged result (IsFailedCheck files.now (F.told f.new)) }
     ensures untold { ForSome (F.told f.old).files (IsOpen files.now) → ForSome (F.told f.old).files (λ image. ForEachListed name.now is_child image (λ state layout item was. IfDamaged result (λ _. (F.told f.old).files ≡ None))) }
     ensures later { F.faults f.old ≤ F.faults f.new }
     ensures device { IfDevice result (Rises (F.faults f.old) (F.faults f.new)) }

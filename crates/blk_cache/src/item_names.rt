@@ -1,13 +1,14 @@
 // What an item is, by its record: its kind, and its key or name.
-ghost use Rattle.std.specs.Prelude.{◌≡◌, ◌≤◌, IfOk, IsTrue, None, length};
+ghost use Rattle.std.specs.Prelude.{◌≡◌, ◌≤◌, IfOk, IsTrue, None, length, take};
 ghost use Rattle.std.specs.Option.{ForSome};
 ghost use Rattle.blk_image.specs.Told.{Rises, Stays};
 ghost use Rattle.blk_io.specs.Faults.{IfDamaged, IfDevice};
 ghost use Rattle.blk_volume.specs.Loads.{Loaded};
 ghost use Rattle.blk_disk.specs.Tables.{Agrees, is_record_among};
 ghost use Rattle.blk_entry.specs.Keys.{most_key};
+ghost use Rattle.blk_object.specs.FailedChecks.{IsFailedCheck};
 ghost use Rattle.blk_object.specs.Owning.{LoadsWith};
-ghost use Rattle.blk_cache.specs.EvictingGroups.{IsNamedAs, kind_said};
+ghost use Rattle.blk_cache.specs.EvictingGroups.{IsNameOf, IsNamedAs, kind_said};
 
 use blk_addr::Addr;
 use blk_disk::BlockFiles;
@@ -50,8 +51,10 @@ pub(crate) fn read_name<F: Folder>(
     requires stands { IsTrue (is_record_among files.now entry) }
     requires room { most_key ≤ length room.old }
     ensures named { IfOk result (λ named. ForSome (F.told f.old).files (λ image. (loaded : Loaded) → LoadsWith entry loaded image → IsNamedAs loaded named room.new)) }
+    ensures read { IfOk result (λ named. ForSome (F.told f.old).files (IsNameOf entry (take named.len room.new))) }
     ensures within { IfOk result (λ named. named.len ≤ length room.old) }
     ensures stays { Stays (F.told f.old) (F.told f.new) }
+    ensures damaged { IfDamaged result (IsFailedCheck files.now (F.told f.new)) }
     ensures untold { ForSome (F.told f.old).files (Agrees files.now) → ForSome (F.told f.old).files (λ image. (loaded : Loaded) × LoadsWith entry loaded image) → IfDamaged result (λ _. (F.told f.old).files ≡ None) }
     ensures later { F.faults f.old ≤ F.faults f.new }
     ensures device { IfDevice result (Rises (F.faults f.old) (F.faults f.new)) }

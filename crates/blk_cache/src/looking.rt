@@ -3,15 +3,16 @@ ghost use Rattle.std.specs.Prelude.{◌≡◌, ◌≤◌, ◌<◌, ◌^◌, ℕ,
 ghost use Rattle.std.specs.Option.{ForSome};
 ghost use Rattle.blk_image.specs.Told.{Rises, Stays};
 ghost use Rattle.blk_format.specs.Address.{blocks_256, kind_of};
-ghost use Rattle.blk_format.specs.Sealed.{RecordChecks};
 ghost use Rattle.blk_io.specs.Faults.{IfDamaged, IfDevice};
 ghost use Rattle.blk_model.specs.State.{State};
 ghost use Rattle.blk_volume.specs.Layout.{Layout};
+ghost use Rattle.blk_volume.specs.Loads.{Loaded};
 ghost use Rattle.blk_volume.specs.View.{entry_at};
 ghost use Rattle.blk_disk.specs.Open.{IsOpen};
 ghost use Rattle.blk_disk.specs.Tables.{Agrees, is_node_among, is_record_among, stands_among};
 ghost use Rattle.blk_entry.specs.Keys.{IsHeadDamage};
 ghost use Rattle.blk_kept.specs.Keeping.{KeepsUncounted};
+ghost use Rattle.blk_object.specs.Owning.{LoadsWith};
 ghost use Rattle.blk_cache.specs.Looking.{IsEntryDamage, IsLive, IsLookDamage, KeepsSomeState, charge_at, charge_said};
 
 use blk_addr::Addr;
@@ -60,7 +61,7 @@ fn read_live<F: Folder>(f: &mut F, files: &BlockFiles, entry: Addr) -> Result<Li
     ensures stands { IfOk result (λ live. IsTrue (is_node_among files.now live.node)) }
     ensures stays { Stays (F.told f.old) (F.told f.new) }
     ensures damaged { IfDamaged result (IsEntryDamage files.now (F.told f.old) entry) }
-    ensures untold { ForSome (F.told f.old).files (Agrees files.now) → ForSome (F.told f.old).files (RecordChecks entry) → ForSome (F.told f.old).files (λ image. is_node_among files.now (entry_at image entry).rankings_node ≡ true) → IfDamaged result (λ _. (F.told f.old).files ≡ None) }
+    ensures untold { ForSome (F.told f.old).files (Agrees files.now) → ForSome (F.told f.old).files (λ image. (loaded : Loaded) × LoadsWith entry loaded image) → ForSome (F.told f.old).files (λ image. is_node_among files.now (entry_at image entry).rankings_node ≡ true) → IfDamaged result (λ _. (F.told f.old).files ≡ None) }
     ensures later { F.faults f.old ≤ F.faults f.new }
     ensures device { IfDevice result (Rises (F.faults f.old) (F.faults f.new)) }
 {
@@ -85,7 +86,7 @@ pub(crate) fn read_charge<F: Folder>(
     ensures charge { IfOk result (λ charge. ForSome (F.told f.old).files (λ image. charge ≡ charge_at image entry)) }
     ensures stays { Stays (F.told f.old) (F.told f.new) }
     ensures damaged { IfDamaged result (IsHeadDamage (F.told f.old) entry) }
-    ensures untold { ForSome (F.told f.old).files (Agrees files.now) → ForSome (F.told f.old).files (RecordChecks entry) → IfDamaged result (λ _. (F.told f.old).files ≡ None) }
+    ensures untold { ForSome (F.told f.old).files (Agrees files.now) → ForSome (F.told f.old).files (λ image. (loaded : Loaded) × LoadsWith entry loaded image) → IfDamaged result (λ _. (F.told f.old).files ≡ None) }
     ensures later { F.faults f.old ≤ F.faults f.new }
     ensures device { IfDevice result (Rises (F.faults f.old) (F.faults f.new)) }
 {

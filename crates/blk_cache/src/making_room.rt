@@ -11,6 +11,7 @@ ghost use Rattle.blk_model.specs.State.{State};
 ghost use Rattle.blk_script.specs.Reply.{evicted_text};
 ghost use Rattle.blk_disk.specs.Open.{IsOpen};
 ghost use Rattle.blk_kept.specs.Commands.{ForKept};
+ghost use Rattle.blk_object.specs.FailedChecks.{IsFailedCheck};
 ghost use Rattle.blk_cache.specs.CacheKeeping.{KeepsState};
 ghost use Rattle.blk_cache.specs.CommandClauses.{KeepsAny};
 ghost use Rattle.blk_cache.specs.Evicting.{IsEvicting, OnlyItemsChange};
@@ -65,6 +66,9 @@ impl Cache {
         ensures fails { FailsWhereItRose failed.old failed.new (K.faults out.old) (K.faults out.new) }
         ensures others { OnlyItemsChange self.old self.new }
         ensures is_open { ForSome (F.told f.new).files (IsOpen self.new.files) }
+
+        // A damage is a check that fails on what is read here; nothing is written after it.
+        ensures damaged { IfDamaged result (IsFailedCheck self.new.files (F.told f.new)) }
 
         // A folder that tells its files gives no damage where the cache keeps a state.
         ensures untold { ForSome (F.told f.old).files (KeepsAny self.old) → IfDamaged result (λ _. (F.told f.old).files ≡ None) }

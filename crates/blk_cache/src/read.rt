@@ -10,6 +10,7 @@ ghost use Rattle.blk_disk.specs.Tables.{is_node_among};
 ghost use Rattle.blk_kept.specs.Commands.{Does, MayStopAtEach};
 ghost use Rattle.blk_lru.specs.Damages.{IsTouchDamage};
 ghost use Rattle.blk_lru.specs.Lists.{IsListed};
+ghost use Rattle.blk_object.specs.FailedChecks.{IsFailedCheck};
 ghost use Rattle.blk_cache.specs.Asking.{early_stream_refusal};
 ghost use Rattle.blk_cache.specs.CacheKeeping.{KeepsState};
 ghost use Rattle.blk_cache.specs.CommandClauses.{IsRefused, KeepsAny};
@@ -50,6 +51,7 @@ impl Cache {
 
         // A folder that tells its files gives no damage where the cache keeps a state.
         ensures damaged { IfDamaged result (IsReadDamage self.now.handles self.now.files (F.told f.old) (F.told f.new) handle) }
+        ensures cause { IfDamaged result (IsFailedCheck self.now.files (F.told f.new)) }
         ensures untold { ForSome (F.told f.old).files (KeepsAny self.now) → IfDamaged result (λ _. (F.told f.old).files ≡ None) }
         ensures silent { (F.told f.old).files ≡ None → (F.told f.new).files ≡ None }
         ensures later { F.faults f.old ≤ F.faults f.new }

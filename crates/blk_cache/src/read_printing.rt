@@ -8,6 +8,7 @@ ghost use Rattle.blk_model.specs.Reply.{gave};
 ghost use Rattle.blk_disk.specs.Tables.{is_record_among};
 ghost use Rattle.blk_script.specs.Reply.{reply_text};
 ghost use Rattle.blk_script.specs.Spelling.{data_text, number_text};
+ghost use Rattle.blk_object.specs.FailedChecks.{IsFailedCheck};
 ghost use Rattle.blk_cache.specs.CommandClauses.{KeepsAny};
 ghost use Rattle.blk_cache.specs.ReadPrinting.{ForRead, HasBytes, PrintsInPart};
 ghost use Rattle.blk_cache.specs.RoomPrinting.{FailsWhereItRose, Prints};
@@ -54,6 +55,7 @@ impl Cache {
         ensures part { ForRead self.now (F.told f.old) handle stream offset count (PrintsInPart failed.old (K.written out.old) (K.written out.new)) }
         ensures failed { FailsWhereItRose failed.old failed.new (K.faults out.old) (K.faults out.new) }
         ensures stays { Stays (F.told f.old) (F.told f.new) }
+        ensures damaged { IfDamaged result (IsFailedCheck self.now.files (F.told f.new)) }
         ensures untold { ForSome (F.told f.old).files (KeepsAny self.now) → IfDamaged result (λ _. (F.told f.old).files ≡ None) }
         ensures later { F.faults f.old ≤ F.faults f.new }
         ensures later_out { K.faults out.old ≤ K.faults out.new }
@@ -90,6 +92,7 @@ fn print_range<F: Folder, K: Sink>(
     ensures part { ForSome (F.told f.old).files (λ image. (p : HasBytes files.now range.now image) → PrintsInPart failed.old (K.written out.old) (K.written out.new) (reply_text (gave p.bytes))) }
     ensures failed { FailsWhereItRose failed.old failed.new (K.faults out.old) (K.faults out.new) }
     ensures stays { Stays (F.told f.old) (F.told f.new) }
+    ensures damaged { IfDamaged result (IsFailedCheck files.now (F.told f.new)) }
     ensures untold { ForSome (F.told f.old).files (HasBytes files.now range.now) → IfDamaged result (λ _. (F.told f.old).files ≡ None) }
     ensures later { F.faults f.old ≤ F.faults f.new }
     ensures later_out { K.faults out.old ≤ K.faults out.new }
@@ -116,6 +119,7 @@ fn print_data<F: Folder, K: Sink>(
     ensures part { ForSome (F.told f.old).files (λ image. (p : HasBytes files.now range.now image) → PrintsInPart failed.old (K.written out.old) (K.written out.new) (data_text p.bytes)) }
     ensures failed { FailsWhereItRose failed.old failed.new (K.faults out.old) (K.faults out.new) }
     ensures stays { Stays (F.told f.old) (F.told f.new) }
+    ensures damaged { IfDamaged result (IsFailedCheck files.now (F.told f.new)) }
     ensures untold { ForSome (F.told f.old).files (HasBytes files.now range.now) → IfDamaged result (λ _. (F.told f.old).files ≡ None) }
     ensures later { F.faults f.old ≤ F.faults f.new }
     ensures later_out { K.faults out.old ≤ K.faults out.new }
@@ -143,6 +147,7 @@ fn print_pieces<F: Folder, K: Sink>(
     ensures part { ForSome (F.told f.old).files (λ image. (p : HasBytes files.now range.now image) → PrintsInPart failed.old (K.written out.old) (K.written out.new) (encode_lower p.bytes)) }
     ensures failed { FailsWhereItRose failed.old failed.new (K.faults out.old) (K.faults out.new) }
     ensures stays { Stays (F.told f.old) (F.told f.new) }
+    ensures damaged { IfDamaged result (IsFailedCheck files.now (F.told f.new)) }
     ensures untold { ForSome (F.told f.old).files (HasBytes files.now range.now) → IfDamaged result (λ _. (F.told f.old).files ≡ None) }
     ensures later { F.faults f.old ≤ F.faults f.new }
     ensures later_out { K.faults out.old ≤ K.faults out.new }
@@ -178,6 +183,7 @@ fn print_piece<F: Folder, K: Sink>(
     ensures unprinted { OnErr result (K.written out.new ≡ K.written out.old) }
     ensures failed { FailsWhereItRose failed.old failed.new (K.faults out.old) (K.faults out.new) }
     ensures stays { Stays (F.told f.old) (F.told f.new) }
+    ensures damaged { IfDamaged result (IsFailedCheck files.now (F.told f.new)) }
     ensures untold { ForSome (F.told f.old).files (HasBytes files.now range.now) → IfDamaged result (λ _. (F.told f.old).files ≡ None) }
     ensures later { F.faults f.old ≤ F.faults f.new }
     ensures later_out { K.faults out.old ≤ K.faults out.new }
@@ -205,6 +211,7 @@ fn print_through<F: Folder, K: Sink>(
     ensures unprinted { OnErr result (K.written out.new ≡ K.written out.old) }
     ensures failed { FailsWhereItRose failed.old failed.new (K.faults out.old) (K.faults out.new) }
     ensures stays { Stays (F.told f.old) (F.told f.new) }
+    ensures damaged { IfDamaged result (IsFailedCheck files.now (F.told f.new)) }
     ensures untold { ForSome (F.told f.old).files (HasBytes files.now range.now) → IfDamaged result (λ _. (F.told f.old).files ≡ None) }
     ensures later { F.faults f.old ≤ F.faults f.new }
     ensures later_out { K.faults out.old ≤ K.faults out.new }

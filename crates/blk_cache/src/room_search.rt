@@ -9,6 +9,7 @@ ghost use Rattle.blk_volume.specs.View.{node_at};
 ghost use Rattle.blk_lru.specs.Lists.{last_node_of};
 ghost use Rattle.blk_disk.specs.Open.{IsOpen};
 ghost use Rattle.blk_disk.specs.Tables.{Agrees, is_node_among, is_record_among};
+ghost use Rattle.blk_object.specs.FailedChecks.{IsFailedCheck};
 ghost use Rattle.blk_cache.specs.CacheKeeping.{KeepsState};
 ghost use Rattle.blk_cache.specs.RoomSearch.{AreInFront, IsLast, IsPinnedFrom, IsPlaceInList, KeepsPinnedFrom};
 
@@ -41,6 +42,9 @@ impl Cache {
         ensures record_stands { IfOk result (λ found. IfSome found (λ item. IsTrue (is_record_among self.now.files item.entry))) }
         ensures next_stands { IfOk result (λ found. IfSome found (λ item. IfSome item.behind (λ node. IsTrue (is_node_among self.now.files node)))) }
         ensures stays { Stays (F.told f.old) (F.told f.new) }
+
+        // A damage is a check that fails on what is read here; nothing is written after it.
+        ensures damaged { IfDamaged result (IsFailedCheck self.now.files (F.told f.new)) }
 
         // A folder that tells its files gives no damage where the cache keeps a state.
         ensures untold { ForSome (F.told f.old).files (KeepsPinnedFrom self.now behind) → IfDamaged result (λ _. (F.told f.old).files ≡ None) }
@@ -77,6 +81,7 @@ fn in_front<F: Folder>(
     ensures node { IfOk result (λ node. ForSome (F.told f.old).files (λ image. Agrees files.now image → (front : List ℕ) → AreInFront front behind.now image → node ≡ last_node_of front)) }
     ensures stands { IfOk result (λ node. IfSome node (λ n. IsTrue (is_node_among files.now n))) }
     ensures stays { Stays (F.told f.old) (F.told f.new) }
+    ensures damaged { IfDamaged result (IsFailedCheck files.now (F.told f.new)) }
     ensures untold { ForSome (F.told f.old).files (IsOpen files.now) → ForSome (F.told f.old).files (IsPlaceInList behind.now) → IfDamaged result (λ _. (F.told f.old).files ≡ None) }
     ensures later { F.faults f.old ≤ F.faults f.new }
     ensures device { IfDevice result (Rises (F.faults f.old) (F.faults f.new)) }
@@ -93,6 +98,7 @@ pub(crate) fn record_of<F: Folder>(f: &mut F, files: &BlockFiles, node: Addr) ->
     ensures record_is { IfOk result (λ entry. ForSome (F.told f.old).files (λ image. entry ≡ (node_at image node).contents)) }
     ensures stands { IfOk result (λ entry. IsTrue (is_record_among files.now entry)) }
     ensures stays { Stays (F.told f.old) (F.told f.new) }
+    ensures damaged { IfDamaged result (IsFailedCheck files.now (F.told f.new)) }
     ensures untold { ForSome (F.told f.old).files (Agrees files.now) → ForSome (F.told f.old).files (λ image. is_record_among files.now (node_at image node).contents ≡ true) → IfDamaged result (λ _. (F.told f.old).files ≡ None) }
     ensures later { F.faults f.old ≤ F.faults f.new }
     ensures device { IfDevice result (Rises (F.faults f.old) (F.faults f.new)) }

@@ -6,6 +6,7 @@ ghost use Rattle.blk_io.specs.Faults.{IfDamaged, IfDevice};
 ghost use Rattle.blk_model.specs.Request.{to_trim};
 ghost use Rattle.blk_disk.specs.Open.{IsOpen};
 ghost use Rattle.blk_kept.specs.Commands.{Does, MayStopAtEach};
+ghost use Rattle.blk_object.specs.FailedChecks.{IsFailedCheck};
 ghost use Rattle.blk_cache.specs.CacheKeeping.{KeepsState};
 ghost use Rattle.blk_cache.specs.CommandClauses.{IsRefused, KeepsAny};
 ghost use Rattle.blk_cache.specs.RoomPrinting.{FailsWhereItRose};
@@ -40,6 +41,9 @@ impl Cache {
         ensures passes { IfOk result (λ given. IsRefused given → ⊥) }
         ensures is_open { ForSome (F.told f.new).files (IsOpen self.new.files) }
         ensures notes { self.new.notes ≡ self.old.notes }
+
+        // A damage is a check that fails on what is read here; nothing is written after it.
+        ensures damaged { IfDamaged result (IsFailedCheck self.new.files (F.told f.new)) }
 
         // A folder that tells its files gives no damage where the cache keeps a state.
         ensures untold { ForSome (F.told f.old).files (KeepsAny self.old) → IfDamaged result (λ _. (F.told f.old).files ≡ None) }

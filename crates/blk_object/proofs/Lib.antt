@@ -13,6 +13,7 @@ pub mod TakenItems
 pub mod FreedPlaces
 pub mod FreeingRuns
 pub mod Sessions
+pub mod DamageChecks
 pub mod OwnedPlaces
 pub mod OwnedCharges
 pub mod PlainObjects

@@ -2,6 +2,7 @@ pub mod Making
 pub mod Removing
 pub mod Freeing
 pub mod Owning
+pub mod FailedChecks
 pub mod Counters
 pub mod RemovingNext
 pub mod NextItems

@@ -8,7 +8,7 @@ use Rattle.blk_model.specs.Items.{Item, main, part}
 use Rattle.blk_model.specs.Sizes.{part_count}
 use Rattle.blk_model.specs.State.{State}
 use Rattle.blk_format.specs.Address.{blocks_256, kind_of}
-use Rattle.blk_format.specs.Names.{Name, child_name}
+use Rattle.blk_format.specs.Names.{Name, child_name, read_name}
 use Rattle.blk_format.specs.SparseIndex.{ParentIndex}
 use Rattle.blk_volume.specs.Entries.{IsParent, IsPart, IsPlain, Role}
 use Rattle.blk_volume.specs.Layout.{Layout, is_listed}
@@ -22,6 +22,7 @@ use Rattle.blk_chain.specs.Finding.{IsFound}
 use Rattle.blk_chain.specs.Unlinking.{StandsBehind}
 use Rattle.blk_volume.specs.Removal.{is_of_another}
 use Rattle.blk_volume.specs.Searches.{bucket_of_key}
+use Rattle.blk_entry.specs.Keys.{key_bytes}
 use Rattle.blk_object.specs.NextItems.{LiesNext}
 use Rattle.blk_object.specs.RemovingNext.{CountsLeft}
 use Rattle.blk_object.specs.declared.listed_parts.ListedPart.{ListedPart}
@@ -43,6 +44,10 @@ abbrev pub part_number : List ℕ → Role → Option ℕ
 part_number key IsPlain = None
 part_number key (IsParent index) = None
 part_number key (IsPart name index) = number_said key (Some name)
+
+-- the key of a record says that it is this part of a key
+abbrev pub SaysPart : (entry : ℕ) (key : List ℕ) (number : ℕ) → Image → Type 0
+SaysPart entry key number image = number_said key (read_name (key_bytes image entry)) ≡ Some number
 
 -- the part of a key that lies at a node, if one does
 abbrev pub part_loaded : List ℕ → ℕ → Loaded → Option ListedPart

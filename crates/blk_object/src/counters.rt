@@ -7,6 +7,7 @@ ghost use Rattle.blk_io.specs.Faults.{IfDamaged, IfDevice};
 ghost use Rattle.blk_disk.specs.Open.{IsOpen};
 ghost use Rattle.blk_kept.specs.Changes.{KeepsWith};
 ghost use Rattle.blk_object.specs.Counters.{AreCountedLess, AreCounters, AreCountersWritten};
+ghost use Rattle.blk_object.specs.FailedChecks.{IsFailedCheck, ReadsTooFew};
 ghost use Rattle.blk_object.specs.RemovingNext.{KeepsOut};
 
 use blk_disk::BlockFiles;
@@ -29,6 +30,7 @@ pub(crate) struct Counters {
 pub(crate) fn read_counters<F: Folder>(f: &mut F) -> Result<Counters, Fault>
     ensures read { IfOk result (λ counters. ForSome (F.told f.old).files (AreCounters counters)) }
     ensures stays { Stays (F.told f.old) (F.told f.new) }
+    ensures damaged { IfDamaged result (ReadsTooFew (F.told f.new)) }
     ensures untold { ForSome (F.told f.old).files HasWholeIndex → IfDamaged result (λ _. (F.told f.old).files ≡ None) }
     ensures later { F.faults f.old ≤ F.faults f.new }
     ensures device { IfDevice result (Rises (F.faults f.old) (F.faults f.new)) }
@@ -72,6 +74,7 @@ pub fn count_less<F: Folder>(f: &mut F, files: &BlockFiles, charge: u64) -> Resu
     ensures stops { ForSome (F.told f.old).files (λ from. Passes (F.told f.old) (F.told f.new) (KeepsWith [] [] from)) }
     ensures stops_out { ForSome (F.told f.old).files (λ from. Passes (F.told f.old) (F.told f.new) (KeepsOut from)) }
     ensures is_open { ForSome (F.told f.new).files (IsOpen files.now) }
+    ensures damaged { IfDamaged result (IsFailedCheck files.now (F.told f.new)) }
     ensures untold { IfDamaged result (λ _. (F.told f.old).files ≡ None) }
     ensures silent { (F.told f.old).files ≡ None → (F.told f.new).files ≡ None }
     ensures later { F.faults f.old ≤ F.faults f.new }

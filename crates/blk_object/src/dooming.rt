@@ -12,6 +12,7 @@ ghost use Rattle.blk_disk.specs.Tables.{is_node_among, stands_among};
 ghost use Rattle.blk_kept.specs.Changes.{Finds, SameSession};
 ghost use Rattle.blk_kept.specs.Keeping.{CountsItems, Keeps};
 ghost use Rattle.blk_object.specs.Dooming.{ForEachHeld, ForEachOut, IsDoomedOut, IsDoomedUncounted, layout_held};
+ghost use Rattle.blk_object.specs.FailedChecks.{IsFailedCheck};
 ghost use Rattle.blk_object.specs.RemovingObjects.{FindsEither};
 
 use crate::counters::count_less;
@@ -43,6 +44,9 @@ pub fn doom_record<F: Folder>(f: &mut F, files: &BlockFiles, entry: Addr) -> Res
     ensures stops { ForSome (F.told f.old).files (λ from. ForEachOut entry from (λ state layout number object loaded chains unlinked. Passes (F.told f.old) (F.told f.new) (Finds (rest (doomed number state (Some object)))))) }
 
     ensures is_open { ForSome (F.told f.new).files (IsOpen files.now) }
+
+    // A damage is a check that fails on what is read here; nothing is written after it.
+    ensures damaged { IfDamaged result (IsFailedCheck files.now (F.told f.new)) }
 
     // A folder that tells its files, with such an object, gives no damage.
     ensures untold { ForSome (F.told f.old).files (λ from. ForEachOut entry from (λ state layout number object loaded chains unlinked. IfDamaged result (λ _. (F.told f.old).files ≡ None))) }
@@ -85,6 +89,9 @@ pub fn doom_plain<F: Folder>(
 
     ensures is_open { ForSome (F.told f.new).files (IsOpen files.now) }
 
+    // A damage is a check that fails on what is read here; nothing is written after it.
+    ensures damaged { IfDamaged result (IsFailedCheck files.now (F.told f.new)) }
+
     // A folder that tells its files, with such an object, gives no damage.
     ensures untold { ForSome (F.told f.old).files (λ from. ForEachHeld node found.now.entry found.now.before from (λ state layout unlinked number object loaded. IfDamaged result (λ _. (F.told f.old).files ≡ None))) }
 
@@ -112,6 +119,7 @@ fn hold_out<F: Folder>(
     ensures held { OnOk result (ForSome (F.told f.old).files (λ from. ForEachHeld node found.now.entry found.now.before from (λ state layout unlinked number object loaded. ForSome (F.told f.new).files (IsDoomedUncounted state layout unlinked number object loaded from)))) }
     ensures stops { ForSome (F.told f.old).files (λ from. ForEachHeld node found.now.entry found.now.before from (λ state layout unlinked number object loaded. Passes (F.told f.old) (F.told f.new) (FindsEither state (doomed number state (Some object))))) }
     ensures is_open { ForSome (F.told f.new).files (IsOpen files.now) }
+    ensures damaged { IfDamaged result (IsFailedCheck files.now (F.told f.new)) }
     ensures untold { ForSome (F.told f.old).files (λ from. ForEachHeld node found.now.entry found.now.before from (λ state layout unlinked number object loaded. IfDamaged result (λ _. (F.told f.old).files ≡ None))) }
     ensures silent { (F.told f.old).files ≡ None → (F.told f.new).files ≡ None }
     ensures later { F.faults f.old ≤ F.faults f.new }

@@ -7,6 +7,7 @@ ghost use Rattle.blk_format.specs.BlockFiles.{stands_in, IsWellFormed};
 ghost use Rattle.blk_io.specs.Faults.{IfDamaged, IfDevice};
 ghost use Rattle.blk_disk.specs.Open.{IsOpen};
 ghost use Rattle.blk_stream.specs.Freeing.{MayBeFreed};
+ghost use Rattle.blk_object.specs.FailedChecks.{IsFailedCheck};
 ghost use Rattle.blk_object.specs.Freeing.{AreFreeable, AreGoing, IsPlaceGoing, Removes, RemovesPlace, words_at, IsPlaceAmong};
 
 use blk_addr::{Addr, Kind};
@@ -33,6 +34,9 @@ pub fn free_places<F: Folder>(
 
     ensures is_open { ForSome (F.told f.new).files (IsOpen files.now) }
 
+    // A damage is a check that fails on what is read here; nothing is written after it.
+    ensures damaged { IfDamaged result (IsFailedCheck files.now (F.told f.new)) }
+
     // A folder that tells its files gives a damage only for a place that is somebody's.
     ensures untold { ForSome (F.told f.old).files (AreFreeable (words_at places.now)) → IfDamaged result (λ _. (F.told f.old).files ≡ None) }
 
@@ -53,6 +57,7 @@ fn free_if_any<F: Folder>(f: &mut F, files: &BlockFiles, place: Option<Addr>) ->
     ensures freed { OnOk result (ForSome (F.told f.old).files (λ from. AreFreeable (words_at (place ∷ [])) from → ForSome (F.told f.new).files (Removes (words_at (place ∷ [])) from))) }
     ensures stops { ForSome (F.told f.old).files (λ from. AreFreeable (words_at (place ∷ [])) from → Passes (F.told f.old) (F.told f.new) (AreGoing (words_at (place ∷ [])) from)) }
     ensures is_open { ForSome (F.told f.new).files (IsOpen files.now) }
+    ensures damaged { IfDamaged result (IsFailedCheck files.now (F.told f.new)) }
     ensures untold { ForSome (F.told f.old).files (AreFreeable (words_at (place ∷ []))) → IfDamaged result (λ _. (F.told f.old).files ≡ None) }
     ensures silent { (F.told f.old).files ≡ None → (F.told f.new).files ≡ None }
     ensures back { (F.told f.new).files ≡ None → (F.told f.old).files ≡ None }
@@ -72,6 +77,7 @@ fn free_place<F: Folder>(f: &mut F, files: &BlockFiles, place: Addr) -> Result<(
     ensures freed { OnOk result (ForSome (F.told f.old).files (λ from. IsWellFormed from → stands_in from place ≡ true → ForSome (F.told f.new).files (RemovesPlace place from))) }
     ensures stops { ForSome (F.told f.old).files (λ from. Passes (F.told f.old) (F.told f.new) (IsPlaceGoing place from)) }
     ensures is_open { ForSome (F.told f.new).files (IsOpen files.now) }
+    ensures damaged { IfDamaged result (IsFailedCheck files.now (F.told f.new)) }
     ensures untold { ForSome (F.told f.old).files (MayBeFreed place) → IfDamaged result (λ _. (F.told f.old).files ≡ None) }
     ensures silent { (F.told f.old).files ≡ None → (F.told f.new).files ≡ None }
     ensures later { F.faults f.old ≤ F.faults f.new }

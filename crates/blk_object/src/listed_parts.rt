@@ -11,7 +11,8 @@ ghost use Rattle.blk_io.specs.Faults.{IfDamaged, IfDevice};
 ghost use Rattle.blk_disk.specs.Open.{IsOpen};
 ghost use Rattle.blk_disk.specs.Tables.{Agrees, is_node_among, stands_among};
 ghost use Rattle.blk_entry.specs.Keys.{most_key};
-ghost use Rattle.blk_object.specs.ListedParts.{ForEachSearch, IsFoundPart, IsPartThere, LoadsAt, first_node, number_said, part_loaded, part_number};
+ghost use Rattle.blk_object.specs.FailedChecks.{IsFailedCheck};
+ghost use Rattle.blk_object.specs.ListedParts.{ForEachSearch, IsFoundPart, IsPartThere, LoadsAt, SaysPart, first_node, number_said, part_loaded, part_number};
 ghost use Rattle.blk_object.specs.Owning.{LoadsWith};
 
 use blk_addr::Addr;
@@ -58,7 +59,13 @@ pub fn next_part<F: Folder>(
     ensures part { IfOk result (λ found. ForSome (F.told f.old).files (λ image. ForEachSearch from image (λ layout items. IsFoundPart layout key.now items found))) }
     ensures there { IfOk result (λ found. IfSome found (IsPartThere files.now)) }
 
+    // On every folder its record has the name of that part.
+    ensures named { IfOk result (λ found. IfSome found (λ part. ForSome (F.told f.old).files (SaysPart part.entry key.now part.number))) }
+
     ensures stays { Stays (F.told f.old) (F.told f.new) }
+
+    // A damage is a check that fails on what is read here; nothing is written after it.
+    ensures damaged { IfDamaged result (IsFailedCheck files.now (F.told f.new)) }
 
     // A folder that tells its files, in which a state is so, gives no damage.
     ensures untold { ForSome (F.told f.old).files (λ image. ForEachSearch from image (λ layout items. IfDamaged result (λ _. (F.told f.old).files ≡ None))) }
@@ -91,6 +98,7 @@ fn node_behind<F: Folder>(
     ensures node { IfOk result (λ node. ForSome (F.told f.old).files (λ image. ForEachSearch from image (λ layout items. node ≡ first_node layout items))) }
     ensures stands { IfOk result (λ node. IfSome node (λ n. IsTrue (is_node_among files.now n))) }
     ensures stays { Stays (F.told f.old) (F.told f.new) }
+    ensures damaged { IfDamaged result (IsFailedCheck files.now (F.told f.new)) }
     ensures untold { ForSome (F.told f.old).files (λ image. ForEachSearch from image (λ layout items. IfDamaged result (λ _. (F.told f.old).files ≡ None))) }
     ensures later { F.faults f.old ≤ F.faults f.new }
     ensures device { IfDevice result (Rises (F.faults f.old) (F.faults f.new)) }
@@ -113,7 +121,9 @@ fn part_at<F: Folder>(
     requires room { most_key ≤ length room.old }
     ensures part { IfOk result (λ found. ForSome (F.told f.old).files (λ image. (loaded : Loaded) → LoadsAt node loaded image → found ≡ part_loaded key.now node loaded)) }
     ensures there { IfOk result (λ found. IfSome found (IsPartThere files.now)) }
+    ensures named { IfOk result (λ found. IfSome found (λ part. ForSome (F.told f.old).files (SaysPart part.entry key.now part.number))) }
     ensures stays { Stays (F.told f.old) (F.told f.new) }
+    ensures damaged { IfDamaged result (IsFailedCheck files.now (F.told f.new)) }
     ensures untold { ForSome (F.told f.old).files (Agrees files.now) → ForSome (F.told f.old).files (λ image. (loaded : Loaded) × LoadsAt node loaded image) → IfDamaged result (λ _. (F.told f.old).files ≡ None) }
     ensures later { F.faults f.old ≤ F.faults f.new }
     ensures device { IfDevice result (Rises (F.faults f.old) (F.faults f.new)) }
@@ -136,6 +146,7 @@ fn entry_named<F: Folder>(f: &mut F, files: &BlockFiles, node: Addr) -> Result<A
     ensures kind { IfOk result (λ entry. kind_of entry ≡ blocks_256) }
     ensures stands { IfOk result (λ entry. IsTrue (stands_among files.now entry)) }
     ensures stays { Stays (F.told f.old) (F.told f.new) }
+    ensures damaged { IfDamaged result (IsFailedCheck files.now (F.told f.new)) }
     ensures untold { ForSome (F.told f.old).files (Agrees files.now) → ForSome (F.told f.old).files (λ image. (loaded : Loaded) × LoadsAt node loaded image) → IfDamaged result (λ _. (F.told f.old).files ≡ None) }
     ensures later { F.faults f.old ≤ F.faults f.new }
     ensures device { IfDevice result (Rises (F.faults f.old) (F.faults f.new)) }
@@ -166,7 +177,9 @@ fn number_of<F: Folder>(
     requires room { most_key ≤ length room.old }
     ensures number { IfOk result (λ number. ForSome (F.told f.old).files (λ image. (loaded : Loaded) → LoadsWith entry loaded image → number ≡ part_number key.now loaded.role)) }
     ensures small { IfOk result (λ number. IfSome number (λ n. n < part_count)) }
+    ensures named { IfOk result (λ number. IfSome number (λ n. ForSome (F.told f.old).files (SaysPart entry key.now n))) }
     ensures stays { Stays (F.told f.old) (F.told f.new) }
+    ensures damaged { IfDamaged result (IsFailedCheck files.now (F.told f.new)) }
     ensures untold { ForSome (F.told f.old).files (Agrees files.now) → ForSome (F.told f.old).files (λ image. (loaded : Loaded) × LoadsWith entry loaded image) → IfDamaged result (λ _. (F.told f.old).files ≡ None) }
     ensures later { F.faults f.old ≤ F.faults f.new }
     ensures device { IfDevice result (Rises (F.faults f.old) (F.faults f.new)) }

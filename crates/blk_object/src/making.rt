@@ -11,6 +11,7 @@ ghost use Rattle.blk_disk.specs.Tables.{is_node_among, is_record_among};
 ghost use Rattle.blk_entry.specs.Writing.{FitsKey, HoldsLongKey, LiesApart};
 ghost use Rattle.blk_alloc.specs.Extending.{KeepsStanding};
 ghost use Rattle.blk_kept.specs.Changes.{StillFinds};
+ghost use Rattle.blk_object.specs.FailedChecks.{IsFailedCheck};
 ghost use Rattle.blk_object.specs.Making.{CanBeListed, CreatesCanHaveNew, FindsUntilListed, FindsWhileMade, HasNewObjects, HasRoomForNew, HasTimes, IsEntryOfKept, IsListed, KeepsTimes, new_entry, words_of_places};
 
 use crate::counters::{count_entry, read_counters};
@@ -69,6 +70,9 @@ pub fn make_entry<F: Folder>(
     ensures stands { IfOk result (λ made. IsTrue (is_record_among files.new made.entry) × IsTrue (is_node_among files.new made.node)) }
     ensures is_open { OnOk result (ForSome (F.told f.new).files (IsOpen files.new)) }
 
+    // A damage is a check that fails on what is read here; nothing is written after it.
+    ensures damaged { IfDamaged result (IsFailedCheck files.new (F.told f.new)) }
+
     // A folder that tells its files, and keeps such a state, gives no damage.
     ensures untold { ForSome (F.told f.old).files (HasRoomForNew key.now mark) → IfDamaged result (λ _. (F.told f.old).files ≡ None) }
     ensures silent { (F.told f.old).files ≡ None → (F.told f.new).files ≡ None }
@@ -103,6 +107,7 @@ fn write_new<F: Folder>(
     ensures times { OnOk result (ForSome (F.told f.new).files (HasTimes places.now.entry places.now.node moment)) }
     ensures stops { ForSome (F.told f.old).files (λ from. Passes (F.told f.old) (F.told f.new) (StillFinds (words_of_places places.now) from)) }
     ensures is_open { ForSome (F.told f.new).files (IsOpen files.now) }
+    ensures damaged { IfDamaged result (IsFailedCheck files.now (F.told f.new)) }
     ensures untold { IfDamaged result (λ _. (F.told f.old).files ≡ None) }
     ensures silent { (F.told f.old).files ≡ None → (F.told f.new).files ≡ None }
     ensures later { F.faults f.old ≤ F.faults f.new }
@@ -135,6 +140,7 @@ fn list_entry<F: Folder>(
     ensures times { OnOk result (ForSome (F.told f.old).files (λ from. ForSome (F.told f.new).files (KeepsTimes entry node from))) }
     ensures stops { ForSome (F.told f.old).files (λ from. CanBeListed entry node from → Passes (F.told f.old) (F.told f.new) (FindsUntilListed entry node from)) }
     ensures is_open { ForSome (F.told f.new).files (IsOpen files.now) }
+    ensures damaged { IfDamaged result (IsFailedCheck files.now (F.told f.new)) }
     ensures untold { ForSome (F.told f.old).files (CanBeListed entry node) → IfDamaged result (λ _. (F.told f.old).files ≡ None) }
     ensures silent { (F.told f.old).files ≡ None → (F.told f.new).files ≡ None }
     ensures later { F.faults f.old ≤ F.faults f.new }

@@ -15,6 +15,7 @@ ghost use Rattle.blk_entry.specs.Keys as keys;
 ghost use Rattle.blk_entry.specs.Writing.{HoldsLongKey, IsLongPlace, LiesApart};
 ghost use Rattle.blk_alloc.specs.Extending.{KeepsStanding};
 ghost use Rattle.blk_kept.specs.Changes.{StillFinds};
+ghost use Rattle.blk_object.specs.FailedChecks.{HasOtherLength, IsFailedCheck, IsSharedKey};
 ghost use Rattle.blk_object.specs.Making.{LeavesRoom, Takes, long_word, words_of_places};
 
 use blk_addr::{Addr, Kind, LONGEST_SHORT_KEY, blocks_for, entry_blocks, kind_for};
@@ -53,6 +54,7 @@ pub(crate) fn take_places<F: Folder>(
     ensures taken { IfOk result (λ places. ForSome (F.told f.old).files (λ from. LeavesRoom 3 from → ForSome (F.told f.new).files (Takes (words_of_places places) from))) }
     ensures is_open { OnOk result (ForSome (F.told f.new).files (IsOpen files.new)) }
     ensures stops { ForSome (F.told f.old).files (λ from. LeavesRoom 3 from → Passes (F.told f.old) (F.told f.new) (StillFinds [] from)) }
+    ensures damaged { IfDamaged result (IsFailedCheck files.new (F.told f.new)) }
     ensures untold { ForSome (F.told f.old).files (LeavesRoom 3) → IfDamaged result (λ _. (F.told f.old).files ≡ None) }
     ensures silent { (F.told f.old).files ≡ None → (F.told f.new).files ≡ None }
     ensures later { F.faults f.old ≤ F.faults f.new }
@@ -83,6 +85,7 @@ fn take_long_key<F: Folder>(
     ensures taken { IfOk result (λ long_key. ForSome (F.told f.old).files (λ from. LeavesRoom 1 from → ForSome (F.told f.new).files (Takes (long_word long_key) from))) }
     ensures is_open { OnOk result (ForSome (F.told f.new).files (IsOpen files.new)) }
     ensures stops { ForSome (F.told f.old).files (λ from. LeavesRoom 1 from → Passes (F.told f.old) (F.told f.new) (StillFinds [] from)) }
+    ensures damaged { IfDamaged result (IsFailedCheck files.new (F.told f.new)) }
     ensures untold { ForSome (F.told f.old).files (LeavesRoom 1) → IfDamaged result (λ _. (F.told f.old).files ≡ None) }
     ensures silent { (F.told f.old).files ≡ None → (F.told f.new).files ≡ None }
     ensures later { F.faults f.old ≤ F.faults f.new }
@@ -105,6 +108,7 @@ fn take_storage<F: Folder>(f: &mut F, files: &mut BlockFiles, size: u32) -> Resu
     ensures taken { IfOk result (λ addr. ForSome (F.told f.old).files (λ from. LeavesRoom 1 from → ForSome (F.told f.new).files (Takes (addr ∷ []) from))) }
     ensures is_open { OnOk result (ForSome (F.told f.new).files (IsOpen files.new)) }
     ensures stops { ForSome (F.told f.old).files (λ from. LeavesRoom 1 from → Passes (F.told f.old) (F.told f.new) (StillFinds [] from)) }
+    ensures damaged { IfDamaged result (IsFailedCheck files.new (F.told f.new)) }
     ensures untold { ForSome (F.told f.old).files (LeavesRoom 1) → IfDamaged result (λ _. (F.told f.old).files ≡ None) }
     ensures silent { (F.told f.old).files ≡ None → (F.told f.new).files ≡ None }
     ensures later { F.faults f.old ≤ F.faults f.new }
@@ -143,6 +147,7 @@ fn take_blocks<F: Folder>(
     ensures taken { IfOk result (λ addr. ForSome (F.told f.old).files (λ from. LeavesRoom 1 from → ForSome (F.told f.new).files (Takes (addr ∷ []) from))) }
     ensures is_open { OnOk result (ForSome (F.told f.new).files (IsOpen files.new)) }
     ensures stops { ForSome (F.told f.old).files (λ from. LeavesRoom 1 from → Passes (F.told f.old) (F.told f.new) (StillFinds [] from)) }
+    ensures damaged { IfDamaged result (IsFailedCheck files.new (F.told f.new)) }
     ensures untold { ForSome (F.told f.old).files (LeavesRoom 1) → IfDamaged result (λ _. (F.told f.old).files ≡ None) }
     ensures silent { (F.told f.old).files ≡ None → (F.told f.new).files ≡ None }
     ensures later { F.faults f.old ≤ F.faults f.new }
@@ -162,6 +167,7 @@ fn take_file<F: Folder>(f: &mut F, files: &BlockFiles, size: u32) -> Result<Addr
     ensures taken { IfOk result (λ addr. ForSome (F.told f.old).files (λ from. LeavesRoom 1 from → ForSome (F.told f.new).files (Takes (addr ∷ []) from))) }
     ensures is_open { OnOk result (ForSome (F.told f.new).files (IsOpen files.now)) }
     ensures stops { ForSome (F.told f.old).files (λ from. LeavesRoom 1 from → Passes (F.told f.old) (F.told f.new) (StillFinds [] from)) }
+    ensures damaged { IfDamaged result (IsFailedCheck files.now (F.told f.new)) }
     ensures untold { ForSome (F.told f.old).files (LeavesRoom 1) → IfDamaged result (λ _. (F.told f.old).files ≡ None) }
     ensures silent { (F.told f.old).files ≡ None → (F.told f.new).files ≡ None }
     ensures later { F.faults f.old ≤ F.faults f.new }
@@ -177,6 +183,7 @@ fn take_file<F: Folder>(f: &mut F, files: &BlockFiles, size: u32) -> Result<Addr
 fn check_index<F: Folder>(f: &mut F) -> Result<(), Fault>
     ensures whole { OnOk result (ForSome (F.told f.old).files HasWholeIndex) }
     ensures stays { Stays (F.told f.old) (F.told f.new) }
+    ensures damaged { IfDamaged result (HasOtherLength (F.told f.new)) }
     ensures untold { ForSome (F.told f.old).files HasWholeIndex → IfDamaged result (λ _. (F.told f.old).files ≡ None) }
     ensures later { F.faults f.old ≤ F.faults f.new }
     ensures device { IfDevice result (Rises (F.faults f.old) (F.faults f.new)) }
@@ -196,7 +203,7 @@ fn check_index<F: Folder>(f: &mut F) -> Result<(), Fault>
 fn check_apart(entry: Addr, long_key: &Option<Addr>) -> Result<(), Fault>
     requires kind { kind_of entry ≡ blocks_256 }
     ensures apart { OnOk result (LiesApart entry long_key.now) }
-    ensures damaged { IfDamaged result (λ _. LiesApart entry long_key.now → ⊥) }
+    ensures damaged { IfDamaged result (IsSharedKey entry long_key.now) }
     ensures never { IfDevice result ⊥ }
 {
     let Some(addr) = long_key else {

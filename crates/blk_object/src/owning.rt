@@ -10,6 +10,7 @@ ghost use Rattle.blk_volume.specs.Sound.{words_of};
 ghost use Rattle.blk_io.specs.Faults.{IfDamaged, IfDevice};
 ghost use Rattle.blk_disk.specs.Open.{IsOpen};
 ghost use Rattle.blk_disk.specs.Tables.{Agrees, stands_among};
+ghost use Rattle.blk_object.specs.FailedChecks.{IsFailedCheck, IsLostWord};
 ghost use Rattle.blk_object.specs.Freeing.{AreFreeable, AreGoing, IsPlaceAmong, Removes, words_at};
 ghost use Rattle.blk_object.specs.Owning.{LoadsWith, is_there};
 
@@ -45,6 +46,9 @@ pub fn read_owned<F: Folder>(f: &mut F, files: &BlockFiles, entry: Addr) -> Resu
 
     ensures stays { Stays (F.told f.old) (F.told f.new) }
 
+    // A damage is a check that fails on what is read here; nothing is written after it.
+    ensures damaged { IfDamaged result (IsFailedCheck files.now (F.told f.new)) }
+
     // A folder that tells its files gives a damage only where no entry lies there with this record.
     ensures untold { ForSome (F.told f.old).files (Agrees files.now) → ForSome (F.told f.old).files (λ image. (loaded : Loaded) × LoadsWith entry loaded image) → IfDamaged result (λ _. (F.told f.old).files ≡ None) }
 
@@ -74,6 +78,9 @@ pub fn free_owned<F: Folder>(f: &mut F, files: &BlockFiles, owned: &Owned) -> Re
 
     ensures is_open { ForSome (F.told f.new).files (IsOpen files.now) }
 
+    // A damage is a check that fails on what is read here; nothing is written after it.
+    ensures damaged { IfDamaged result (IsFailedCheck files.now (F.told f.new)) }
+
     // A folder that tells its files gives a damage only for a place that is somebody's.
     ensures untold { ForSome (F.told f.old).files (AreFreeable (words_at owned.now.places)) → IfDamaged result (λ _. (F.told f.old).files ≡ None) }
 
@@ -102,6 +109,7 @@ fn place_of(files: &BlockFiles, entry: Addr, at: u32, word: u32) -> Result<Optio
     ensures place { IfOk result (λ place. place ≡ (if word == 0 then None else Some word)) }
     ensures there { IfOk result (IsPlaceAmong files.now) }
     ensures right { ((word == 0) ≡ false → is_there files.now word ≡ true) → IsOk result }
+    ensures damaged { IfDamaged result (IsLostWord files.now entry at word) }
     ensures never { IfDevice result ⊥ }
 {
     if word == 0 {

@@ -6,6 +6,7 @@ ghost use Rattle.blk_format.specs.Address.{blocks_256, kind_of};
 ghost use Rattle.blk_io.specs.Faults.{IfDamaged, IfDevice};
 ghost use Rattle.blk_disk.specs.Open.{IsOpen};
 ghost use Rattle.blk_disk.specs.Tables.{is_node_among, stands_among};
+ghost use Rattle.blk_object.specs.FailedChecks.{IsFailedCheck};
 ghost use Rattle.blk_object.specs.Removing.{IsGoingOut, IsTakenOut, MayGoOut};
 
 use blk_addr::Addr;
@@ -39,6 +40,9 @@ pub fn take_out<F: Folder>(
     ensures stops { ForSome (F.told f.old).files (λ from. MayGoOut node found.now.entry found.now.before from → Passes (F.told f.old) (F.told f.new) (IsGoingOut node found.now.entry found.now.before from)) }
 
     ensures is_open { ForSome (F.told f.new).files (IsOpen files.now) }
+
+    // A damage is a check that fails on what is read here; nothing is written after it.
+    ensures damaged { IfDamaged result (IsFailedCheck files.now (F.told f.new)) }
 
     // A folder that tells its files gives a damage only for an item that may not go out.
     ensures untold { ForSome (F.told f.old).files (MayGoOut node found.now.entry found.now.before) → IfDamaged result (λ _. (F.told f.old).files ≡ None) }

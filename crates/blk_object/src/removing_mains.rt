@@ -10,6 +10,7 @@ ghost use Rattle.blk_disk.specs.Open.{IsOpen};
 ghost use Rattle.blk_disk.specs.Tables.{is_node_among, stands_among};
 ghost use Rattle.blk_kept.specs.Changes.{SameSession};
 ghost use Rattle.blk_kept.specs.Keeping.{CountsItems};
+ghost use Rattle.blk_object.specs.FailedChecks.{IsFailedCheck};
 ghost use Rattle.blk_object.specs.NextItems.{ForEachMain, IsMainOut};
 ghost use Rattle.blk_object.specs.RemovingObjects.{FindsEither};
 
@@ -49,6 +50,9 @@ pub fn take_main<F: Folder>(
     ensures session { OnOk result (ForSome (F.told f.old).files (λ from. ForEachMain node found.now.entry found.now.before from (λ state layout unlinked number object was. ForSome (F.told f.new).files (SameSession from)))) }
 
     ensures is_open { ForSome (F.told f.new).files (IsOpen files.now) }
+
+    // A damage is a check that fails on what is read here; nothing is written after it.
+    ensures damaged { IfDamaged result (IsFailedCheck files.now (F.told f.new)) }
 
     // A folder that tells its files, with such an item, gives no damage.
     ensures untold { ForSome (F.told f.old).files (λ from. ForEachMain node found.now.entry found.now.before from (λ state layout unlinked number object was. IfDamaged result (λ _. (F.told f.old).files ≡ None))) }

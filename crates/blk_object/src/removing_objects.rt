@@ -9,6 +9,7 @@ ghost use Rattle.blk_io.specs.Faults.{IfDamaged, IfDevice};
 ghost use Rattle.blk_disk.specs.Open.{IsOpen};
 ghost use Rattle.blk_disk.specs.Tables.{is_node_among, stands_among};
 ghost use Rattle.blk_kept.specs.Changes.{SameSession};
+ghost use Rattle.blk_object.specs.FailedChecks.{IsFailedCheck};
 ghost use Rattle.blk_object.specs.NextItems.{ForEachNext, IsGoingNext, IsOutUncounted};
 ghost use Rattle.blk_object.specs.Owning.{LoadsWith};
 ghost use Rattle.blk_object.specs.RemovingObjects.{FindsEither, ForEachAlone, IsGoneUncounted, IsRemovedWhole};
@@ -52,6 +53,9 @@ pub fn remove_item<F: Folder>(
 
     ensures is_open { ForSome (F.told f.new).files (IsOpen files.now) }
 
+    // A damage is a check that fails on what is read here; nothing is written after it.
+    ensures damaged { IfDamaged result (IsFailedCheck files.now (F.told f.new)) }
+
     // A folder that tells its files, with such an item in a state that is kept and counted, gives no damage.
     ensures untold { ForSome (F.told f.old).files (λ from. ForEachAlone node found.now.entry found.now.before from (λ state after layout unlinked. IfDamaged result (λ _. (F.told f.old).files ≡ None))) }
 
@@ -84,6 +88,7 @@ pub(crate) fn take_away<F: Folder>(
     ensures out { IfOk result (λ charge. ForSome (F.told f.old).files (λ from. ForEachNext node found.now.entry found.now.before from (λ state layout keep chains unlinked item. ForSome (F.told f.new).files (IsOutUncounted state layout keep chains unlinked item found.now.entry charge from)))) }
     ensures going { ForSome (F.told f.old).files (λ from. ForEachNext node found.now.entry found.now.before from (λ state layout keep chains unlinked item. Passes (F.told f.old) (F.told f.new) (IsGoingNext state layout keep chains unlinked item node found.now.entry found.now.before from))) }
     ensures is_open { ForSome (F.told f.new).files (IsOpen files.now) }
+    ensures damaged { IfDamaged result (IsFailedCheck files.now (F.told f.new)) }
     ensures untold { ForSome (F.told f.old).files (λ from. ForEachAlone node found.now.entry found.now.before from (λ state after layout unlinked. IfDamaged result (λ _. (F.told f.old).files ≡ None))) }
     ensures untold_out { ForSome (F.told f.old).files (λ from. ForEachNext node found.now.entry found.now.before from (λ state layout keep chains unlinked item. IfDamaged result (λ _. (F.told f.old).files ≡ None))) }
     ensures silent { (F.told f.old).files ≡ None → (F.told f.new).files ≡ None }

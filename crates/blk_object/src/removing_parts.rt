@@ -11,6 +11,7 @@ ghost use Rattle.blk_io.specs.Faults.{IfDamaged, IfDevice};
 ghost use Rattle.blk_disk.specs.Open.{IsOpen};
 ghost use Rattle.blk_disk.specs.Tables.{is_node_among, stands_among};
 ghost use Rattle.blk_kept.specs.Changes.{Finds, SameSession};
+ghost use Rattle.blk_object.specs.FailedChecks.{IsFailedCheck};
 ghost use Rattle.blk_object.specs.NextItems.{ForEachNext, ForEachPart, IsOutAndCounted};
 ghost use Rattle.blk_object.specs.RemovingNext.{CountsLeft};
 ghost use Rattle.blk_object.specs.Owning.{LoadsWith};
@@ -58,6 +59,9 @@ pub fn remove_part<F: Folder>(
     ensures part { ForSome (F.told f.old).files (λ from. ForEachPart node found.now.entry found.now.before from (λ state number object. Passes (F.told f.old) (F.told f.new) (Finds (rest (doomed number state (Some object)))))) }
 
     ensures is_open { ForSome (F.told f.new).files (IsOpen files.now) }
+
+    // A damage is a check that fails on what is read here; nothing is written after it.
+    ensures damaged { IfDamaged result (IsFailedCheck files.now (F.told f.new)) }
 
     // A folder that tells its files, with such an item, gives no damage.
     ensures untold { ForSome (F.told f.old).files (λ from. ForEachNext node found.now.entry found.now.before from (λ state layout keep chains unlinked item. IfDamaged result (λ _. (F.told f.old).files ≡ None))) }

@@ -76,6 +76,19 @@ head-of bytes index is = go (length bytes == 8256) refl (read_parent_head (conte
         head = ap (λ (t : Bool). if t then read_parent_head (content bytes) else None) (le-leb 64 (length bytes) (omega (arith, long))) ∙ g ∙ ap (λ (i : ParentIndex). Some (i.signature, i.key_len)) same;
       }
 
+-- what begins otherwise is no index
+pub no-index : (bytes old new : List ℕ) (n : ℕ) → IsPiece bytes 0 old new n → 32796 ≤ length old → (read_head : Option ParentHead) → read_head ≡ None
+    → option_map head_fields read_head ≡ (if nat_le 64 (length (take n new)) then read_parent_head (content (take n new)) else None) → read_parent_index bytes ≡ None
+no-index bytes old new n p room read_head none is = go (read_parent_index bytes) refl where
+  go : (o : Option ParentIndex) → read_parent_index bytes ≡ o → o ≡ None
+  go None e = refl
+  go (Some index) e =
+      let head = head-of bytes index e in
+      let long = head.long in
+      let many = p.many in
+      let whole : take n new ≡ bytes = p.front ∙ take_all n bytes (omega (arith, many, long, room)) in
+      absurd (none-some (sym (ap (option_map head_fields) none) ∙ is ∙ ap (λ (bs : List ℕ). if nat_le 64 (length bs) then read_parent_head (content bs) else None) whole ∙ head.head))
+
 -- what was read is the index
 module _ (image : Image) (entry : ℕ) (loaded : Loaded) (index : ParentIndex) (w : LoadsWith entry loaded image) (role : loaded.role ≡ IsParent index) (old new : List ℕ) (n : ℕ) (room : 32796 ≤ length old) (piece : ForSome (streams_at image entry) (λ (streams : List (List ℕ)). IsPiece (stream 2 streams) 0 old new n)) where
   head : IsHeadOf (stream 2 loaded.streams) index

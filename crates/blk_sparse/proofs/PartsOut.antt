@@ -1,7 +1,9 @@
 -- A part that isn't out is found by its name, and goes.
-use Rattle.std.proofs.Common.{◌≡◌, ℕ, List, ap, sym, ◌∙◌, subst, Bool, true, Option, None, Some, Ok, Err}
+use Rattle.std.proofs.Common.{◌≡◌, ℕ, List, ap, sym, ◌∙◌, subst, refl, Bool, true, false, Option, None, Some, Ok, Err}
 use Rattle.std.specs.Option.{ForSome}
-use Rattle.std.specs.Prelude.{IfOk}
+use Rattle.std.specs.Prelude.{IfOk, if◌then◌else◌}
+use Rattle.std.specs.Str.{bytes_eq}
+use Rattle.blk_model.proofs.Same.{same_bytes}
 use Rattle.std.specs.declared.result.Result.{Result}
 use Rattle.blk_image.specs.Image.{Image}
 use Rattle.blk_image.specs.Told.{Passes, Told}
@@ -10,14 +12,16 @@ use Rattle.blk_model.specs.Effects.{doomed}
 use Rattle.blk_model.specs.Holding.{rest}
 use Rattle.blk_model.specs.Items.{Item, part}
 use Rattle.blk_model.specs.State.{Object, State}
-use Rattle.blk_format.specs.Names.{child_name}
+use Rattle.blk_format.specs.Names.{Name, child_name, read_name}
 use Rattle.blk_volume.specs.Layout.{Layout}
 use Rattle.blk_volume.specs.Loads.{Loaded}
 use Rattle.blk_chain.specs.declared.found.Found.{Found}
 use Rattle.blk_chain.specs.Finding.{CanBeSearched, IsAnswer}
 use Rattle.blk_kept.specs.Changes.{Finds}
 use Rattle.blk_kept.proofs.PartlyOutStops.{partly-out-finds}
+use Rattle.blk_object.specs.FailedChecks.{IsOfSamePart}
 use Rattle.blk_object.specs.FindingOut.{IsFoundLeft}
+use Rattle.blk_object.specs.ListedParts.{number_said}
 use Rattle.blk_object.specs.NextItems.{IsOutAndCounted, LiesNext}
 use Rattle.blk_object.specs.Owning.{LoadsWith}
 use Rattle.blk_object.proofs.FoundLeft.{can-search, left-found}
@@ -36,6 +40,24 @@ none-some e = cc
 pub if_ok_weaker : {A E : Type 0} (r : Result A E) (P Q : A → Type 0) → ((a : A) → P a → Q a) → IfOk r P → IfOk r Q
 if_ok_weaker (Ok a) P Q weaker holds = weaker a holds
 if_ok_weaker (Err e) P Q weaker holds = tt
+
+-- ---- the name of a part
+
+-- a key that says that it is this part of a key is its name, but for the signature
+pub same-part : (key bytes name : List ℕ) (signature number : ℕ) → number_said key (read_name bytes) ≡ Some number → name ≡ child_name key signature number → IsOfSamePart bytes name
+same-part key bytes name signature number said printed = go (read_name bytes) refl said where
+  go : (o : Option Name) → read_name bytes ≡ o → number_said key o ≡ Some number → IsOfSamePart bytes name
+  go None read is = absurd (none-some is)
+  go (Some own) read is = by (bytes_eq own.key key) refl is
+    where
+      by : (t : Bool) → bytes_eq own.key key ≡ t → (if t then Some own.part else None) ≡ Some number → IsOfSamePart bytes name
+      by false same h = absurd (none-some h)
+      by true same h = record {
+        read = own;
+        is = read;
+        signature = signature;
+        printed = printed ∙ ap (λ (k : List ℕ). child_name k signature number) (sym (same_bytes own.key key same)) ∙ ap (child_name own.key signature) (sym (some_inj h));
+      }
 
 -- ---- where nothing is written
 

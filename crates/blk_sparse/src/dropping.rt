@@ -16,6 +16,8 @@ ghost use Rattle.blk_io.specs.Faults.{IfDamaged, IfDevice};
 ghost use Rattle.blk_disk.specs.Open.{IsOpen};
 ghost use Rattle.blk_disk.specs.Tables.{is_node_among, stands_among};
 ghost use Rattle.blk_kept.specs.Changes.{Finds, SameSession};
+ghost use Rattle.blk_object.specs.FailedChecks.{IsFailedCheck};
+ghost use Rattle.blk_object.specs.ListedParts.{SaysPart};
 ghost use Rattle.blk_object.specs.UnlinkedLoads.{KeepsUnlinked};
 ghost use Rattle.blk_sparse.specs.Dropping.{AreGone, ForEachBehind, ForEachLeft, ForEachPartLeft, IsCalledAtFront, IsDropOfNext, IsPartOut, IsWholeOut};
 
@@ -92,6 +94,9 @@ pub fn drop_parts_with<F: Folder, E: FnMut(u32)>(
 
     ensures is_open { ForSome (F.told f.new).files (IsOpen files.now) }
 
+    // A damage is a check that fails on what is read here; nothing is written after it.
+    ensures damaged { IfDamaged result (IsFailedCheck files.now (F.told f.new)) }
+
     // A folder that tells its files, in which parts are left so, gives no damage.
     ensures untold { ForSome (F.told f.old).files (λ from. ForEachLeft key.now (cast_unsigned w64 signature) from (λ state layout keep unlinked number object. IfDamaged result (λ _. (F.told f.old).files ≡ None))) }
 
@@ -135,6 +140,7 @@ fn drop_next<F: Folder>(
     ensures keeps { OnOk result (ForSome (F.told f.old).files (λ image. ForEachBehind key.now (cast_unsigned w64 signature) from image (λ state layout keep unlinked number object is. ForSome (F.told f.new).files (KeepsUnlinked unlinked image)))) }
     ensures stops { ForSome (F.told f.old).files (λ image. ForEachBehind key.now (cast_unsigned w64 signature) from image (λ state layout keep unlinked number object is. Passes (F.told f.old) (F.told f.new) (Finds (rest (doomed number state (Some object)))))) }
     ensures is_open { ForSome (F.told f.new).files (IsOpen files.now) }
+    ensures damaged { IfDamaged result (IsFailedCheck files.now (F.told f.new)) }
     ensures untold { ForSome (F.told f.old).files (λ image. ForEachBehind key.now (cast_unsigned w64 signature) from image (λ state layout keep unlinked number object is. IfDamaged result (λ _. (F.told f.old).files ≡ None))) }
     ensures silent { (F.told f.old).files ≡ None → (F.told f.new).files ≡ None }
     ensures later { F.faults f.old ≤ F.faults f.new }
@@ -167,6 +173,7 @@ fn drop_part<F: Folder>(
     requires number { part.now.number < part_count }
     requires node { IsTrue (is_node_among files.now part.now.node) }
     requires kind { kind_of part.now.entry ≡ blocks_256 }
+    requires stands { IsTrue (stands_among files.now part.now.entry) }
     requires room { longest_name ≤ length room.old }
     requires is_open { ForSome (F.told f.old).files (IsOpen files.now) }
     ensures out { OnOk result (ForSome (F.told f.old).files (λ from. ForEachPartLeft key.now (cast_unsigned w64 signature) part.now.number part.now.node from (λ state layout keep unlinked number object was. ForSome (F.told f.new).files (IsPartOut state layout keep unlinked key.now number object part.now.number)))) }
@@ -176,6 +183,7 @@ fn drop_part<F: Folder>(
     ensures keeps { OnOk result (ForSome (F.told f.old).files (λ from. ForEachPartLeft key.now (cast_unsigned w64 signature) part.now.number part.now.node from (λ state layout keep unlinked number object was. ForSome (F.told f.new).files (KeepsUnlinked unlinked from)))) }
     ensures stops { ForSome (F.told f.old).files (λ from. ForEachPartLeft key.now (cast_unsigned w64 signature) part.now.number part.now.node from (λ state layout keep unlinked number object was. Passes (F.told f.old) (F.told f.new) (Finds (rest (doomed number state (Some object)))))) }
     ensures is_open { ForSome (F.told f.new).files (IsOpen files.now) }
+    ensures damaged { ForSome (F.told f.old).files (SaysPart part.now.entry key.now part.now.number) → IfDamaged result (IsFailedCheck files.now (F.told f.new)) }
     ensures untold { ForSome (F.told f.old).files (λ from. ForEachPartLeft key.now (cast_unsigned w64 signature) part.now.number part.now.node from (λ state layout keep unlinked number object was. IfDamaged result (λ _. (F.told f.old).files ≡ None))) }
     ensures silent { (F.told f.old).files ≡ None → (F.told f.new).files ≡ None }
     ensures later { F.faults f.old ≤ F.faults f.new }

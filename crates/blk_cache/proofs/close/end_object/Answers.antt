@@ -1,9 +1,6 @@
 use Rattle.std.proofs.Common.{◌≡◌, ◌∙◌, Bool, true, false, sym, subst}
 use Rattle.std.specs.Option.{ForSome}
-use Rattle.blk_image.specs.Told.{Told}
-use Rattle.blk_io.specs.Faults.{IfDamaged}
-use Rattle.blk_cache.specs.Closing.{HasFreeable, IsEndDamage, MayEnd}
-use Rattle.blk_cache.proofs.CloseGone.{damaged-unless}
+use Rattle.blk_cache.specs.Closing.{MayEnd}
 use Rattle.blk_cache.proofs.close.end_object.Goals as goal
 
 clash : true ≡ false → ⊥
@@ -12,24 +9,12 @@ clash e = cc
 pub returns-then-object-clause-cleans : goal.returns-then-object-clause-cleans
 returns-then-object-clause-cleans g c e = absurd (clash (sym c.if-object.true ∙ e))
 
-pub returns-then-object-clause-damaged : goal.returns-then-object-clause-damaged
-returns-then-object-clause-damaged g c =
-    let old : Told = g.F.Folder.told c.args.f.now in
-    subst (λ (t : Bool). IfDamaged c.free_entry.result (IsEndDamage t c.args.object.now.entry c.args.object.now.node old)) (sym c.if-object.true)
-    (damaged-unless c.free_entry.result old (HasFreeable c.args.object.now.entry) c.free_entry.ensures.untold)
-
 pub returns-then-object-clause-untold : goal.returns-then-object-clause-untold
 returns-then-object-clause-untold g c may =
     c.free_entry.ensures.untold (subst (λ (t : Bool). ForSome (g.F.Folder.told c.args.f.now).files (MayEnd t c.args.object.now.entry c.args.object.now.node)) c.if-object.true may)
 
 pub returns-else-object-clause-frees : goal.returns-else-object-clause-frees
 returns-else-object-clause-frees g c e = absurd (clash (sym e ∙ c.if-object.false))
-
-pub returns-else-object-clause-damaged : goal.returns-else-object-clause-damaged
-returns-else-object-clause-damaged g c =
-    let old : Told = g.F.Folder.told c.args.f.now in
-    subst (λ (t : Bool). IfDamaged c.clean.result (IsEndDamage t c.args.object.now.entry c.args.object.now.node old)) (sym c.if-object.false)
-    c.clean.ensures.damaged
 
 pub returns-else-object-clause-untold : goal.returns-else-object-clause-untold
 returns-else-object-clause-untold g c may =

@@ -1,4 +1,4 @@
-use Rattle.std.proofs.Common.{rules, ◌≡◌, [], ◌∷◌, ℕ, List, None, refl, sym, ◌∙◌, subst, arith, true, false}
+use Rattle.std.proofs.Common.{rules, ◌≡◌, [], ◌∷◌, ℕ, List, None, length, refl, ap, sym, ◌∙◌, subst, arith, true, false}
 use Rattle.std.proofs.lemmas.Bool.Decides.{nat_tests}
 use Rattle.std.proofs.lemmas.Result.{on_ok_weaker}
 use Rattle.blk_image.specs.Told.{Passes, Told}
@@ -23,6 +23,10 @@ use Rattle.blk_cache.proofs.Evictions.{appends-after, appends-longer}
 use Rattle.blk_cache.proofs.GroupsOut.{if-ok-three, stayed-stops}
 use Rattle.blk_cache.proofs.RoomTexts.{printed-on}
 use Rattle.blk_cache.proofs.WholeGroups.{doomed-is, may-go, whole-child, whole-is-listed, whole-no-key, whole-out, whole-owner, whole-text}
+use Rattle.blk_object.specs.FailedChecks.{IsFailedCheck, WrongLength}
+use Rattle.blk_entry.specs.Keys.{IsWordOf}
+use Rattle.blk_object.proofs.DamageChecks.{within-checked}
+use Rattle.blk_cache.proofs.LookDamages.{key-length-said, wrong-length}
 use Rattle.blk_cache.proofs.evicting_groups.evict_parent.Goals as goal
 
 pub record_damage-requires-clause-kind : goal.record_damage-requires-clause-kind
@@ -130,3 +134,23 @@ returns-clause-untold g c from there state layout is =
     let mid = told_now from c.in_ok-at.ensures.stays there in
     let o = whole-owner state layout from c.args.found.now c.args.key.now is in
     subst (λ (t : Told). IfDamaged c.remove_parent.result (λ _. t.files ≡ None)) c.in_ok-at.ensures.stays (c.remove_parent.ensures.untold from mid state layout [] o.number o.object may)
+
+pub returns-then-is_no_key-clause-damaged : goal.returns-then-is_no_key-clause-damaged
+returns-then-is_no_key-clause-damaged g c says =
+    let d = c.record_damage.ensures in
+    let p = names-parts c.args.files.now c.args.found.now.entry c.requires.record_stands in
+    let none : no_key c.args.key.now ≡ true = search rules in
+    err_damaged Gone c.record_damage.result d.damage (IsFailedCheck c.args.files.now (g.F.Folder.told c.args.f.now)) d.is
+    (within-checked c.args.files.now (g.F.Folder.told c.args.f.now) c.args.found.now.entry d.damage p.1.0 p.1.1 (WrongLength (record {
+      of_word = subst (λ (n : ℕ). IsWordOf c.args.found.now.entry 32 n d.damage) (sym d.word.of_word) d.word;
+      unlike = wrong-length c.args.key.now d.damage.found d.word.of_word none;
+      there = λ image there. d.word.of_word ∙ ap length (sym (says image there)) ∙ key-length-said image c.args.found.now.entry;
+    })))
+
+pub returns-in_err-at-clause-damaged : goal.returns-in_err-at-clause-damaged
+returns-in_err-at-clause-damaged g c says =
+    carried c.find_listed.result c.from_residual.result c.in_err-at.field-0.0 (IsFailedCheck c.args.files.now (g.F.Folder.told c.find_listed.new.f)) c.in_err-at.was c.from_residual.ensures.1 (c.find_listed.ensures.damaged says)
+
+pub returns-clause-damaged : goal.returns-clause-damaged
+returns-clause-damaged g c says =
+    c.remove_parent.ensures.damaged

@@ -13,6 +13,8 @@ use Rattle.blk_sparse.specs.declared.dropping.Gone.{Gone}
 use Rattle.blk_cache.specs.RoomLaws.{group_for}
 use Rattle.blk_cache.specs.RoomPrinting.{Prints}
 use Rattle.blk_cache.proofs.GroupsOut.{as-text, not-unsaid, on-ok-any, part-said, stayed-stops}
+use Rattle.blk_object.proofs.DamageChecks.{within-checked}
+use Rattle.blk_object.specs.FailedChecks.{IsFailedCheck, WrongName}
 use Rattle.blk_cache.proofs.evicting_groups.evict_part.Goals as goal
 
 pub record_damage-requires-clause-kind : goal.record_damage-requires-clause-kind
@@ -43,3 +45,17 @@ returns-clause-front g c from there state layout is =
     ∙ ap (λ (key : List ℕ). evicted_line (part key c.in-Some.child.part)) c.parent_key.ensures
     ∙ sym (as-text state layout from c.args.found.now true c.args.name.now is ∙ ap evicted_line (part-said state layout from c.args.found.now c.args.name.now is c.in-Some.child (subst (λ (o : Option ChildName). option_map (name_within c.args.name.now) o ≡ read_name c.args.name.now) c.in-Some.is c.read_child_name.ensures.name))))
     c.say_evicted_part.ensures.prints.front
+
+pub returns-in_default-clause-damaged : goal.returns-in_default-clause-damaged
+returns-in_default-clause-damaged g c says =
+    let d = c.record_damage.ensures in
+    let p = names-parts c.args.files.now c.args.found.now.entry c.requires.record_stands in
+    err_damaged Gone c.record_damage.result d.damage (IsFailedCheck c.args.files.now (g.F.Folder.told c.args.f.now)) d.is
+    (within-checked c.args.files.now (g.F.Folder.told c.args.f.now) c.args.found.now.entry d.damage p.1.0 p.1.1 (WrongName (record {
+      of_word = d.word;
+      unlike = λ image there. ap read_name (says image there) ∙ sym (subst (λ (o : Option ChildName). option_map (name_within c.args.name.now) o ≡ read_name c.args.name.now) c.in_default.is c.read_child_name.ensures.name);
+    })))
+
+pub returns-clause-damaged : goal.returns-clause-damaged
+returns-clause-damaged g c says =
+    c.remove_alone.ensures.damaged says

@@ -17,3 +17,7 @@ returns-clause-front g c from there state layout is =
     subst (λ (text : List ℕ). Appends (g.K.Sink.written c.args.out.now) (g.K.Sink.written c.say_evicted.new.out) text)
     (sym (as-text state layout from c.args.found.now false c.args.key.now is ∙ ap evicted_line (main-said state layout from c.args.found.now c.args.key.now is)))
     c.say_evicted.ensures.prints.front
+
+pub returns-clause-damaged : goal.returns-clause-damaged
+returns-clause-damaged g c says =
+    c.remove_alone.ensures.damaged says

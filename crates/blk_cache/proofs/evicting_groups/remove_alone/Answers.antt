@@ -9,6 +9,7 @@ use Rattle.blk_model.specs.State.{State}
 use Rattle.blk_object.specs.RemovingObjects.{FindsEither}
 use Rattle.blk_cache.specs.RoomLaws.{group_for}
 use Rattle.blk_cache.proofs.GroupsOut.{as-child, as-goes, as-listed, as-out, loads-there, stayed-stops}
+use Rattle.blk_object.specs.FailedChecks.{IsFailedCheck}
 use Rattle.blk_cache.proofs.evicting_groups.remove_alone.Goals as goal
 
 pub returns-in_err-at-clause-stops : goal.returns-in_err-at-clause-stops
@@ -72,3 +73,7 @@ returns-clause-stops g c from there state layout is =
     passes_stayed c.in_ok-at.ensures.stays
     (subst (λ (after : State). Passes (g.F.Folder.told c.find_listed.new.f) (g.F.Folder.told c.remove_item.new.f) (FindsEither state after)) goes.same
     (c.in_ok-bytes.ensures.stops from (told_now from c.in_ok-at.ensures.stays there) state layout [] goes.objects goes.keep is.last.item is.kept goes.alone))
+
+pub returns-in_err-at-clause-damaged : goal.returns-in_err-at-clause-damaged
+returns-in_err-at-clause-damaged g c says =
+    carried c.find_listed.result c.from_residual.result c.in_err-at.field-0.0 (IsFailedCheck c.args.files.now (g.F.Folder.told c.find_listed.new.f)) c.in_err-at.was c.from_residual.ensures.1 (c.find_listed.ensures.damaged says)

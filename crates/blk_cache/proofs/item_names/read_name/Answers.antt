@@ -7,6 +7,7 @@ use Rattle.blk_lru.proofs.Conditions.{told_now}
 use Rattle.blk_object.proofs.OwnedPlaces.{loaded-checks}
 use Rattle.blk_object.proofs.PartNames.{key-readable}
 use Rattle.blk_cache.proofs.GroupsOut.{key-read, kind-read}
+use Rattle.blk_object.proofs.DamageChecks.{handed, head-checked, moved, part-checked, whole-key}
 use Rattle.blk_cache.proofs.item_names.read_name.Goals as goal
 
 pub read_head-requires-clause-kind : goal.read_head-requires-clause-kind
@@ -43,3 +44,22 @@ returns-clause-named g c image there loaded lies = record {
   kind = c.kind_said.ensures ∙ kind-read image c.args.entry c.in_ok-head.head loaded (c.in_ok-head.ensures.head image there) lies;
   key = key-read image c.args.entry loaded c.args.room.now c.key_piece.new.out c.in_ok-len.len lies c.requires.room (c.in_ok-len.ensures.piece image (told_now image c.in_ok-head.ensures.stays there));
 }
+
+pub returns-in_err-head-clause-damaged : goal.returns-in_err-head-clause-damaged
+returns-in_err-head-clause-damaged g c =
+    let p = names-parts c.args.files.now c.args.entry c.requires.stands in
+    handed c.read_head.result c.from_residual.result c.in_err-head.field-0.0 _ c.args.files.now (g.F.Folder.told c.read_head.new.f)
+    (λ damage wrong. moved c.args.files.now (g.F.Folder.told c.args.f.now) (g.F.Folder.told c.read_head.new.f) damage c.read_head.ensures.stays (head-checked c.args.files.now (g.F.Folder.told c.args.f.now) c.args.entry damage p.1.0 p.1.1 wrong))
+    c.in_err-head.was c.from_residual.ensures.1 c.read_head.ensures.damaged
+
+pub returns-in_err-len-clause-damaged : goal.returns-in_err-len-clause-damaged
+returns-in_err-len-clause-damaged g c =
+    let p = names-parts c.args.files.now c.args.entry c.requires.stands in
+    handed c.key_piece.result c.from_residual-in_err-len.result c.in_err-len.field-0.0 _ c.args.files.now (g.F.Folder.told c.key_piece.new.f)
+    (λ damage wrong. moved c.args.files.now (g.F.Folder.told c.read_head.new.f) (g.F.Folder.told c.key_piece.new.f) damage c.key_piece.ensures.stays (part-checked c.args.files.now (g.F.Folder.told c.read_head.new.f) c.args.entry _ _ damage p.1.0 p.1.1 wrong))
+    c.in_err-len.was c.from_residual-in_err-len.ensures.1 c.key_piece.ensures.damaged
+
+pub returns-clause-read : goal.returns-clause-read
+returns-clause-read g c image there =
+    let now : (g.F.Folder.told c.read_head.new.f).files ≡ Some image = ap (λ (t : Told). t.files) c.in_ok-head.ensures.stays ∙ there in
+    sym (whole-key c.args.files.now image c.args.entry c.args.room.now c.key_piece.new.out c.in_ok-len.len (c.in_ok-len.ensures.bytes image now) (c.in_ok-len.ensures.placed image now) c.requires.room)

@@ -6,7 +6,7 @@ use Rattle.blk_chain.specs.Finding.{IsAnswer, IsFound}
 use Rattle.blk_volume.specs.View.{view_of}
 use Rattle.blk_laws.proofs.chains.Searches.{none-missing}
 use Rattle.blk_cache.specs.Looking.{KeepsSomeState}
-use Rattle.blk_cache.proofs.Looks.{can-search, found-checks, found-is-live, found-names}
+use Rattle.blk_cache.proofs.Looks.{can-search, found-loads, found-is-live, found-names}
 use Rattle.blk_cache.proofs.looking.find_live.Goals as goal
 
 pub returns-in_err-found-clause-untold : goal.returns-in_err-found-clause-untold
@@ -30,7 +30,7 @@ returns-in_err-read_live-clause-untold g c is_open kept =
     if_damaged_weaker c.from_residual-in_err-read_live.result (λ _. mid.files ≡ None) (λ _. old.files ≡ None) (λ damage none. sym same ∙ none)
     (carried c.read_live.result c.from_residual-in_err-read_live.result c.in_err-read_live.field-0.0 (λ _. mid.files ≡ None) c.in_err-read_live.was c.from_residual-in_err-read_live.ensures.1
     (c.read_live.ensures.untold (λ image there. (is_open image (back image there)).agrees)
-    (λ image there. let s : KeepsSomeState image = kept image (back image there) in found-checks s.state s.layout s.unlinked image s.kept c.args.key.now c.in-Some.found.entry c.in-Some.found.before (found image (back image there) s) (g.met.F.Folder.are_bytes c.args.f.now image (back image there)))
+    (λ image there. let s : KeepsSomeState image = kept image (back image there) in found-loads s.state s.layout s.unlinked image s.kept c.args.key.now c.in-Some.found.entry c.in-Some.found.before (found image (back image there) s))
     (λ image there. let s : KeepsSomeState image = kept image (back image there) in found-names s.state s.layout s.unlinked image s.kept c.args.key.now c.in-Some.found.entry c.in-Some.found.before (found image (back image there) s) c.args.files.now (is_open image (back image there)).agrees)))
 
 pub returns-clause-live : goal.returns-clause-live

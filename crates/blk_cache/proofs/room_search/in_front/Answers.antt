@@ -2,6 +2,8 @@ use Rattle.std.proofs.Common.{◌∙◌, ap}
 use Rattle.blk_lru.proofs.Results.{if_ok_weaker}
 use Rattle.blk_lru.specs.Lists.{last_node_of}
 use Rattle.blk_cache.proofs.RoomNodes.{at-end, place-listed, place-rests}
+use Rattle.blk_object.proofs.DamageChecks.{moved, node-word-checked}
+use Rattle.blk_io.proofs.Carried.{if_damaged_weaker}
 use Rattle.blk_cache.proofs.room_search.in_front.Goals as goal
 
 pub returns-in-Some-clause-untold : goal.returns-in-Some-clause-untold
@@ -17,3 +19,11 @@ returns-in-None-clause-node g c =
 pub returns-in-None-clause-untold : goal.returns-in-None-clause-untold
 returns-in-None-clause-untold g c is_open place =
     c.last.ensures.untold (λ image there. (is_open image there).whole_index) (λ image there. (is_open image there).agrees) (λ image there. place-rests c.args.behind.now image (place image there))
+
+pub returns-in-Some-clause-damaged : goal.returns-in-Some-clause-damaged
+returns-in-Some-clause-damaged g c =
+    if_damaged_weaker c.before-in-Some.result _ _ (λ damage wrong. moved c.args.files.now (g.F.Folder.told c.args.f.now) (g.F.Folder.told c.before-in-Some.new.f) damage c.before-in-Some.ensures.stays (node-word-checked c.args.files.now (g.F.Folder.told c.args.f.now) _ _ damage wrong)) c.before-in-Some.ensures.damaged
+
+pub returns-in-None-clause-damaged : goal.returns-in-None-clause-damaged
+returns-in-None-clause-damaged g c =
+    if_damaged_weaker c.last.result _ _ (λ damage wrong. moved c.args.files.now (g.F.Folder.told c.args.f.now) (g.F.Folder.told c.last.new.f) damage c.last.ensures.stays (node-word-checked c.args.files.now (g.F.Folder.told c.args.f.now) _ _ damage wrong)) c.last.ensures.damaged

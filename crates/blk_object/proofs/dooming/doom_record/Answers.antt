@@ -6,6 +6,7 @@ use Rattle.blk_lru.proofs.Kept.{kept_sealed}
 use Rattle.blk_lru.proofs.Performing.{part_kept}
 use Rattle.blk_object.specs.Dooming.{doomed_change}
 use Rattle.blk_object.proofs.HeldDooms.{doomed-told, mid-finds, out-checks, state-changes}
+use Rattle.blk_object.proofs.DamageChecks.{checked-where-stays, record-checked}
 use Rattle.blk_object.proofs.dooming.doom_record.Goals as goal
 
 pub update_sealed-requires-clause-begins : goal.update_sealed-requires-clause-begins
@@ -39,3 +40,9 @@ pub returns-clause-untold : goal.returns-clause-untold
 returns-clause-untold g c from there state layout number object loaded chains unlinked o =
     c.update_sealed.ensures.untold (λ image is. subst (RecordChecks c.args.entry) (some_inj (sym there ∙ is))
     (out-checks state layout number object loaded chains unlinked c.args.entry from o (g.met.F.Folder.are_bytes c.args.f.now from there)))
+
+pub returns-clause-damaged : goal.returns-clause-damaged
+returns-clause-damaged g c =
+    checked-where-stays c.update_sealed.result c.args.files.now (g.F.Folder.told c.args.f.now) (g.F.Folder.told c.update_sealed.new.f) _
+    (λ damage failed. record-checked c.args.files.now (g.F.Folder.told c.args.f.now) c.args.entry _ damage (inr c.requires.kind) c.requires.stands failed)
+    c.update_sealed.ensures.unwritten c.update_sealed.ensures.damaged

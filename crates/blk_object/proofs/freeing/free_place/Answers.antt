@@ -1,4 +1,4 @@
-use Rattle.std.proofs.Common.{◌≢◌, inl, refl, sym, ◌∙◌}
+use Rattle.std.proofs.Common.{◌≢◌, false, inl, refl, sym, ◌∙◌}
 use Rattle.std.proofs.lemmas.Result.{on_ok_weaker}
 use Rattle.blk_image.specs.Image.{Index}
 use Rattle.blk_image.proofs.Runs.{passes_end, passes_weaker}
@@ -8,6 +8,8 @@ use Rattle.blk_kept_calls.proofs.Freeing.{frees-remove, frees-stay}
 use Rattle.blk_alloc.specs.Owning.{FreesOrStops}
 use Rattle.blk_stream.proofs.PlacesFreed.{freed_only}
 use Rattle.blk_object.proofs.FreeingRuns.{still-open}
+use Rattle.blk_object.proofs.DamageChecks.{cause-checked, checked-where-stays}
+use Rattle.blk_disk.proofs.Ranges.{stands_linked}
 use Rattle.blk_object.proofs.freeing.free_place.Goals as goal
 
 pub returns-else-is_external-clause-freed : goal.returns-else-is_external-clause-freed
@@ -32,3 +34,8 @@ pub returns-else-is_external-clause-is_open : goal.returns-else-is_external-clau
 returns-else-is_external-clause-is_open g c =
     still-open c.args.files.now (g.F.Folder.told c.args.f.now) (g.F.Folder.told c.free.new.f) (FreesOrStops c.args.place) (λ from image h. (freed_only c.args.place from image h).lengths Index refl)
     (λ from there. passes_end (c.free.ensures.stops from there)) c.free.ensures.silent c.free.ensures.agrees c.requires.is_open
+
+pub returns-else-is_external-clause-damaged : goal.returns-else-is_external-clause-damaged
+returns-else-is_external-clause-damaged g c =
+    let blocky : kind_of c.args.place ≢ external = of_other (kind_of c.args.place) external (sym c.is_external.ensures ∙ c.if-is_external.false) in
+    checked-where-stays c.free.result c.args.files.now (g.F.Folder.told c.args.f.now) (g.F.Folder.told c.free.new.f) _ (λ damage cause. cause-checked c.args.files.now (g.F.Folder.told c.args.f.now) _ _ _ false damage (stands_linked c.args.files.now c.args.place (c.requires.stands blocky)) cause) c.free.ensures.unwritten c.free.ensures.cause

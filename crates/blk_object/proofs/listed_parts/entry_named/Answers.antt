@@ -1,10 +1,16 @@
-use Rattle.std.proofs.Common.{rules, ◌≡◌, ◌∙◌, sym, ap, arith, true, false}
+use Rattle.std.proofs.Common.{rules, ◌≡◌, ◌+◌, ◌*◌, ◌∙◌, sym, ap, ap₂, arith, true, false, ℕ}
 use Rattle.blk_disk.specs.Tables.{is_record_among}
-use Rattle.blk_lru.proofs.NodeWords.{node_kind, node_room, node_stands}
+use Rattle.blk_lru.proofs.NodeWords.{node_kind, node_place, node_room, node_stands}
 use Rattle.blk_lru.proofs.LinkReads.{dangling_untold, read_link}
 use Rattle.blk_object.specs.ListedParts.{LoadsAt}
 use Rattle.blk_volume.specs.Loads.{Loaded}
 use Rattle.blk_object.proofs.PartNames.{contents-word, record-named}
+use Rattle.blk_object.proofs.DamageChecks.{handed, moved, short-checked}
+use Rattle.blk_object.specs.FailedChecks.{FailsPlace, NamesNoRecord, OfRecord}
+use Rattle.blk_format.specs.Address.{file_selector, place}
+use Rattle.blk_io.specs.declared.folder.FileId.TheVariants as names
+use Rattle.blk_disk.proofs.Ranges.{name_is, stands_blocky}
+use Rattle.blk_object.proofs.listed_parts.entry_named.Given as given
 use Rattle.blk_object.proofs.listed_parts.entry_named.Goals as goal
 
 pub read_block-requires-clause-stands : goal.read_block-requires-clause-stands
@@ -28,3 +34,22 @@ pub returns-clause-entry : goal.returns-clause-entry
 returns-clause-entry g c image there =
     let same : c.in-Some.entry ≡ c.from_le_bytes-found.result = search rules in
     same ∙ read_link image c.args.node 24 c.read_block.new.out c.from_le_bytes-found.result (c.in_ok-read_block.ensures.bytes image there) c.from_le_bytes-found.ensures ∙ contents-word image c.args.node
+
+pub returns-in_err-read_block-clause-damaged : goal.returns-in_err-read_block-clause-damaged
+returns-in_err-read_block-clause-damaged g c =
+    handed c.read_block.result c.from_residual.result c.in_err-read_block.field-0.0 _ c.args.files.now (g.F.Folder.told c.read_block.new.f)
+    (λ damage short. moved c.args.files.now (g.F.Folder.told c.args.f.now) (g.F.Folder.told c.read_block.new.f) damage c.read_block.ensures.stays (short-checked c.args.files.now (g.F.Folder.told c.args.f.now) _ _ _ damage short))
+    c.in_err-read_block.was c.from_residual.ensures.1 c.read_block.ensures.short
+
+nameless : (g : given.Over) (c : goal.After-from-in_default g) → NamesNoRecord c.args.files.now (g.F.Folder.told c.args.f.now) (names.Block (file_selector c.args.node)) (place c.args.node + 24) (record { file = c.file_of-file.result; at = 8192 + c.from.result * 36 + c.from-in_default.result; found = c.from_le_bytes-found.result })
+nameless g c =
+    let kind = node_kind c.args.files.now c.args.node c.requires.node in
+    record {
+      of_file = name_is c.args.node c.file_of-file.result (stands_blocky c.args.files.now c.args.node (node_stands c.args.files.now c.args.node c.requires.node)) c.file_of-file.ensures;
+      at_place = ap₂ (λ (a b : ℕ). a + b) (node_place c.args.node c.from.result kind (c.from.ensures ∙ c.start.ensures)) c.from-in_default.ensures;
+      unlike = search rules;
+      there = λ image there. read_link image c.args.node 24 c.read_block.new.out c.from_le_bytes-found.result (c.in_ok-read_block.ensures.bytes image there) c.from_le_bytes-found.ensures;
+    }
+
+pub returns-in_default-clause-damaged : goal.returns-in_default-clause-damaged
+returns-in_default-clause-damaged g c = moved c.args.files.now (g.F.Folder.told c.args.f.now) (g.F.Folder.told c.read_block.new.f) _ c.in_ok-read_block.ensures.stays (FailsPlace (OfRecord _ _ (nameless g c)))

@@ -1,6 +1,6 @@
 use Rattle.std.proofs.Common.{rules, ◌≡◌, ◌∙◌, None, Option, ℕ, true, false, sym, ap, subst, arith}
 use Rattle.std.specs.Option.{ForSome}
-use Rattle.std.specs.Prelude.{filter, is_some}
+use Rattle.std.specs.Prelude.{IfSome, filter, is_some}
 use Rattle.blk_image.specs.Image.{Image}
 use Rattle.blk_image.specs.Told.{Told}
 use Rattle.blk_image.proofs.Runs.{some_inj}
@@ -9,8 +9,9 @@ use Rattle.blk_io.proofs.Carried.{carried}
 use Rattle.blk_volume.specs.Loads.{Loaded}
 use Rattle.blk_disk.specs.Tables.{Agrees}
 use Rattle.blk_lru.specs.Lists.{IsListed}
-use Rattle.blk_object.specs.ListedParts.{LoadsAt}
+use Rattle.blk_object.specs.ListedParts.{LoadsAt, SaysPart}
 use Rattle.blk_object.proofs.WalkedParts.{IsWalkedTo, found-none, found-some, step-finds, step-listed, step-loads, step-walks, turns-ended, walk-begun, walk-ended}
+use Rattle.blk_object.proofs.DamageChecks.{handed, moved, node-word-checked}
 use Rattle.blk_object.proofs.listed_parts.next_part.Goals as goal
 
 pub returns-in_err-next-clause-untold : goal.returns-in_err-next-clause-untold
@@ -72,3 +73,13 @@ loop-preserved g c = record {
 pub returns-clause-part : goal.returns-clause-part
 returns-clause-part g c from there state layout keep chains unlinked items k are =
     turns-ended layout c.args.key.now (filter keep state.uses) items c.loop.next c.loop.counter from k.list (search rules) (c.loop.invariant.walks from there state layout keep chains unlinked items k are)
+
+pub returns-in_err-next-2-clause-damaged : goal.returns-in_err-next-2-clause-damaged
+returns-in_err-next-2-clause-damaged g c =
+    handed c.after.result c.from_residual-in_err-next-2.result c.in_err-next-2.field-0.0 _ c.args.files.now (g.F.Folder.told c.after.new.f)
+    (λ damage wrong. moved c.args.files.now (g.F.Folder.told c.part_at.new.f) (g.F.Folder.told c.after.new.f) damage c.after.ensures.stays (node-word-checked c.args.files.now (g.F.Folder.told c.part_at.new.f) _ _ damage wrong))
+    c.in_err-next-2.was c.from_residual-in_err-next-2.ensures.1 c.after.ensures.damaged
+
+pub returns-then-is_some-clause-named : goal.returns-then-is_some-clause-named
+returns-then-is_some-clause-named g c =
+    subst (λ (t : Told). IfSome c.in_ok-found.found (λ part. ForSome t.files (SaysPart part.entry c.args.key.now part.number))) c.loop.invariant.stays c.in_ok-found.ensures.named

@@ -7,6 +7,8 @@ use Rattle.blk_volume.specs.Layout.{nodes_of}
 use Rattle.blk_volume.specs.ListImages.{HasListAtRest}
 use Rattle.blk_object.specs.ListedParts.{AreSearched}
 use Rattle.blk_object.proofs.WalkedParts.{begins-behind, begins-listed, list-rests, starts-first}
+use Rattle.blk_object.proofs.DamageChecks.{moved, node-word-checked}
+use Rattle.blk_io.proofs.Carried.{if_damaged_weaker}
 use Rattle.blk_object.proofs.listed_parts.node_behind.Goals as goal
 
 pub returns-in-Some-clause-node : goal.returns-in-Some-clause-node
@@ -30,3 +32,11 @@ pub returns-in-None-clause-untold : goal.returns-in-None-clause-untold
 returns-in-None-clause-untold g c from there state layout keep chains unlinked items k are =
     c.first.ensures.untold (λ image is. (c.requires.is_open image is).whole_index) (λ image is. (c.requires.is_open image is).agrees)
     (λ image is. list-rests (nodes_of layout (filter keep state.uses)) image (subst (λ (i : Image). HasListAtRest (nodes_of layout (filter keep state.uses)) i) (some_inj (sym there ∙ is)) k.list))
+
+pub returns-in-Some-clause-damaged : goal.returns-in-Some-clause-damaged
+returns-in-Some-clause-damaged g c =
+    if_damaged_weaker c.after.result _ _ (λ damage wrong. moved c.args.files.now (g.F.Folder.told c.args.f.now) (g.F.Folder.told c.after.new.f) damage c.after.ensures.stays (node-word-checked c.args.files.now (g.F.Folder.told c.args.f.now) _ _ damage wrong)) c.after.ensures.damaged
+
+pub returns-in-None-clause-damaged : goal.returns-in-None-clause-damaged
+returns-in-None-clause-damaged g c =
+    if_damaged_weaker c.first.result _ _ (λ damage wrong. moved c.args.files.now (g.F.Folder.told c.args.f.now) (g.F.Folder.told c.first.new.f) damage c.first.ensures.stays (node-word-checked c.args.files.now (g.F.Folder.told c.args.f.now) _ _ damage wrong)) c.first.ensures.damaged

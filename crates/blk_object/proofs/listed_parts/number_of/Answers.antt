@@ -1,9 +1,12 @@
-use Rattle.std.proofs.Common.{rules, ◌≡◌, ◌∙◌, None, Some, sym, ap, subst}
+use Rattle.std.proofs.Common.{rules, ◌≡◌, ◌∙◌, None, Some, sym, ap, subst, List, ℕ}
 use Rattle.blk_image.specs.Told.{Told}
 use Rattle.blk_io.specs.Faults.{IfDamaged}
 use Rattle.blk_io.proofs.Carried.{carried}
+use Rattle.blk_format.specs.Names.{read_name}
+use Rattle.blk_object.specs.ListedParts.{number_said}
 use Rattle.blk_object.proofs.OwnedPlaces.{loaded-checks}
 use Rattle.blk_object.proofs.PartNames.{key-readable, not-a-part, part-read}
+use Rattle.blk_object.proofs.DamageChecks.{handed, head-checked, moved, part-checked, said-by, whole-key}
 use Rattle.blk_object.proofs.listed_parts.number_of.Goals as goal
 
 pub returns-in_err-head-clause-untold : goal.returns-in_err-head-clause-untold
@@ -31,3 +34,22 @@ returns-clause-number g c image there loaded lies =
     c.part_named.ensures.number
     ∙ part-read c.args.key.now image c.args.entry c.in_ok-head.head loaded c.args.room.now c.key_piece.new.out c.in_ok-len.len (c.in_ok-head.ensures.head image there) lies (search rules) c.requires.room
     (c.in_ok-len.ensures.piece image (ap (λ (t : Told). t.files) c.in_ok-head.ensures.stays ∙ there))
+
+pub returns-in_err-head-clause-damaged : goal.returns-in_err-head-clause-damaged
+returns-in_err-head-clause-damaged g c =
+    handed c.read_head.result c.from_residual.result c.in_err-head.field-0.0 _ c.args.files.now (g.F.Folder.told c.read_head.new.f)
+    (λ damage wrong. moved c.args.files.now (g.F.Folder.told c.args.f.now) (g.F.Folder.told c.read_head.new.f) damage c.read_head.ensures.stays (head-checked c.args.files.now (g.F.Folder.told c.args.f.now) c.args.entry damage c.requires.kind c.requires.stands wrong))
+    c.in_err-head.was c.from_residual.ensures.1 c.read_head.ensures.damaged
+
+pub returns-in_err-len-clause-damaged : goal.returns-in_err-len-clause-damaged
+returns-in_err-len-clause-damaged g c =
+    handed c.key_piece.result c.from_residual-in_err-len.result c.in_err-len.field-0.0 _ c.args.files.now (g.F.Folder.told c.key_piece.new.f)
+    (λ damage wrong. moved c.args.files.now (g.F.Folder.told c.read_head.new.f) (g.F.Folder.told c.key_piece.new.f) damage c.key_piece.ensures.stays (part-checked c.args.files.now (g.F.Folder.told c.read_head.new.f) c.args.entry _ _ damage c.requires.kind c.requires.stands wrong))
+    c.in_err-len.was c.from_residual-in_err-len.ensures.1 c.key_piece.ensures.damaged
+
+pub returns-clause-named : goal.returns-clause-named
+returns-clause-named g c =
+    said-by c.args.entry c.args.key.now c.part_named.result (g.F.Folder.told c.args.f.now).files (λ image there.
+    let now : (g.F.Folder.told c.read_head.new.f).files ≡ Some image = ap (λ (t : Told). t.files) c.in_ok-head.ensures.stays ∙ there in
+    ap (λ (bytes : List ℕ). number_said c.args.key.now (read_name bytes)) (sym (whole-key c.args.files.now image c.args.entry c.args.room.now c.key_piece.new.out c.in_ok-len.len (c.in_ok-len.ensures.bytes image now) (c.in_ok-len.ensures.placed image now) c.requires.room))
+    ∙ sym c.part_named.ensures.number)

@@ -5,6 +5,8 @@ use Rattle.blk_io.specs.Faults.{IfDamaged}
 use Rattle.blk_io.proofs.Carried.{carried}
 use Rattle.blk_disk.specs.Tables.{Agrees}
 use Rattle.blk_object.proofs.PartNames.{at-with, part-none, part-some}
+use Rattle.blk_object.specs.ListedParts.{SaysPart}
+use Rattle.blk_object.proofs.DamageChecks.{of-some}
 use Rattle.blk_object.proofs.listed_parts.part_at.Goals as goal
 
 pub returns-in_err-number-clause-untold : goal.returns-in_err-number-clause-untold
@@ -27,3 +29,7 @@ returns-in-None-clause-part g c image there loaded at =
     let lies = at-with image c.args.node c.in_ok-entry.entry loaded (c.in_ok-entry.ensures.entry image there) at in
     part-none c.args.key.now c.args.node loaded
     (sym c.in-None.is ∙ c.in_ok-number.ensures.number image (ap (λ (t : Told). t.files) c.in_ok-entry.ensures.stays ∙ there) loaded lies)
+
+pub returns-in-Some-clause-named : goal.returns-in-Some-clause-named
+returns-in-Some-clause-named g c =
+    subst (λ (t : Told). ForSome t.files (SaysPart c.in_ok-entry.entry c.args.key.now c.in-Some.number)) c.in_ok-entry.ensures.stays (of-some c.in_ok-number.field-0 c.in-Some.number _ c.in-Some.is c.in_ok-number.ensures.named)

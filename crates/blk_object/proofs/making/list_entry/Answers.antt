@@ -5,6 +5,7 @@ use Rattle.blk_volume.specs.Completion.{insert}
 use Rattle.blk_volume.specs.ListImages.{operation_steps}
 use Rattle.blk_object.proofs.MakingListed.{can-insert, inserting-finds, listing-finds, listing-listed, part-tells, record-parts}
 use Rattle.blk_object.proofs.MakingTimes.{listing-times, node-kind}
+use Rattle.blk_object.proofs.DamageChecks.{checked-where-stays, handed, insert-checked, short-checked}
 use Rattle.blk_object.proofs.making.list_entry.Goals as goal
 
 pub returns-in_err-insert_front-clause-stops : goal.returns-in_err-insert_front-clause-stops
@@ -41,3 +42,11 @@ returns-clause-times g c =
     on_ok_weaker c.link_front.result
     (λ steps. listing-times (g.F.Folder.told c.args.f.now) (g.F.Folder.told c.insert_front.new.f) (g.F.Folder.told c.link_front.new.f) c.args.files.now c.args.entry c.args.node c.requires.is_open c.requires.stands (node-kind c.args.files.now c.args.node c.requires.node)
     c.in_ok-insert_front.ensures.checked c.in_ok-insert_front.ensures.steps steps) c.link_front.ensures.steps
+
+pub returns-in_err-insert_front-clause-damaged : goal.returns-in_err-insert_front-clause-damaged
+returns-in_err-insert_front-clause-damaged g c =
+    handed c.insert_front.result c.from_residual.result c.in_err-insert_front.field-0.0 _ c.args.files.now (g.F.Folder.told c.insert_front.new.f) (insert-checked c.args.files.now _ _) c.in_err-insert_front.was c.from_residual.ensures.1 c.insert_front.ensures.damaged
+
+pub returns-clause-damaged : goal.returns-clause-damaged
+returns-clause-damaged g c =
+    checked-where-stays c.link_front.result c.args.files.now (g.F.Folder.told c.insert_front.new.f) (g.F.Folder.told c.link_front.new.f) _ (λ damage short. short-checked c.args.files.now (g.F.Folder.told c.insert_front.new.f) _ _ _ damage short) c.link_front.ensures.unwritten c.link_front.ensures.short

@@ -11,6 +11,8 @@ use Rattle.blk_object.specs.Counters.{AreCounters}
 use Rattle.blk_object.proofs.MakingMade.{among-names, can-list, counting-made, listing-made, nothing-made, object-made, room-three, taking-made, tells-late, tells-mid, writing-made}
 use Rattle.blk_object.proofs.MakingTaken.{told-before}
 use Rattle.blk_object.proofs.MakingTimes.{counting-times}
+use Rattle.blk_object.proofs.DamageChecks.{handed}
+use Rattle.blk_object.specs.FailedChecks.{FailsShort}
 use Rattle.blk_object.proofs.making.make_entry.Goals as goal
 
 pub returns-in_err-counters-clause-stops : goal.returns-in_err-counters-clause-stops
@@ -84,3 +86,7 @@ returns-clause-times g c image now =
     let late = told-before (g.F.Folder.told c.write_new.new.f).files (g.F.Folder.told c.list_entry.new.f).files named.0 c.list_entry.ensures.silent named.1 in
     counting-times c.in_ok-places.places.entry c.in_ok-places.places.node _ _ _ named.0 image (c.in_ok-count_entry.ensures.written named.0 named.1 image now) c.args.moment
     (c.in_ok-list_entry.ensures.times late.0 late.1 named.0 named.1 c.args.moment (c.in_ok-write_new.ensures.times late.0 late.1))
+
+pub returns-in_err-counters-clause-damaged : goal.returns-in_err-counters-clause-damaged
+returns-in_err-counters-clause-damaged g c =
+    handed c.read_counters.result c.from_residual.result c.in_err-counters.field-0.0 _ c.args.files.now (g.F.Folder.told c.read_counters.new.f) (λ damage few. FailsShort few) c.in_err-counters.was c.from_residual.ensures.1 c.read_counters.ensures.damaged

@@ -11,6 +11,8 @@ use Rattle.blk_object.specs.Making.{IsEntryOfKept, words_of_places, new_entry}
 use Rattle.blk_object.proofs.MakingTaken.{nothing-finds}
 use Rattle.blk_object.proofs.MakingWritten.{bucket-is, entry-written, fits-next, on-ok-three, writing-finds}
 use Rattle.blk_object.proofs.MakingTimes.{written-times}
+use Rattle.blk_object.proofs.DamageChecks.{handed, moved, short-checked}
+use Rattle.blk_io.proofs.Carried.{if_damaged_weaker}
 use Rattle.blk_object.proofs.making.write_new.Goals as goal
 
 pub returns-in_err-next-clause-stops : goal.returns-in_err-next-clause-stops
@@ -54,3 +56,13 @@ pub returns-clause-times : goal.returns-clause-times
 returns-clause-times g c =
     on_ok_weaker c.write_entry.result
     (λ written image now. written-times (new_entry c.args.places.now c.args.mark c.in_ok-next.next) c.args.key.now c.args.moment image (written image now)) c.write_entry.ensures.written
+
+pub returns-in_err-next-clause-damaged : goal.returns-in_err-next-clause-damaged
+returns-in_err-next-clause-damaged g c =
+    handed c.bucket.result c.from_residual.result c.in_err-next.field-0.0 _ c.args.files.now (g.F.Folder.told c.bucket.new.f)
+    (λ damage short. moved c.args.files.now (g.F.Folder.told c.args.f.now) (g.F.Folder.told c.bucket.new.f) damage c.bucket.ensures.stays (short-checked c.args.files.now (g.F.Folder.told c.args.f.now) _ _ _ damage short))
+    c.in_err-next.was c.from_residual.ensures.1 c.bucket.ensures.short
+
+pub returns-clause-damaged : goal.returns-clause-damaged
+returns-clause-damaged g c =
+    if_damaged_weaker c.write_entry.result _ _ (λ damage never. absurd never) c.write_entry.ensures.never

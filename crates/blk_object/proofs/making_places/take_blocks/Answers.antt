@@ -8,6 +8,8 @@ use Rattle.blk_disk.specs.Tables.{Agrees}
 use Rattle.blk_object.specs.Making.{LeavesRoom, Takes}
 use Rattle.blk_object.proofs.MakingRoom.{counted-with-room}
 use Rattle.blk_object.proofs.MakingTaken.{allocated-taken, allocating-finds, allocating-tells, allocating-whole, block-kind, then-stays}
+use Rattle.blk_object.proofs.DamageChecks.{handed, refusal-checked}
+use Rattle.blk_object.specs.FailedChecks.{FailsLength}
 use Rattle.blk_object.proofs.making_places.take_blocks.Goals as goal
 
 pub allocate-requires-clause-agrees : goal.allocate-requires-clause-agrees
@@ -52,3 +54,13 @@ returns-clause-is_open g c image there = record {
   agrees = subst (λ (t : Told). ForSome t.files (Agrees c.allocate.new.files)) (sym c.check_index.ensures.stays) c.in_ok-addr.ensures.agrees image there;
   whole_index = subst (λ (t : Told). ForSome t.files HasWholeIndex) (sym c.check_index.ensures.stays) c.in_ok-check_index.ensures.whole image there;
 }
+
+pub returns-in_err-addr-clause-damaged : goal.returns-in_err-addr-clause-damaged
+returns-in_err-addr-clause-damaged g c =
+    handed c.allocate.result c.from_residual.result c.in_err-addr.field-0.0 _ c.allocate.new.files (g.F.Folder.told c.allocate.new.f)
+    (λ damage cause. refusal-checked c.args.files.now c.allocate.new.files c.args.kind c.args.count (g.F.Folder.told c.args.f.now) (g.F.Folder.told c.allocate.new.f) damage c.requires.block_kind c.allocate.ensures.keeps cause)
+    c.in_err-addr.was c.from_residual.ensures.1 c.allocate.ensures.cause
+
+pub returns-in_err-check_index-clause-damaged : goal.returns-in_err-check_index-clause-damaged
+returns-in_err-check_index-clause-damaged g c =
+    handed c.check_index.result c.from_residual-in_err-check_index.result c.in_err-check_index.field-0.0 _ c.allocate.new.files (g.F.Folder.told c.check_index.new.f) (λ damage other. FailsLength other) c.in_err-check_index.was c.from_residual-in_err-check_index.ensures.1 c.check_index.ensures.damaged

@@ -6,6 +6,7 @@ use Rattle.blk_format.specs.Address.{is_address}
 use Rattle.blk_io.proofs.Carried.{carried, silent_part}
 use Rattle.blk_object.proofs.MakingRoom.{free-with-room}
 use Rattle.blk_object.proofs.MakingTaken.{creating-finds, file-open, file-taken, sized-long, sizing-finds}
+use Rattle.blk_object.proofs.DamageChecks.{checked-handed, create-checked}
 use Rattle.blk_object.proofs.making_places.take_file.Goals as goal
 
 pub returns-in_err-addr-clause-stops : goal.returns-in_err-addr-clause-stops
@@ -39,3 +40,7 @@ returns-clause-holds g c =
 pub returns-clause-is_open : goal.returns-clause-is_open
 returns-clause-is_open g c =
     file-open c.in_ok-addr.addr c.args.files.now (g.F.Folder.told c.args.f.now) (g.F.Folder.told c.create.new.f) (g.F.Folder.told c.resize.new.f) c.requires.is_open c.in_ok-addr.ensures.steps c.create.ensures.complete c.resize.ensures.stops (silent_part c.resize.ensures.prefix)
+
+pub returns-in_err-addr-clause-damaged : goal.returns-in_err-addr-clause-damaged
+returns-in_err-addr-clause-damaged g c =
+    checked-handed c.create.result c.from_residual.result c.in_err-addr.field-0.0 c.args.files.now (g.F.Folder.told c.args.f.now) (g.F.Folder.told c.create.new.f) _ (create-checked c.args.files.now (g.F.Folder.told c.args.f.now)) c.in_err-addr.was c.from_residual.ensures.1 c.create.ensures.unwritten c.create.ensures.damaged

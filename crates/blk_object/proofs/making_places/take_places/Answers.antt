@@ -9,6 +9,8 @@ use Rattle.blk_object.specs.Making.{LeavesRoom, Takes}
 use Rattle.blk_object.specs.declared.making_places.Places.{Places}
 use Rattle.blk_object.proofs.MakingTaken.{room-for-one}
 use Rattle.blk_object.proofs.MakingPlaces.{blocks-few, never-shared, room-after, room-for-third, tells-first, tells-two, three-find, three-taken, two-find, two-taken}
+use Rattle.blk_object.proofs.DamageChecks.{handed}
+use Rattle.blk_object.specs.FailedChecks.{FailsPlace, IsSharedKey, OfSharedBlocks}
 use Rattle.blk_object.proofs.making_places.take_places.Goals as goal
 
 pub take_blocks-requires-clause-some : goal.take_blocks-requires-clause-some
@@ -81,8 +83,8 @@ returns-in_err-check_apart-clause-untold g c room =
     two-taken a b d 1 c.in_ok-entry.entry c.in_ok-node.node c.take_blocks.ensures.stops c.in_ok-entry.ensures.taken c.take_blocks-2.ensures.stops c.in_ok-node.ensures.taken in
     let apart : kind_of c.in_ok-entry.entry ≢ external = λ is. (let z : ◌≡◌ {A = ℕ} 2 0 = sym c.in_ok-entry.ensures.kind.0 ∙ is in cc) in
     carried c.check_apart.result c.from_residual-in_err-check_apart.result c.in_err-check_apart.field-0.0 (λ _. a.files ≡ None) c.in_err-check_apart.was c.from_residual-in_err-check_apart.ensures.1
-    (if_damaged_weaker c.check_apart.result (λ _. LiesApart c.in_ok-entry.entry c.in_ok-long_key.long_key → ⊥) (λ _. a.files ≡ None)
-    (λ damage shared. never-shared a d e places two taken c.take_long_key.ensures.stops c.in_ok-long_key.ensures.taken apart (λ none. c.take_long_key.ensures.silent (c.take_blocks-2.ensures.silent (c.take_blocks.ensures.silent none))) room shared)
+    (if_damaged_weaker c.check_apart.result (IsSharedKey c.in_ok-entry.entry c.in_ok-long_key.long_key) (λ _. a.files ≡ None)
+    (λ damage key. never-shared a d e places two taken c.take_long_key.ensures.stops c.in_ok-long_key.ensures.taken apart (λ none. c.take_long_key.ensures.silent (c.take_blocks-2.ensures.silent (c.take_blocks.ensures.silent none))) room key.shared)
     c.check_apart.ensures.damaged)
 
 pub returns-clause-stops : goal.returns-clause-stops
@@ -104,3 +106,9 @@ returns-clause-taken g c =
     (two-find a b d 1 c.in_ok-entry.entry c.in_ok-node.node c.take_blocks.ensures.stops c.in_ok-entry.ensures.taken c.take_blocks-2.ensures.stops)
     (two-taken a b d 1 c.in_ok-entry.entry c.in_ok-node.node c.take_blocks.ensures.stops c.in_ok-entry.ensures.taken c.take_blocks-2.ensures.stops c.in_ok-node.ensures.taken)
     c.take_long_key.ensures.stops c.in_ok-long_key.ensures.taken
+
+pub returns-in_err-check_apart-clause-damaged : goal.returns-in_err-check_apart-clause-damaged
+returns-in_err-check_apart-clause-damaged g c =
+    handed c.check_apart.result c.from_residual-in_err-check_apart.result c.in_err-check_apart.field-0.0 _ c.take_long_key.new.files (g.F.Folder.told c.take_long_key.new.f)
+    (λ damage key. FailsPlace (OfSharedBlocks (record { entry = c.in_ok-entry.entry; long_key = c.in_ok-long_key.long_key; kind = c.in_ok-entry.ensures.kind.0; stands = c.take_long_key.ensures.keeps c.in_ok-entry.entry (c.take_blocks-2.ensures.keeps c.in_ok-entry.entry c.in_ok-entry.ensures.stands); key = key })))
+    c.in_err-check_apart.was c.from_residual-in_err-check_apart.ensures.1 c.check_apart.ensures.damaged

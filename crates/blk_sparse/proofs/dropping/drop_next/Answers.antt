@@ -13,6 +13,10 @@ use Rattle.blk_sparse.specs.Dropping.{HasSignature}
 use Rattle.blk_sparse.proofs.PartsOut.{left-finds, stays-passes, stays-there}
 use Rattle.blk_sparse.proofs.PartsNext.{first-behind, first-left, first-listed, next-out, none-behind, of-some, same-session, same-unlinked}
 use Rattle.blk_sparse.proofs.Walking.{searched}
+use Rattle.blk_object.proofs.DamageChecks.{handed, moved, node-word-checked}
+use Rattle.std.specs.Option.{ForSome}
+use Rattle.blk_object.specs.FailedChecks.{IsFailedCheck}
+use Rattle.blk_object.specs.ListedParts.{SaysPart}
 use Rattle.blk_sparse.proofs.dropping.drop_next.Goals as goal
 
 pub returns-in_err-part-clause-stops : goal.returns-in_err-part-clause-stops
@@ -129,3 +133,15 @@ returns-clause-stops g c from there state layout keep chains unlinked number obj
     let first = first-behind state layout keep chains unlinked c.args.key.now number object c.args.from from left is c.in_ok-part.field-0 c.in-Some.part c.in-Some.is (c.in_ok-part.ensures.part from there) in
     let same : HasSignature layout c.args.key.now _ = subst (HasSignature layout c.args.key.now) (sym (of_z-to_z w64 (cast_unsigned w64 c.args.signature) (let small = c.requires.signature in omega (arith, small)))) sig in
     passes_stayed stays (c.in_ok-charge.ensures.stops from at state layout keep chains unlinked number object left same (first-left state layout keep chains unlinked c.args.key.now number object c.args.from from left is c.in-Some.part first))
+
+pub returns-in_err-behind-clause-damaged : goal.returns-in_err-behind-clause-damaged
+returns-in_err-behind-clause-damaged g c =
+    handed c.before-2.result c.from_residual-in_err-behind.result c.in_err-behind.field-0.0 _ c.args.files.now (g.F.Folder.told c.before-2.new.f)
+    (λ damage wrong. moved c.args.files.now (g.F.Folder.told c.next_part.new.f) (g.F.Folder.told c.before-2.new.f) damage c.before-2.ensures.stays (node-word-checked c.args.files.now (g.F.Folder.told c.next_part.new.f) _ _ damage wrong))
+    c.in_err-behind.was c.from_residual-in_err-behind.ensures.1 c.before-2.ensures.damaged
+
+pub returns-in_err-charge-clause-damaged : goal.returns-in_err-charge-clause-damaged
+returns-in_err-charge-clause-damaged g c =
+    carried c.drop_part.result c.from_residual-in_err-charge.result c.in_err-charge.field-0.0 (IsFailedCheck c.args.files.now (g.F.Folder.told c.drop_part.new.f)) c.in_err-charge.was c.from_residual-in_err-charge.ensures.1
+    (c.drop_part.ensures.damaged (subst (λ (t : Told). ForSome t.files (SaysPart c.in-Some.part.entry c.args.key.now c.in-Some.part.number)) (sym (c.in_ok-behind.ensures.stays ∙ c.in_ok-part.ensures.stays))
+    (of-some c.in_ok-part.field-0 c.in-Some.part (λ part. ForSome (g.F.Folder.told c.args.f.now).files (SaysPart part.entry c.args.key.now part.number)) c.in-Some.is c.in_ok-part.ensures.named)))

@@ -1,4 +1,4 @@
-use Rattle.std.proofs.Common.{rules, ◌≡◌, ◌∙◌, ap, sym, subst, arith, ℕ, None, Some, take}
+use Rattle.std.proofs.Common.{rules, ◌≡◌, ◌∙◌, Option, true, inr, ap, sym, subst, arith, ℕ, None, Some, take}
 use Rattle.std.specs.Int.{cast_unsigned, w64}
 use Rattle.std.proofs.lemmas.Int.{of_z-to_z}
 use Rattle.blk_format.specs.Names.{child_name}
@@ -11,8 +11,13 @@ use Rattle.blk_model.specs.Effects.{doomed}
 use Rattle.blk_model.specs.Holding.{rest}
 use Rattle.blk_model.specs.Items.{part}
 use Rattle.blk_kept.specs.Changes.{Finds}
-use Rattle.blk_chain.specs.Finding.{CanBeSearched}
-use Rattle.blk_sparse.proofs.PartsOut.{if_ok_weaker, left-finds, none-found, of-object, others-left, others-stay, part-searched, some-found, stays-passes, stays-there}
+use Rattle.blk_chain.specs.Finding.{CanBeSearched, IsOutcome}
+use Rattle.blk_sparse.proofs.PartsOut.{if_ok_weaker, same-part, left-finds, none-found, of-object, others-left, others-stay, part-searched, some-found, stays-passes, stays-there}
+use Rattle.blk_object.proofs.DamageChecks.{handed, moved, search-checked, within-checked}
+use Rattle.blk_entry.proofs.KeyPlaces.{err_damaged}
+use Rattle.blk_entry.specs.Keys.{key_bytes}
+use Rattle.blk_chain.specs.declared.found.Found.{Found}
+use Rattle.blk_object.specs.FailedChecks.{IsFailedCheck, WrongChain}
 use Rattle.blk_sparse.proofs.dropping.drop_part.Goals as goal
 
 pub returns-in_err-found-clause-stops : goal.returns-in_err-found-clause-stops
@@ -94,3 +99,24 @@ returns-clause-untold g c from there state layout keep chains unlinked number ob
     let f = some-found (cast_unsigned w64 c.args.signature) c.args.part.now.number c.args.part.now.node state layout keep chains unlinked c.args.key.now number object from left sig p (take c.child_name-len.result c.child_name-len.new.out) c.in_ok-found.field-0 c.in-Some.found c.in-Some.is (c.child_name-len.ensures.name ∙ ap (λ (s : ℕ). child_name c.args.key.now s c.args.part.now.number) (of_z-to_z w64 (cast_unsigned w64 c.args.signature) (let small = c.requires.signature in omega (arith, small)))) (c.in_ok-found.ensures.found from there) in
     subst (λ (t : Told). IfDamaged c.remove_part.result (λ _. t.files ≡ None)) c.in_ok-found.ensures.stays
     (c.remove_part.ensures.untold from at state layout keep chains unlinked (part c.args.key.now c.args.part.now.number) left.kept f.next)
+
+pub returns-in_err-found-clause-damaged : goal.returns-in_err-found-clause-damaged
+returns-in_err-found-clause-damaged g c says =
+    handed c.find.result c.from_residual.result c.in_err-found.field-0.0 _ c.args.files.now (g.F.Folder.told c.find.new.f)
+    (λ damage wrong. moved c.args.files.now (g.F.Folder.told c.args.f.now) (g.F.Folder.told c.find.new.f) damage c.find.ensures.stays (search-checked c.args.files.now (g.F.Folder.told c.args.f.now) _ _ damage wrong))
+    c.in_err-found.was c.from_residual.ensures.1 c.find.ensures.damaged
+
+pub returns-in_default-clause-damaged : goal.returns-in_default-clause-damaged
+returns-in_default-clause-damaged g c says =
+    let d = c.record_damage.ensures in
+    let none : c.in_ok-found.field-0 ≡ None = search rules in
+    let name = take c.child_name-len.result c.child_name-len.new.out in
+    err_damaged ℕ c.record_damage.result d.damage (IsFailedCheck c.args.files.now (g.F.Folder.told c.find.new.f)) d.is
+    (moved c.args.files.now (g.F.Folder.told c.args.f.now) (g.F.Folder.told c.find.new.f) d.damage c.in_ok-found.ensures.stays
+    (within-checked c.args.files.now (g.F.Folder.told c.args.f.now) c.args.part.now.entry d.damage c.requires.kind c.requires.stands (WrongChain (record {
+      key = name;
+      is_child = true;
+      of_word = d.word;
+      own = λ image there. inr (same-part c.args.key.now (key_bytes image c.args.part.now.entry) name _ c.args.part.now.number (says image there) c.child_name-len.ensures.name);
+      ends = λ image there. subst (λ (o : Option Found). IsOutcome c.args.files.now name true o image) none (c.in_ok-found.ensures.outcome image there);
+    }))))

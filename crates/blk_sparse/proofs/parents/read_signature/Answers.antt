@@ -1,11 +1,14 @@
 use Rattle.std.proofs.Common.{◌≡◌, ◌∙◌, ℤ, sym, arith, None, Err}
 use Rattle.std.specs.Int.{cast_unsigned, w64}
 use Rattle.std.proofs.lemmas.Int.{of_z-to_z}
-use Rattle.blk_entry.proofs.KeyPlaces.{damaged_any}
+use Rattle.blk_entry.proofs.KeyPlaces.{damaged_any, err_damaged}
 use Rattle.blk_io.proofs.Carried.{carried, untold_where}
 use Rattle.blk_object.proofs.OwnedPlaces.{loaded-checks}
 use Rattle.blk_sparse.proofs.PartsNext.{of-some}
-use Rattle.blk_sparse.proofs.ParentsRead.{none-read, signature-read, streams-there}
+use Rattle.blk_sparse.proofs.ParentsRead.{no-index, none-read, signature-read, streams-there}
+use Rattle.blk_object.proofs.DamageChecks.{handed, moved, read-checked, within-checked}
+use Rattle.blk_stream.specs.Streams.{stream_bytes}
+use Rattle.blk_object.specs.FailedChecks.{IsFailedCheck, WrongIndex}
 use Rattle.blk_sparse.proofs.parents.read_signature.Goals as goal
 
 pub returns-in_err-len-clause-untold : goal.returns-in_err-len-clause-untold
@@ -28,3 +31,19 @@ returns-in-None-clause-untold g c agrees lies =
     (untold_where (g.F.Folder.told c.args.f.now).files (λ image there.
     let l = lies image there in
     none-read image c.args.entry l.loaded l.index l.loads l.role c.args.room.now c.read.new.out c.in_ok-len.len c.requires.room (c.in_ok-len.ensures.piece image there) c.read-2.result c.in-None.is c.read-2.ensures.fields))
+
+pub returns-in_err-len-clause-damaged : goal.returns-in_err-len-clause-damaged
+returns-in_err-len-clause-damaged g c =
+    handed c.read.result c.from_residual.result c.in_err-len.field-0.0 _ c.args.files.now (g.F.Folder.told c.read.new.f)
+    (λ damage wrong. moved c.args.files.now (g.F.Folder.told c.args.f.now) (g.F.Folder.told c.read.new.f) damage c.read.ensures.stays (read-checked c.args.files.now (g.F.Folder.told c.args.f.now) c.args.entry _ _ _ damage c.requires.kind c.requires.stands wrong))
+    c.in_err-len.was c.from_residual.ensures.1 c.read.ensures.damaged
+
+pub returns-in-None-clause-damaged : goal.returns-in-None-clause-damaged
+returns-in-None-clause-damaged g c =
+    let d = c.record_damage.ensures in
+    err_damaged ℤ c.record_damage.result d.damage (IsFailedCheck c.args.files.now (g.F.Folder.told c.read.new.f)) d.is
+    (moved c.args.files.now (g.F.Folder.told c.args.f.now) (g.F.Folder.told c.read.new.f) d.damage c.in_ok-len.ensures.stays
+    (within-checked c.args.files.now (g.F.Folder.told c.args.f.now) c.args.entry d.damage c.requires.kind c.requires.stands (WrongIndex (record {
+      of_word = d.word;
+      unlike = λ image there. no-index (stream_bytes image c.args.entry 2) c.args.room.now c.read.new.out c.in_ok-len.len (c.in_ok-len.ensures.bytes image there) c.requires.room c.read-2.result c.in-None.is c.read-2.ensures.fields;
+    }))))

@@ -8,6 +8,7 @@ use Rattle.blk_io.proofs.Carried.{carried, if_damaged_weaker}
 use Rattle.blk_chain.proofs.Heads.{names-parts}
 use Rattle.blk_cache.specs.Asking.{IsAskDamage}
 use Rattle.blk_cache.proofs.Asks.{asked-checks, found-stream, handle-bound, none-early, none-there, opened-stands, opened-there, refused-early, refused-sparse, stream-below}
+use Rattle.blk_object.proofs.DamageChecks.{handed, head-checked, moved}
 use Rattle.blk_cache.proofs.cache.Cache.ask_stream.Goals as goal
 
 pub returns-in-Some-clause-asked : goal.returns-in-Some-clause-asked
@@ -68,3 +69,11 @@ pub returns-clause-stands : goal.returns-clause-stands
 returns-clause-stands g c =
     let stand = opened-stands c.args.self.now.files c.args.self.now.handles c.args.self.now.stand c.args.handle c.in-Some-object.object (opened-there c.args.self.now.handles c.args.handle c.object.result c.in-Some-object.object c.object.ensures.object c.in-Some-object.is) in
     (stand.0, (stand.1, stream-below c.args.self.now c.args.handle c.args.stream (sym c.refuses_stream.ensures ∙ c.in_default.is)))
+
+pub returns-in_err-head-clause-cause : goal.returns-in_err-head-clause-cause
+returns-in_err-head-clause-cause g c =
+    let o = opened-there c.args.self.now.handles c.args.handle c.object.result c.in-Some-object.object c.object.ensures.object c.in-Some-object.is in
+    let p = names-parts c.args.self.now.files c.in-Some-object.object.entry (opened-stands c.args.self.now.files c.args.self.now.handles c.args.self.now.stand c.args.handle c.in-Some-object.object o).1 in
+    handed c.read_head.result c.from_residual.result c.in_err-head.field-0.0 _ c.args.self.now.files (g.F.Folder.told c.read_head.new.f)
+    (λ damage wrong. moved c.args.self.now.files (g.F.Folder.told c.args.f.now) (g.F.Folder.told c.read_head.new.f) damage c.read_head.ensures.stays (head-checked c.args.self.now.files (g.F.Folder.told c.args.f.now) c.in-Some-object.object.entry damage p.1.0 p.1.1 wrong))
+    c.in_err-head.was c.from_residual.ensures.1 c.read_head.ensures.damaged

@@ -1,4 +1,4 @@
-use Rattle.std.proofs.Common.{◌≡◌, inl, inr, Ok, None, Some, Option, true, false, refl, sym, ◌∙◌, ap, subst, arith}
+use Rattle.std.proofs.Common.{◌≡◌, Ok, None, Some, Option, true, false, refl, sym, ◌∙◌, ap, subst, arith}
 use Rattle.std.specs.Prelude.{IsSome, not}
 use Rattle.blk_image.specs.Told.{Told}
 use Rattle.blk_io.proofs.Carried.{carried, if_damaged_weaker}
@@ -9,13 +9,12 @@ use Rattle.blk_disk.specs.Open.{IsOpen}
 use Rattle.blk_kept.proofs.Stopping.{nothing-stops, refusals-done}
 use Rattle.blk_handles.specs.Bindings.{Bindings, is_open}
 use Rattle.blk_cache.specs.CacheKeeping.{KeepsState}
-use Rattle.blk_entry.specs.Keys.{IsHeadDamage}
-use Rattle.blk_handles.specs.declared.open_object.OpenObject.{OpenObject}
 use Rattle.blk_disk.specs.Tables.{Agrees}
-use Rattle.blk_cache.specs.Closing.{IsCloseDamage, IsEndDamage}
 use Rattle.blk_cache.proofs.CloseSteps.{bound-there, free-refused, free-there, last-entry, last-named, last-stands, several-done, was-last, was-more}
 use Rattle.blk_cache.proofs.CloseGone.{closed-done, closed-may, closed-stops}
 use Rattle.blk_cache.proofs.Refusing.{says-kept}
+use Rattle.blk_chain.proofs.Heads.{names-parts}
+use Rattle.blk_object.proofs.DamageChecks.{handed, head-checked, moved}
 use Rattle.blk_cache.proofs.cache.Cache.close.Goals as goal
 
 -- Refused.
@@ -64,17 +63,6 @@ pub returns-in_err-charge-in-Last-clause-is_open : goal.returns-in_err-charge-in
 returns-in_err-charge-in-Last-clause-is_open g c image now =
     subst (λ (files : BlockFiles). IsOpen files image) (sym c.release.ensures.others.files) (c.requires.is_open image (ap (λ (t : Told). t.files) (sym c.in_err-charge-in-Last.ensures.stays) ∙ now))
 
-pub returns-in_err-charge-in-Last-clause-damaged : goal.returns-in_err-charge-in-Last-clause-damaged
-returns-in_err-charge-in-Last-clause-damaged g c =
-    let b = bound-there c.args.self.now.handles c.args.handle c.object.result c.object.ensures.object (c.is_none.ensures ∙ ap not c.if-is_none.false) in
-    let w = was-last c.args.self.now.handles c.release.new.self.handles c.args.handle b.0 b.1 c.release.result c.in-Last.object c.in-Last.is c.release.ensures.answer in
-    carried c.read_charge.result c.from_residual.result c.in_err-charge-in-Last.field-0.0 (IsCloseDamage c.args.self.now.handles (g.F.Folder.told c.args.f.now) c.args.handle) c.in_err-charge-in-Last.was c.from_residual.ensures.1
-    (if_damaged_weaker c.read_charge.result _ _ (λ damage wrong. record {
-      object = b.0;
-      here = b.1;
-      wrong = inl (subst (λ (o : OpenObject). IsHeadDamage (g.F.Folder.told c.args.f.now) o.entry damage) w.object_is wrong);
-    }) c.read_charge.ensures.damaged)
-
 pub returns-in_err-charge-in-Last-clause-untold : goal.returns-in_err-charge-in-Last-clause-untold
 returns-in_err-charge-in-Last-clause-untold g c any =
     let old : Told = g.F.Folder.told c.args.f.now in
@@ -82,7 +70,7 @@ returns-in_err-charge-in-Last-clause-untold g c any =
     let w = was-last c.args.self.now.handles c.release.new.self.handles c.args.handle b.0 b.1 c.release.result c.in-Last.object c.in-Last.is c.release.ensures.answer in
     carried c.read_charge.result c.from_residual.result c.in_err-charge-in-Last.field-0.0 (λ _. old.files ≡ None) c.in_err-charge-in-Last.was c.from_residual.ensures.1
     (c.read_charge.ensures.untold (λ image there. subst (λ (files : BlockFiles). Agrees files image) (sym c.release.ensures.others.files) (c.requires.is_open image there).agrees)
-    (last-entry c.args.self.now old c.args.handle b.0 b.1 c.release.new.self c.in-Last.object w (g.met.F.Folder.are_bytes c.args.f.now) any))
+    (last-entry c.args.self.now old c.args.handle b.0 b.1 c.release.new.self c.in-Last.object w any))
 
 -- Its end.
 
@@ -120,19 +108,6 @@ returns-in_ok-end_object-in-Last-clause-stops g c moment =
     (last-stands c.args.self.now.files c.args.self.now.files c.args.self.now.handles c.release.new.self.handles c.args.self.now.stand refl c.args.handle b.0 b.1 c.in-Last.object w)
     c.end_object.result c.end_object.ensures.cleans c.end_object.ensures.frees moment
 
-pub returns-in_err-end_object-in-Last-clause-damaged : goal.returns-in_err-end_object-in-Last-clause-damaged
-returns-in_err-end_object-in-Last-clause-damaged g c =
-    let old : Told = g.F.Folder.told c.args.f.now in
-    let b = bound-there c.args.self.now.handles c.args.handle c.object.result c.object.ensures.object (c.is_none.ensures ∙ ap not c.if-is_none.false) in
-    let w = was-last c.args.self.now.handles c.release.new.self.handles c.args.handle b.0 b.1 c.release.result c.in-Last.object c.in-Last.is c.release.ensures.answer in
-    carried c.end_object.result c.from_residual-in_err-end_object-in-Last.result c.in_err-end_object-in-Last.field-0.0 (IsCloseDamage c.args.self.now.handles old c.args.handle) c.in_err-end_object-in-Last.was c.from_residual-in_err-end_object-in-Last.ensures.1
-    (if_damaged_weaker c.end_object.result _ _ (λ damage wrong. record {
-      object = b.0;
-      here = b.1;
-      wrong = inr (subst (λ (o : OpenObject). IsEndDamage o.doomed o.entry o.node old damage) w.object_is
-          (subst (λ (t : Told). IsEndDamage c.in-Last.object.doomed c.in-Last.object.entry c.in-Last.object.node t damage) c.in_ok-charge-in-Last.ensures.stays wrong));
-    }) c.end_object.ensures.damaged)
-
 pub returns-in_err-end_object-in-Last-clause-untold : goal.returns-in_err-end_object-in-Last-clause-untold
 returns-in_err-end_object-in-Last-clause-untold g c any =
     let old : Told = g.F.Folder.told c.args.f.now in
@@ -158,6 +133,15 @@ returns-in_ok-end_object-in-Last-clause-does g c moment =
 
 pub returns-in_ok-end_object-in-Last-clause-is_open : goal.returns-in_ok-end_object-in-Last-clause-is_open
 returns-in_ok-end_object-in-Last-clause-is_open g c image now = subst (λ (files : BlockFiles). IsOpen files image) (sym c.count_closed.ensures.counts.files) (c.in_ok-end_object-in-Last.ensures.is_open image now)
+
+pub returns-in_err-charge-in-Last-clause-damaged : goal.returns-in_err-charge-in-Last-clause-damaged
+returns-in_err-charge-in-Last-clause-damaged g c =
+    let b = bound-there c.args.self.now.handles c.args.handle c.object.result c.object.ensures.object (c.is_none.ensures ∙ ap not c.if-is_none.false) in
+    let w = was-last c.args.self.now.handles c.release.new.self.handles c.args.handle b.0 b.1 c.release.result c.in-Last.object c.in-Last.is c.release.ensures.answer in
+    let parts = names-parts c.release.new.self.files c.in-Last.object.entry (last-named c.args.self.now.files c.release.new.self.files c.args.self.now.handles c.release.new.self.handles c.args.self.now.stand c.release.ensures.others.files c.args.handle b.0 b.1 c.in-Last.object w) in
+    handed c.read_charge.result c.from_residual.result c.in_err-charge-in-Last.field-0.0 _ c.release.new.self.files (g.F.Folder.told c.read_charge.new.f)
+    (λ damage wrong. moved c.release.new.self.files (g.F.Folder.told c.args.f.now) (g.F.Folder.told c.read_charge.new.f) damage c.read_charge.ensures.stays (head-checked c.release.new.self.files (g.F.Folder.told c.args.f.now) c.in-Last.object.entry damage parts.1.0 parts.1.1 wrong))
+    c.in_err-charge-in-Last.was c.from_residual.ensures.1 c.read_charge.ensures.damaged
 
 -- The name is free.
 

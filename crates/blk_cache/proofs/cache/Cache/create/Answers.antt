@@ -21,6 +21,8 @@ use Rattle.blk_cache.specs.MakingRoom.{says_full}
 use Rattle.blk_cache.specs.RoomPrinting.{Prints}
 use Rattle.blk_cache.proofs.CreateWhole.{front-before, made-front, made-says, on-ok, only-done, if_ok_weaker, refused-full, refused-says, room-stops, whole-does, whole-stops, whole-untold}
 use Rattle.blk_cache.proofs.Refusing.{says-kept}
+use Rattle.blk_object.proofs.DamageChecks.{handed, moved}
+use Rattle.blk_cache.proofs.LookDamages.{look-checked}
 use Rattle.blk_cache.proofs.cache.Cache.create.Goals as goal
 
 -- It isn't known whether it is refused.
@@ -153,3 +155,9 @@ returns-in-Made-clause-untold g c some =
     c.make_room.new.self
     (same-told (KeepsState c.args.self.now) (g.F.Folder.told c.args.f.now) (g.F.Folder.told c.refuses_create.new.f) (λ told state. ForSome (g.F.Folder.told c.make_room.new.f).files (KeepsState c.make_room.new.self (without (evicted_for (room state [] (length c.args.key.now) 1)) state))) c.in_ok-why.ensures.stays c.in_ok-make_room.ensures.made)
     c.end_create.result c.end_create.ensures.untold some
+
+pub returns-in_err-why-clause-damaged : goal.returns-in_err-why-clause-damaged
+returns-in_err-why-clause-damaged g c =
+    handed c.refuses_create.result c.from_residual.result c.in_err-why.field-0.0 _ c.args.self.now.files (g.F.Folder.told c.refuses_create.new.f)
+    (λ damage wrong. moved c.args.self.now.files (g.F.Folder.told c.args.f.now) (g.F.Folder.told c.refuses_create.new.f) damage c.refuses_create.ensures.stays (look-checked c.args.self.now.files (g.F.Folder.told c.args.f.now) c.args.key.now damage wrong))
+    c.in_err-why.was c.from_residual.ensures.1 c.refuses_create.ensures.damaged

@@ -14,6 +14,8 @@ use Rattle.blk_cache.specs.CommandClauses.{IsOpenDamage}
 use Rattle.blk_cache.specs.Looking.{IsLive}
 use Rattle.blk_cache.proofs.OpenSteps.{IsFoundIn, mid-listed, opened-does, opened-stops}
 use Rattle.blk_cache.proofs.Refusing.{refused-early, refused-missing, says-kept}
+use Rattle.blk_object.proofs.DamageChecks.{handed, moved, touch-checked}
+use Rattle.blk_cache.proofs.LookDamages.{look-checked}
 use Rattle.blk_cache.proofs.cache.Cache.open.Goals as goal
 
 -- Refused by the names and the key.
@@ -101,3 +103,14 @@ returns-clause-does g c =
 
 pub returns-clause-is_open : goal.returns-clause-is_open
 returns-clause-is_open g c image now = subst (λ (files : BlockFiles). IsOpen files image) (sym c.bind_live.ensures.others.files) (c.in_ok-touch.ensures.is_open image now)
+
+pub returns-in_err-touch-clause-cause : goal.returns-in_err-touch-clause-cause
+returns-in_err-touch-clause-cause g c =
+    handed c.touch.result c.from_residual-in_err-touch.result c.in_err-touch.field-0.0 _ c.args.self.now.files (g.F.Folder.told c.touch.new.f)
+    (touch-checked c.node_of-node.result c.args.self.now.files (g.F.Folder.told c.find_live.new.f) (g.F.Folder.told c.touch.new.f)) c.in_err-touch.was c.from_residual-in_err-touch.ensures.1 c.touch.ensures.damaged
+
+pub returns-in_err-live-clause-cause : goal.returns-in_err-live-clause-cause
+returns-in_err-live-clause-cause g c =
+    handed c.find_live.result c.from_residual.result c.in_err-live.field-0.0 _ c.args.self.now.files (g.F.Folder.told c.find_live.new.f)
+    (λ damage wrong. moved c.args.self.now.files (g.F.Folder.told c.args.f.now) (g.F.Folder.told c.find_live.new.f) damage c.find_live.ensures.stays (look-checked c.args.self.now.files (g.F.Folder.told c.args.f.now) c.args.key.now damage wrong))
+    c.in_err-live.was c.from_residual.ensures.1 c.find_live.ensures.damaged

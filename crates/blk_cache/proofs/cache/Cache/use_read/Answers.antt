@@ -13,6 +13,7 @@ use Rattle.blk_cache.specs.CacheKeeping.{KeepsState}
 use Rattle.blk_cache.specs.Reading.{IsReadDamage}
 use Rattle.blk_cache.proofs.ReadSteps.{mid-listed, read-does, read-refuses, read-stops}
 use Rattle.blk_cache.proofs.Refusing.{says-kept}
+use Rattle.blk_object.proofs.DamageChecks.{handed, touch-checked}
 use Rattle.blk_cache.proofs.cache.Cache.use_read.Goals as goal
 
 -- Refused, or the record can't be read.
@@ -88,3 +89,8 @@ returns-in_ok-use_item-in-Stream-clause-does g c =
     (λ image there state k. subst (IsAsked state k.layout c.args.handle c.args.stream) c.in-Stream.is (c.in_ok-asked.ensures.asked image there state k))
     (g.F.Folder.told c.use_item.new.f) (Ok c.in_ok-use_item-in-Stream.field-0) c.in_ok-use_item-in-Stream.ensures.uses (λ P p. p) (g.met.F.Folder.are_bytes c.ask_stream.new.f)
     (subst (λ (t : Told). ForSome t.files (IsOpen c.args.self.now.files)) (sym c.in_ok-asked.ensures.stays) c.requires.is_open) c.in_ok-use_item-in-Stream.ensures.is_open)
+
+pub returns-in_err-use_item-in-Stream-clause-cause : goal.returns-in_err-use_item-in-Stream-clause-cause
+returns-in_err-use_item-in-Stream-clause-cause g c =
+    handed c.use_item.result c.from_residual-in_err-use_item-in-Stream.result c.in_err-use_item-in-Stream.field-0.0 _ c.args.self.now.files (g.F.Folder.told c.use_item.new.f)
+    (touch-checked c.in-Stream.named.node c.args.self.now.files (g.F.Folder.told c.ask_stream.new.f) (g.F.Folder.told c.use_item.new.f)) c.in_err-use_item-in-Stream.was c.from_residual-in_err-use_item-in-Stream.ensures.1 c.use_item.ensures.damaged
