@@ -12,8 +12,11 @@ ghost use Rattle.blk_format.specs.Address.{blocks_256, kind_of};
 ghost use Rattle.blk_volume.specs.Found.{row_of_loaded};
 ghost use Rattle.blk_volume.specs.Loads.{Loaded};
 ghost use Rattle.blk_disk.specs.Tables.{Agrees, is_node_among};
-ghost use Rattle.blk_entry.specs.Keys.{most_key};
+ghost use Rattle.blk_entry.specs.Keys.{IsWordOf, most_key};
 ghost use Rattle.blk_kept.specs.Commands.{Does, ForKept};
+ghost use Rattle.blk_format.specs.Names.{read_name};
+ghost use Rattle.blk_format.specs.Records.{child};
+ghost use Rattle.blk_object.specs.FailedChecks.{IsFailedCheck};
 ghost use Rattle.blk_object.specs.ListedParts.{LoadsAt};
 ghost use Rattle.blk_cache.specs.CacheKeeping.{KeepsState};
 ghost use Rattle.blk_cache.specs.CommandClauses.{IsRefused, KeepsAny};
@@ -51,6 +54,7 @@ impl Cache {
 
         // Too few bytes, which a folder that tells its files doesn't give where the cache keeps a state.
         ensures damaged { IfDamaged result (IsShort (F.told f.old) names.Index IndexHead.SIZES 4) }
+        ensures cause { IfDamaged result (IsFailedCheck self.now.files (F.told f.new)) }
         ensures untold { ForSome (F.told f.old).files (KeepsAny self.now) → IfDamaged result (λ _. (F.told f.old).files ≡ None) }
         ensures later { F.faults f.old ≤ F.faults f.new }
         ensures device { IfDevice result (Rises (F.faults f.old) (F.faults f.new)) }
@@ -75,6 +79,7 @@ impl Cache {
         ensures failed { FailsWhereItRose failed.old failed.new (K.faults out.old) (K.faults out.new) }
         ensures others { OnlyRoomChanges self.old self.new }
         ensures stays { Stays (F.told f.old) (F.told f.new) }
+        ensures damaged { IfDamaged result (IsFailedCheck self.new.files (F.told f.new)) }
         ensures untold { ForSome (F.told f.old).files (KeepsAny self.old) → IfDamaged result (λ _. (F.told f.old).files ≡ None) }
         ensures later { F.faults f.old ≤ F.faults f.new }
         ensures later_out { K.faults out.old ≤ K.faults out.new }
@@ -97,6 +102,7 @@ fn print_items<F: Folder, K: Sink>(
     ensures part { ForSome (F.told f.old).files (λ image. (p : HasState files.now image) → PrintsInPart failed.old (K.written out.old) (K.written out.new) (flat_map row_line (rows p.state))) }
     ensures failed { FailsWhereItRose failed.old failed.new (K.faults out.old) (K.faults out.new) }
     ensures stays { Stays (F.told f.old) (F.told f.new) }
+    ensures damaged { IfDamaged result (IsFailedCheck files.now (F.told f.new)) }
     ensures untold { ForSome (F.told f.old).files (HasState files.now) → IfDamaged result (λ _. (F.told f.old).files ≡ None) }
     ensures later { F.faults f.old ≤ F.faults f.new }
     ensures later_out { K.faults out.old ≤ K.faults out.new }
@@ -128,6 +134,7 @@ fn print_row<F: Folder, K: Sink>(
     ensures unprinted { OnErr result (K.written out.new ≡ K.written out.old) }
     ensures failed { FailsWhereItRose failed.old failed.new (K.faults out.old) (K.faults out.new) }
     ensures stays { Stays (F.told f.old) (F.told f.new) }
+    ensures damaged { IfDamaged result (IsFailedCheck files.now (F.told f.new)) }
     ensures untold { ForSome (F.told f.old).files (Agrees files.now) → ForSome (F.told f.old).files (λ image. (loaded : Loaded) × LoadsAt node loaded image) → IfDamaged result (λ _. (F.told f.old).files ≡ None) }
     ensures later { F.faults f.old ≤ F.faults f.new }
     ensures later_out { K.faults out.old ≤ K.faults out.new }
@@ -152,6 +159,7 @@ fn say_row<K: Sink>(
     ensures printed { OnOk result ((loaded : Loaded) → IsToldBy loaded name.now head.now → Prints failed.old failed.new (K.written out.old) (K.written out.new) (row_line (row_of_loaded loaded))) }
     ensures unprinted { OnErr result (K.written out.new ≡ K.written out.old) }
     ensures failed { FailsWhereItRose failed.old failed.new (K.faults out.old) (K.faults out.new) }
+    ensures damaged { IfDamaged result (λ damage. IsWordOf entry EntryView.FLAGS child damage × (read_name name.now ≡ None)) }
     ensures untold { IfDamaged result (λ _. (loaded : Loaded) → IsToldBy loaded name.now head.now → ⊥) }
     ensures later { K.faults out.old ≤ K.faults out.new }
     ensures never { IfDevice result ⊥ }

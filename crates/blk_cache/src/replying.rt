@@ -5,6 +5,7 @@ ghost use Rattle.blk_image.specs.Told.{Rises, Stays};
 ghost use Rattle.blk_io.specs.Faults.{IfDamaged, IfDevice};
 ghost use Rattle.blk_model.specs.Reply.{answered};
 ghost use Rattle.blk_model.specs.Request.{request_of};
+ghost use Rattle.blk_object.specs.FailedChecks.{IsFailedCheck};
 ghost use Rattle.blk_script.specs.Reply.{reply_text};
 ghost use Rattle.blk_cache.specs.CommandClauses.{KeepsAny};
 ghost use Rattle.blk_cache.specs.Listing.{OnlyRoomChanges};
@@ -37,6 +38,7 @@ impl Cache {
         ensures stays { Stays (F.told f.old) (F.told f.new) }
 
         // A folder that tells its files gives no damage where the cache keeps a state.
+        ensures damaged { IfDamaged result (IsFailedCheck self.new.files (F.told f.new)) }
         ensures untold { ForSome (F.told f.old).files (KeepsAny self.old) → IfDamaged result (λ _. (F.told f.old).files ≡ None) }
         ensures later { F.faults f.old ≤ F.faults f.new }
         ensures later_out { K.faults out.old ≤ K.faults out.new }
@@ -64,6 +66,7 @@ impl Cache {
         ensures part { ForBytes self.now (F.told f.old) (request_of command.now) (PrintsInPart failed.old (K.written out.old) (K.written out.new)) }
         ensures failed { FailsWhereItRose failed.old failed.new (K.faults out.old) (K.faults out.new) }
         ensures stays { Stays (F.told f.old) (F.told f.new) }
+        ensures damaged { IfDamaged result (IsFailedCheck self.now.files (F.told f.new)) }
         ensures untold { ForSome (F.told f.old).files (KeepsAny self.now) → IfDamaged result (λ _. (F.told f.old).files ≡ None) }
         ensures later { F.faults f.old ≤ F.faults f.new }
         ensures later_out { K.faults out.old ≤ K.faults out.new }
@@ -94,6 +97,7 @@ impl Cache {
         ensures failed { FailsWhereItRose failed.old failed.new (K.faults out.old) (K.faults out.new) }
         ensures others { OnlyRoomChanges self.old self.new }
         ensures stays { Stays (F.told f.old) (F.told f.new) }
+        ensures damaged { IfDamaged result (IsFailedCheck self.new.files (F.told f.new)) }
         ensures untold { ForSome (F.told f.old).files (KeepsAny self.old) → IfDamaged result (λ _. (F.told f.old).files ≡ None) }
         ensures later { F.faults f.old ≤ F.faults f.new }
         ensures later_out { K.faults out.old ≤ K.faults out.new }

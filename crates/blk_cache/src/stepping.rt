@@ -10,6 +10,7 @@ ghost use Rattle.blk_model.specs.Request.{request_of, to_close};
 ghost use Rattle.blk_model.specs.Step.{step};
 ghost use Rattle.blk_disk.specs.Open.{IsOpen};
 ghost use Rattle.blk_kept.specs.Commands.{Does, ForKept, IsNoted, IsStepped, MayStopAtEach, note_number};
+ghost use Rattle.blk_object.specs.FailedChecks.{IsFailedCheck};
 ghost use Rattle.blk_cache.specs.CacheKeeping.{KeepsState};
 ghost use Rattle.blk_cache.specs.CommandClauses.{IsRefused, KeepsAny, OnlyNotesChange};
 ghost use Rattle.blk_cache.specs.RoomPrinting.{FailsWhereItRose};
@@ -60,6 +61,7 @@ impl Cache {
         ensures unanswered { IfStepDevice result (SaysFront self.old (F.told f.old) moment (request_of command.now) (K.written out.old) (K.written out.new) ⊎ ForKept (KeepsState self.old) (F.told f.old) (IsNoted (F.told f.old) (F.told f.new) moment (request_of command.now) (note_number (self.old.notes + 1)))) }
 
         ensures is_open { IfDone result (ForSome (F.told f.new).files (IsOpen self.new.files)) }
+        ensures damaged { IfStepDamaged result (IsFailedCheck self.new.files (F.told f.new)) }
         ensures untold { ForSome (F.told f.old).files (KeepsAny self.old) → IfStepDamaged result (λ _. (F.told f.old).files ≡ None) }
         ensures later { F.faults f.old ≤ F.faults f.new }
         ensures printed_later { K.faults out.old ≤ K.faults out.new }
@@ -101,6 +103,7 @@ impl Cache {
         ensures unchanged { position is_some self.old.handles ≡ None → self.new ≡ self.old }
 
         ensures is_open { OnOk result (ForSome (F.told f.new).files (IsOpen self.new.files)) }
+        ensures damaged { IfDamaged result (IsFailedCheck self.new.files (F.told f.new)) }
         ensures untold { ForSome (F.told f.old).files (KeepsAny self.old) → IfDamaged result (λ _. (F.told f.old).files ≡ None) }
         ensures later { F.faults f.old ≤ F.faults f.new }
         ensures device { IfDevice result (Rises (F.faults f.old) (F.faults f.new)) }
@@ -139,6 +142,7 @@ impl Cache {
         ensures quiet { IfOk result (λ answer. IsRefused answer → Stays (F.told f.old) (F.told f.new)) }
         ensures notes { self.new.notes ≡ self.old.notes }
         ensures is_open { OnOk result (ForSome (F.told f.new).files (IsOpen self.new.files)) }
+        ensures damaged { IfDamaged result (IsFailedCheck self.new.files (F.told f.new)) }
         ensures untold { ForSome (F.told f.old).files (KeepsAny self.old) → IfDamaged result (λ _. (F.told f.old).files ≡ None) }
         ensures later { F.faults f.old ≤ F.faults f.new }
         ensures printed_later { K.faults out.old ≤ K.faults out.new }

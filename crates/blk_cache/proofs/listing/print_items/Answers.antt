@@ -2,6 +2,7 @@ use Rattle.std.proofs.Common.{rules, ◌≡◌, ◌∙◌, None, Some, Option, �
 use Rattle.blk_image.specs.Told.{Told}
 use Rattle.blk_io.specs.Faults.{IfDamaged}
 use Rattle.blk_io.proofs.Carried.{carried}
+use Rattle.blk_object.proofs.DamageChecks.{handed, moved, node-word-checked}
 use Rattle.blk_cache.proofs.ListedRows.{IsListedTo, line-in-part, list-begun, list-ended, list-is-at-rest, listed-part, node-listed, placed, step-listed, step-loads, turns-ended}
 use Rattle.blk_cache.proofs.PrintedReads.{part-none}
 use Rattle.blk_cache.proofs.RoomTexts.{faults-on}
@@ -102,3 +103,15 @@ returns-clause-printed g c image there p =
 pub returns-clause-part : goal.returns-clause-part
 returns-clause-part g c image there p =
     listed-part p.state p.layout c.loop.next c.loop.counter c.args.failed.now c.loop.failed (g.K.Sink.written c.args.out.now) (g.K.Sink.written c.loop.out) (g.K.Sink.written c.loop.out) (c.loop.invariant.walks image there p) refl
+
+pub returns-in_err-next-clause-damaged : goal.returns-in_err-next-clause-damaged
+returns-in_err-next-clause-damaged g c =
+    handed c.first.result c.from_residual.result c.in_err-next.field-0.0 _ c.args.files.now (g.F.Folder.told c.first.new.f)
+    (λ damage wrong. moved c.args.files.now (g.F.Folder.told c.args.f.now) (g.F.Folder.told c.first.new.f) damage c.first.ensures.stays (node-word-checked c.args.files.now (g.F.Folder.told c.args.f.now) _ _ damage wrong))
+    c.in_err-next.was c.from_residual.ensures.1 c.first.ensures.damaged
+
+pub returns-in_err-next-2-clause-damaged : goal.returns-in_err-next-2-clause-damaged
+returns-in_err-next-2-clause-damaged g c =
+    handed c.after.result c.from_residual-in_err-next-2.result c.in_err-next-2.field-0.0 _ c.args.files.now (g.F.Folder.told c.after.new.f)
+    (λ damage wrong. moved c.args.files.now (g.F.Folder.told c.print_row.new.f) (g.F.Folder.told c.after.new.f) damage c.after.ensures.stays (node-word-checked c.args.files.now (g.F.Folder.told c.print_row.new.f) _ _ damage wrong))
+    c.in_err-next-2.was c.from_residual-in_err-next-2.ensures.1 c.after.ensures.damaged

@@ -5,6 +5,7 @@ use Rattle.blk_io.proofs.Carried.{if_damaged_weaker}
 use Rattle.blk_model.specs.Request.{request_of}
 use Rattle.blk_model.specs.Step.{step}
 use Rattle.blk_kept.specs.Commands.{ForKept, IsNoted, IsStepped, note_number}
+use Rattle.blk_object.specs.FailedChecks.{IsFailedCheck}
 use Rattle.blk_cache.specs.CacheKeeping.{KeepsState}
 use Rattle.blk_cache.specs.Stepping.{IfStepDamaged}
 use Rattle.blk_cache.proofs.Notes.{not-noted, noted-does, noted-ends, noted-steps, open-on, same-files}
@@ -152,3 +153,7 @@ pub returns-else-failed-clause-is_open : goal.returns-else-failed-clause-is_open
 returns-else-failed-clause-is_open g c =
     open-behind c.note.new.self c.reply.new.self (g.F.Folder.told c.note.new.f) (g.F.Folder.told c.reply.new.f) c.in_ok-reply.ensures.others c.in_ok-reply.ensures.stays
     (open-on c.perform.new.self c.note.new.self (g.F.Folder.told c.perform.new.f) (g.F.Folder.told c.note.new.f) (same-files (g.F.Folder.told c.perform.new.f) (g.F.Folder.told c.note.new.f) _ c.in_ok-note.ensures.done) c.in_ok-note.ensures.others c.in_ok-answer.ensures.is_open)
+
+pub returns-in_err-reply-clause-damaged : goal.returns-in_err-reply-clause-damaged
+returns-in_err-reply-clause-damaged g c =
+    damaged-on c.reply.result c.from_residual-in_err-reply.result c.in_err-reply.field-0.0 (IsFailedCheck c.reply.new.self.files (g.F.Folder.told c.reply.new.f)) c.in_err-reply.was c.from_residual-in_err-reply.ensures.1 c.reply.ensures.damaged
