@@ -50,3 +50,9 @@ pub mod ChangedObjects
 pub mod Unsettles
 pub mod UnsettleSteps
 pub mod WriteRoom
+pub mod WriteUses
+pub mod Writes
+pub mod WriteSteps
+pub mod WriteEnds
+pub mod WriteRefusing
+pub mod WriteWhole
