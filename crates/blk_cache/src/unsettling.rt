@@ -8,6 +8,7 @@ ghost use Rattle.blk_disk.specs.Open.{IsOpen};
 ghost use Rattle.blk_disk.specs.Tables.{is_node_among};
 ghost use Rattle.blk_handles.specs.Bindings.{binding_of};
 ghost use Rattle.blk_entry.specs.Marks.{SetsDirty};
+ghost use Rattle.blk_object.specs.FailedChecks.{IsFailedCheck};
 ghost use Rattle.blk_object.specs.RemovingObjects.{FindsEither};
 ghost use Rattle.blk_cache.specs.CacheKeeping.{KeepsState};
 ghost use Rattle.blk_cache.specs.CommandClauses.{KeepsAny, OnlyNamesChange};
@@ -39,7 +40,8 @@ impl Cache {
         ensures charged { self.new.open_bytes ≡ self.old.open_bytes }
         ensures is_open { ForSome (F.told f.new).files (IsOpen self.new.files) }
 
-        // A folder that tells its files gives no damage where the cache keeps a state.
+        // A damage is a check that fails on what is read here; nothing is written after it. A folder that tells its files gives none where the cache keeps a state.
+        ensures damaged { IfDamaged result (IsFailedCheck self.new.files (F.told f.new)) }
         ensures untold { ForSome (F.told f.old).files (KeepsAny self.old) → IfDamaged result (λ _. (F.told f.old).files ≡ None) }
         ensures silent { (F.told f.old).files ≡ None → (F.told f.new).files ≡ None }
         ensures later { F.faults f.old ≤ F.faults f.new }
@@ -65,6 +67,7 @@ fn set_mark<F: Folder>(f: &mut F, files: &BlockFiles, node: Addr, mark: u32) -> 
     requires is_open { ForSome (F.told f.old).files (IsOpen files.now) }
     ensures sets { SetsDirty files.now (F.told f.old) (F.told f.new) node mark result }
     ensures is_open { ForSome (F.told f.new).files (IsOpen files.now) }
+    ensures damaged { IfDamaged result (IsFailedCheck files.now (F.told f.new)) }
     ensures later { F.faults f.old ≤ F.faults f.new }
     ensures device { IfDevice result (Rises (F.faults f.old) (F.faults f.new)) }
 {

@@ -17,6 +17,7 @@ ghost use Rattle.blk_lru.specs.Lists.{IsListed};
 ghost use Rattle.blk_stream.specs.Writing.{size_after};
 ghost use Rattle.blk_kept.specs.Changes.{Finds};
 ghost use Rattle.blk_kept.specs.Commands.{Does, IsDone, MayStop, MayStopAtEach};
+ghost use Rattle.blk_object.specs.FailedChecks.{IsFailedCheck};
 ghost use Rattle.blk_cache.specs.declared.asking.Asked.TheVariants as asked;
 ghost use Rattle.blk_cache.specs.CacheKeeping.{KeepsState};
 ghost use Rattle.blk_cache.specs.CommandClauses.{IsRefused, KeepsAny};
@@ -76,7 +77,8 @@ impl Cache {
         ensures is_open { OnOk result (ForSome (F.told f.new).files (IsOpen self.new.files)) }
         ensures notes { self.new.notes ≡ self.old.notes }
 
-        // A folder that tells its files gives no damage where the cache keeps a state.
+        // A damage is a check that fails on what is read here; nothing is written after it. A folder that tells its files gives none where the cache keeps a state.
+        ensures damaged { IfDamaged result (IsFailedCheck self.new.files (F.told f.new)) }
         ensures untold { ForSome (F.told f.old).files (KeepsAny self.old) → IfDamaged result (λ _. (F.told f.old).files ≡ None) }
         ensures silent { (F.told f.old).files ≡ None → (F.told f.new).files ≡ None }
         ensures later { F.faults f.old ≤ F.faults f.new }
@@ -120,6 +122,7 @@ impl Cache {
         ensures wrote { IfOk result (λ given. given ≡ answer.Wrote (length bytes.now)) }
         ensures notes { self.new.notes ≡ self.old.notes }
         ensures is_open { OnOk result (ForSome (F.told f.new).files (IsOpen self.new.files)) }
+        ensures damaged { IfDamaged result (IsFailedCheck self.new.files (F.told f.new)) }
         ensures untold { ForSome (F.told f.old).files (IsReadyToWriteSome self.old handle stream offset cut bytes.now size) → IfDamaged result (λ _. (F.told f.old).files ≡ None) }
         ensures silent { (F.told f.old).files ≡ None → (F.told f.new).files ≡ None }
         ensures later { F.faults f.old ≤ F.faults f.new }
@@ -154,6 +157,7 @@ impl Cache {
 
         ensures notes { self.new.notes ≡ self.old.notes }
         ensures is_open { OnOk result (ForSome (F.told f.new).files (IsOpen self.new.files)) }
+        ensures damaged { IfDamaged result (IsFailedCheck self.new.files (F.told f.new)) }
         ensures untold { ForSome (F.told f.old).files (KeepsToWrite self.old handle stream offset cut bytes.now size) → IfDamaged result (λ _. (F.told f.old).files ≡ None) }
         ensures silent { (F.told f.old).files ≡ None → (F.told f.new).files ≡ None }
         ensures later { F.faults f.old ≤ F.faults f.new }
@@ -191,7 +195,8 @@ impl Cache {
         ensures goes_on { IfOk result (GoesOn (early_write_refusal self.now handle stream offset (length bytes.now))) }
         ensures stays { Stays (F.told f.old) (F.told f.new) }
 
-        // A folder that tells its files gives no damage where the cache keeps a state.
+        // A damage is a check that fails on what is read here. A folder that tells its files gives none where the cache keeps a state.
+        ensures damaged { IfDamaged result (IsFailedCheck self.now.files (F.told f.new)) }
         ensures untold { ForSome (F.told f.old).files (KeepsAny self.now) → IfDamaged result (λ _. (F.told f.old).files ≡ None) }
         ensures later { F.faults f.old ≤ F.faults f.new }
         ensures device { IfDevice result (Rises (F.faults f.old) (F.faults f.new)) }
@@ -245,6 +250,7 @@ fn use_and_count<F: Folder>(
     ensures stops { object.now.doomed ≡ false → ForSome (F.told f.old).files (λ from. ForEachToUse object.now.node from (λ state layout its. Passes (F.told f.old) (F.told f.new) (Finds (rest state)))) }
 
     ensures is_open { ForSome (F.told f.new).files (IsOpen files.now) }
+    ensures damaged { IfDamaged result (IsFailedCheck files.now (F.told f.new)) }
     ensures untold { ForSome (F.told f.old).files (λ image. object.now.doomed ≡ false → IsListed object.now.node image) → IfDamaged result (λ _. (F.told f.old).files ≡ None) }
     ensures silent { (F.told f.old).files ≡ None → (F.told f.new).files ≡ None }
     ensures later { F.faults f.old ≤ F.faults f.new }

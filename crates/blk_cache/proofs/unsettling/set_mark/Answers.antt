@@ -9,6 +9,7 @@ use Rattle.blk_lru.proofs.NodeWords.{node_kind, node_stands}
 use Rattle.blk_lru.proofs.Performing.{part_kept}
 use Rattle.blk_entry.specs.Marks.{SetsDirtyInProgress, dirty_change, mark_steps}
 use Rattle.blk_entry.proofs.Marking.{mark_changes, marked_at, marking_at}
+use Rattle.blk_object.proofs.DamageChecks.{checked-where-stays, record-checked}
 use Rattle.blk_cache.proofs.unsettling.set_mark.Given as given
 use Rattle.blk_cache.proofs.unsettling.set_mark.Goals as goal
 use Rattle.blk_cache.proofs.unsettling.set_mark.Goals.{After-update_sealed}
@@ -53,3 +54,9 @@ pub returns-clause-is_open : goal.returns-clause-is_open
 returns-clause-is_open g c =
     part_kept c.args.files.now (g.F.Folder.told c.args.f.now) (g.F.Folder.told c.update_sealed.new.f) (λ from. mark_steps from c.args.node c.args.mark)
     (λ from there. kept_sealed c.args.files.now c.args.node (dirty_change c.args.mark) from (c.requires.is_open from there)) c.update_sealed.ensures.prefix.silent c.update_sealed.ensures.prefix.made
+
+pub returns-clause-damaged : goal.returns-clause-damaged
+returns-clause-damaged g c =
+    checked-where-stays c.update_sealed.result c.args.files.now (g.F.Folder.told c.args.f.now) (g.F.Folder.told c.update_sealed.new.f) _
+    (λ damage failed. record-checked c.args.files.now (g.F.Folder.told c.args.f.now) c.args.node _ damage (inl (node_kind c.args.files.now c.args.node c.requires.stands)) (node_stands c.args.files.now c.args.node c.requires.stands) failed)
+    c.update_sealed.ensures.unwritten c.update_sealed.ensures.damaged

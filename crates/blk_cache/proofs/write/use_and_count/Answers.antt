@@ -3,6 +3,7 @@ use Rattle.std.specs.Prelude.{OnOk}
 use Rattle.std.specs.Option.{ForSome}
 use Rattle.std.proofs.lemmas.Result.{on_ok_weaker}
 use Rattle.blk_object.specs.Writing.{IsRiseCounted}
+use Rattle.blk_object.proofs.DamageChecks.{handed, touch-checked}
 use Rattle.blk_cache.proofs.WriteUses.{count-untold, used-counted, used-in-part, used-stops}
 use Rattle.blk_cache.proofs.write.use_and_count.Goals as goal
 
@@ -26,3 +27,7 @@ returns-clause-stops g c loose =
 pub returns-clause-untold : goal.returns-clause-untold
 returns-clause-untold g c listed =
     count-untold c.count_rise.result c.args.object.now.node c.args.moment (g.F.Folder.told c.args.f.now) (g.F.Folder.told c.touch.new.f) c.in_ok-touch.ensures.steps c.count_rise.ensures.untold
+
+pub returns-in_err-touch-clause-damaged : goal.returns-in_err-touch-clause-damaged
+returns-in_err-touch-clause-damaged g c =
+    handed c.touch.result c.from_residual.result c.in_err-touch.field-0.0 _ c.args.files.now (g.F.Folder.told c.touch.new.f) (touch-checked c.args.object.now.node c.args.files.now _ _) c.in_err-touch.was c.from_residual.ensures.1 c.touch.ensures.damaged
