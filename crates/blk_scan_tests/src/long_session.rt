@@ -98,8 +98,8 @@ fn held_of(alloc: Global, entries: u32) -> Result<Held, Fail> {
 // The session, where the next folder call fails.
 fn failing_next(session: Session) -> Result<Session, Fail> {
     let Session { f, cache, out } = session;
-    let next = f.calls().wrapping_add(1);
     let mut folder = f.into_inner().into_inner();
+    let next = folder.calls().wrapping_add(1);
     folder.fail_at(next, 0)?;
     Ok(Session {
         f: SilentFolder::new(StopFolder::new(folder, u64::MAX)),
