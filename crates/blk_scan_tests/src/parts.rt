@@ -1,9 +1,17 @@
 // An object with two parts, in a folder that is written by the format alone.
 use crate::folders::{Entry, add, give_blocks, place_of, put_index, put_words};
 use crate::repairs::Mem;
-use crate::sessions::{LIMITS, Session, empty};
+use crate::sessions::{LIMITS, Session, empty, held};
+use blk_chain::find;
+use blk_disk::BlockFiles;
+use blk_entry::node_of;
 use blk_index::make;
-use blk_io::Failed;
+use blk_io::{Failed, Fault};
+use blk_object::take_main;
+use blk_sparse::{
+    Gone, Parent, doom_parent, drop_children, drop_children_with, drop_parts_with,
+    remove_parent_with,
+};
 use std::alloc::Global;
 use std::test::Fail;
 
@@ -11,6 +19,21 @@ use std::test::Fail;
 const INDEX: u32 = 0xC203_0000;
 
 const TWO_PARTS: u32 = 3;
+
+// The key of the object, the signature of its index, and the bytes that its main item is charged.
+const OBJECT: &[u8] = b"v";
+
+const SIGNATURE: i64 = 1;
+
+const CHARGE: u64 = 8257;
+
+// The bytes of the longest key and of the longest name of a part.
+const NAME_ROOM: usize = 65_564;
+
+// No number of a part was told yet, or the numbers of both parts were, in the order of the list.
+const NONE: [u32; 3] = [9; 3];
+
+const BOTH: [u32; 3] = [9, 1, 0];
 
 // The two parts and then the object, in the order of the list. The index of each lies in its third stream.
 const ENTRIES: [Entry<'static>; 3] = [
@@ -60,6 +83,85 @@ pub(crate) fn sparse_folder(alloc: Global) -> Result<Mem, Fail> {
     Ok(f)
 }
 
+// The folder in a session.
+fn in_session(alloc: Global) -> Result<Mem, Fail> {
+    Ok(Session::over(alloc, sparse_folder(alloc)?, LIMITS)?.f)
+}
+
+// Takes the main item of the object out of the list and of its chain. Gives the words of its record and of its node.
+fn main_out(f: &mut Mem, files: &BlockFiles) -> Result<[u32; 2], Fault> {
+    match find(f, files, OBJECT, false) {
+        Ok(Some(found)) => {
+            let word = node_of(f, files, found.entry)?.word();
+            let Some(node) = files.node(word) else {
+                return Err(Fault::Device);
+            };
+            take_main(f, files, &found, node, CHARGE)?;
+            Ok([found.entry.word(), word])
+        }
+        Ok(None) => Err(Fault::Device),
+        Err(fault) => Err(fault),
+    }
+}
+
+// Drops the parts of the object by its key, after its main item. Gives how many went, and the numbers that were told.
+fn parts_dropped(f: &mut Mem) -> Result<(Gone, [u32; 3]), Fault> {
+    let files = BlockFiles::load(f)?;
+    main_out(f, &files)?;
+    let mut room = [0; NAME_ROOM];
+    let mut told = NONE;
+    let mut each = |number: u32| told = [told[1], told[2], number];
+    let gone = drop_parts_with(f, &files, OBJECT, SIGNATURE, &mut room, &mut each)?;
+    Ok((gone, told))
+}
+
+// Drops the parts of the object by its record, after its main item, and tells their numbers or not.
+fn children_dropped(f: &mut Mem, telling: bool) -> Result<(u64, [u32; 3]), Fault> {
+    let files = BlockFiles::load(f)?;
+    let [entry, node] = main_out(f, &files)?;
+    let (Some(entry), Some(node)) = (files.entry(entry), files.node(node)) else {
+        return Err(Fault::Device);
+    };
+    let parent = Parent {
+        entry,
+        node,
+        signature: SIGNATURE,
+    };
+    let mut name = [0; NAME_ROOM];
+    let mut told = NONE;
+    if telling {
+        let mut each = |number: u32| told = [told[1], told[2], number];
+        let count = drop_children_with(f, &files, &parent, &mut name, &mut each)?;
+        return Ok((count, told));
+    }
+    let count = drop_children(f, &files, &parent, &mut name)?;
+    Ok((count, told))
+}
+
+// Removes the object with its parts, or dooms it. Gives what went, and the numbers that were told.
+fn whole_gone(f: &mut Mem, dooms: bool) -> Result<(Gone, [u32; 3]), Fault> {
+    let files = BlockFiles::load(f)?;
+    match find(f, &files, OBJECT, false) {
+        Ok(Some(found)) => {
+            let word = node_of(f, &files, found.entry)?.word();
+            let Some(node) = files.node(word) else {
+                return Err(Fault::Device);
+            };
+            let mut room = [0; NAME_ROOM];
+            let mut told = NONE;
+            if dooms {
+                let gone = doom_parent(f, &files, &found, node, OBJECT, CHARGE, &mut room)?;
+                return Ok((gone, told));
+            }
+            let mut each = |number: u32| told = [told[1], told[2], number];
+            let gone = remove_parent_with(f, &files, &found, node, OBJECT, &mut room, &mut each)?;
+            Ok((gone, told))
+        }
+        Ok(None) => Err(Fault::Device),
+        Err(fault) => Err(fault),
+    }
+}
+
 #[test]
 fn parts_are_listed_and_go_alone_or_with_their_object(rt: HostRuntime) -> Result<(), Fail> {
     let mut session = Session::over(rt.alloc(), sparse_folder(rt.alloc())?, LIMITS)?;
@@ -77,7 +179,8 @@ fn parts_are_listed_and_go_alone_or_with_their_object(rt: HostRuntime) -> Result
         b"trim 0",
         b"total",
     ])?;
-    let printed = b"part v 1 1024\npart v 0 1024\nsparse v 0\nend 3\nok\nrefused 8 SparseStream\nsize 0\n\
+    let printed =
+        b"part v 1 1024\npart v 0 1024\nsparse v 0\nend 3\nok\nrefused 8 SparseStream\nsize 0\n\
         refused 8 SparseStream\nok 2\nsparse v 2\npart v 1 1024\npart v 0 1024\nend 3\n\
         evicted v part 0\nevicted v part 1\nok 2\ntotal 1 8259\nok\nevicted v\nok 1\ntotal 0 0\n";
     assert_eq!(rt; session.out.written(), printed.as_slice());
@@ -106,5 +209,40 @@ fn parts_go_with_their_object(rt: HostRuntime) -> Result<(), Fail> {
     let mut session = Session::over(rt.alloc(), sparse_folder(rt.alloc())?, LIMITS)?;
     session.run(&[b"doomkey v", b"total"])?;
     assert_eq!(rt; session.out.written(), b"ok\ntotal 0 0\n".as_slice());
+    Ok(())
+}
+
+#[test]
+fn parts_go_after_their_object(rt: HostRuntime) -> Result<(), Fail> {
+    let both = Gone {
+        items: 2,
+        bytes: 2454,
+    };
+    let mut f = in_session(rt.alloc())?;
+    assert_eq!(rt; parts_dropped(&mut f), Ok((both, BOTH)));
+    assert_eq!(rt; held(rt.alloc(), f)?, (0, 0, 0));
+    for (telling, told) in [(true, BOTH), (false, NONE)] {
+        let mut f = in_session(rt.alloc())?;
+        assert_eq!(rt; children_dropped(&mut f, telling), Ok((2, told)));
+        assert_eq!(rt; held(rt.alloc(), f)?, (0, 0, 0));
+    }
+    Ok(())
+}
+
+#[test]
+fn an_object_is_removed_or_doomed_with_its_parts(rt: HostRuntime) -> Result<(), Fail> {
+    let removed = Gone {
+        items: 3,
+        bytes: 10711,
+    };
+    let doomed = Gone {
+        items: 2,
+        bytes: 2454,
+    };
+    for (dooms, gone, told) in [(false, removed, BOTH), (true, doomed, NONE)] {
+        let mut f = in_session(rt.alloc())?;
+        assert_eq!(rt; whole_gone(&mut f, dooms), Ok((gone, told)));
+        assert_eq!(rt; held(rt.alloc(), f)?, (0, 0, 0));
+    }
     Ok(())
 }
