@@ -121,7 +121,10 @@ fn all_but_the_entry_whose_close_failed_are_held(rt: HostRuntime) -> Result<(), 
     );
     let mut session = failing_next(session)?;
     let last = handle_of(ENTRIES - 1);
-    assert_eq!(rt; session.step(&Command::Close { handle: last }).err(), Some(StepFault::Device));
+    assert_eq!(rt;
+        session.step(&Command::Close { handle: last }).err(),
+        Some(StepFault::Device)
+    );
     let (items, bytes, hash) = held(rt.alloc(), session.f)?;
     assert_eq!(rt; (items, bytes), (399, 43_840_524));
     assert_eq!(rt; held_of(rt.alloc(), 399)?, (items, bytes, hash));

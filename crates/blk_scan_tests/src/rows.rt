@@ -63,7 +63,8 @@ fn a_doomed_object_stays_readable_and_its_key_is_free(rt: HostRuntime) -> Result
         b"doomkey k",
         b"list",
     ])?;
-    let printed = b"ok\nok 2\nok\nok\ndata 2 6162\nrefused 10 Doomed\nok\nmain k 0 0 0\nend 1\ntotal 2 4\n\
+    let printed =
+        b"ok\nok 2\nok\nok\ndata 2 6162\nrefused 10 Doomed\nok\nmain k 0 0 0\nend 1\ntotal 2 4\n\
         ok 1\ndata 3 616263\nok\nok\ntotal 1 1\nok\nok\nrefused 3 Missing\nend 0\n";
     assert_eq!(rt; session.out.written(), printed.as_slice());
     Ok(())
@@ -87,7 +88,8 @@ fn commands_are_refused_in_their_order(rt: HostRuntime) -> Result<(), Fail> {
         b"doom 9",
         b"close 9",
     ])?;
-    let printed = b"ok\nrefused 2 HandleBusy\nrefused 4 Exists\nrefused 1 BadHandle\nrefused 1 BadHandle\n\
+    let printed =
+        b"ok\nrefused 2 HandleBusy\nrefused 4 Exists\nrefused 1 BadHandle\nrefused 1 BadHandle\n\
         refused 3 Missing\nrefused 13 BadKey\nrefused 5 BadStream\nrefused 6 TooLarge\nok 1\nrefused 3 Missing\n\
         refused 1 BadHandle\nrefused 1 BadHandle\n";
     assert_eq!(rt; session.out.written(), printed.as_slice());

@@ -96,7 +96,12 @@ impl Session {
     }
 
     // Writes so many bytes of one value over a stream.
-    pub(crate) fn write(&mut self, handle: u16, stream: u8, count: usize) -> Result<u64, StepFault> {
+    pub(crate) fn write(
+        &mut self,
+        handle: u16,
+        stream: u8,
+        count: usize,
+    ) -> Result<u64, StepFault> {
         let bytes = [b'z'; 300];
         if count > 300 {
             return Err(StepFault::Device);

@@ -28,7 +28,11 @@ struct Case<'a> {
 
 // What is held where the command is stopped after so many steps, and whether it came to its end.
 fn held_at(alloc: Global, case: &Case<'_>, steps: u64) -> Result<(Held, bool), Fail> {
-    let f = if case.sparse { sparse_folder(alloc)? } else { empty(alloc) };
+    let f = if case.sparse {
+        sparse_folder(alloc)?
+    } else {
+        empty(alloc)
+    };
     let limits = if case.few { THREE_ITEMS } else { LIMITS };
     let mut session = Session::over(alloc, f, limits)?;
     session.run(case.before)?;
@@ -107,7 +111,12 @@ fn an_open_and_a_close_may_be_stopped(rt: HostRuntime) -> Result<(), Fail> {
     let case = Case {
         sparse: false,
         few: false,
-        before: &[b"create 1 a", b"create 0 b", b"close 0", b"write 1 0 0 7a7a"],
+        before: &[
+            b"create 1 a",
+            b"create 0 b",
+            b"close 0",
+            b"write 1 0 0 7a7a",
+        ],
         line: b"close 1",
         first: (1, 1),
         last: (2, 4),
@@ -126,7 +135,12 @@ fn a_write_and_a_doom_may_be_stopped(rt: HostRuntime) -> Result<(), Fail> {
         b"close 0",
         b"open 3 a",
     ];
-    for line in [b"cut 3 1 20000 7a".as_slice(), b"write 3 1 1 62", b"doom 3", b"doomkey a"] {
+    for line in [
+        b"cut 3 1 20000 7a".as_slice(),
+        b"write 3 1 1 62",
+        b"doom 3",
+        b"doomkey a",
+    ] {
         let case = Case {
             sparse: false,
             few: false,
