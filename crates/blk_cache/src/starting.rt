@@ -41,6 +41,7 @@ impl Cache {
     ) -> Result<Cache, OpenFault>
         ensures keeps { IfOk result (λ cache. ForSome (F.told f.old).files (λ from. ForSome (F.told f.new).files (KeepsState cache (open_state (found from) (bounds_of limits))))) }
         ensures free { IfOk result (λ cache. AreAllFree cache.handles) }
+        ensures notes { IfOk result (λ cache. cache.notes ≡ 0) }
         ensures checked { OnOk result (ForSome (F.told f.old).files IsUsable) }
         ensures session { OnOk result (ForSome (F.told f.old).files (λ from. ForSome (F.told f.new).files (λ image. this_id_of (byte image index) ≡ opened_id from))) }
 

@@ -1,7 +1,7 @@
 // Short sessions, by the lines of a script and what they print.
 use crate::sessions::{LIMITS, Session, empty, held};
 use blk_cache::StepFault;
-use blk_io::MemSink;
+use blk_io::{FileId, Folder, MemSink};
 use blk_model::{Limits, MOST_ITEMS};
 use std::alloc::Global;
 use std::test::Fail;
@@ -31,6 +31,12 @@ fn streams_are_written_and_read(rt: HostRuntime) -> Result<(), Fail> {
     ])?;
     let printed = b"ok\nok 3\ndata 5 0000616263\nsize 5003\nok 1\ndata 3 00007a\ndata 0 -\n";
     assert_eq!(rt; session.out.written(), printed.as_slice());
+
+    // A long stream has a file, which is gone once it is short.
+    session.line(b"write 0 0 19999 7a")?;
+    assert_eq!(rt; session.f.length(FileId::External(1)), Ok(Some(20000)));
+    session.line(b"cut 0 0 0 7a7a7a7a7a7a7a7a7a7a")?;
+    assert_eq!(rt; session.f.length(FileId::External(1)), Ok(None));
     Ok(())
 }
 
