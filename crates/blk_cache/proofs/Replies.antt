@@ -182,7 +182,7 @@ module _ (cache : Cache) (told : Told) (handle stream offset count number : ℕ)
       let there : stream_refusal state handle stream ≡ None = still-there after.moment handle stream offset count after.before number state after.given_is after.state_is in
       let one : NamesOne state handle = names-one state handle stream k.kept.entries.valid there in
       let said : number ≡ bytes_there (length (stream_of one.object stream)) offset count = number-there after.moment handle stream offset count after.before number state after.given_is after.state_is
-          ∙ ap (λ (o : Object). length (bytes_from (stream_of o stream) offset count)) (named-object state handle one.number one.object one.names) ∙ bytes-number (stream_of one.object stream) offset count in
+      ∙ ap (λ (o : Object). length (bytes_from (stream_of o stream) offset count)) (named-object state handle one.number one.object one.names) ∙ bytes-number (stream_of one.object stream) offset count in
       subst P (ap (λ (o : Object). reply_text (gave (bytes_from (stream_of o stream) offset count))) (sym (named-object state handle one.number one.object one.names)))
       (reads image here state k one.number count one.object one.names there said)
 

@@ -26,7 +26,7 @@ use Rattle.blk_cache.specs.Reading.{bytes_there}
 abbrev pub ForRead : Cache → Told → (handle stream offset number : ℕ) → (List ℕ → Type 0) → Type 0
 ForRead cache told handle stream offset number P =
     ForKept (KeepsState cache) told (λ state. (n count : ℕ) (object : Object) → Names state handle n object → stream_refusal state handle stream ≡ None → number ≡ bytes_there (length (stream_of object stream)) offset count
-        → P (reply_text (gave (bytes_from (stream_of object stream) offset count))))
+    → P (reply_text (gave (bytes_from (stream_of object stream) offset count))))
 
 -- a cache keeps some state in which there is this number of bytes to be read
 pub record KeepsToRead (cache : Cache) (handle stream offset number : ℕ) (image : Image) : Type 0 where

@@ -169,9 +169,7 @@ impl Cache {
                 offset,
                 cut,
                 bytes,
-            } => self.write(
-                f, out, failed, handle, stream, offset, cut, bytes, moment,
-            ),
+            } => self.write(f, out, failed, handle, stream, offset, cut, bytes, moment),
             Command::Size { handle, stream } => self.size(f, handle, stream),
             Command::Doom { handle } => self.doom(f, handle),
             Command::DoomKey { key } => self.doom_key(f, key),
