@@ -44,6 +44,7 @@ pub mod Asks
 pub mod Sizes
 pub mod ReadSteps
 pub mod PrintedReads
+pub mod ReadRanges
 pub mod WholeGroups
 pub mod TrimSteps
 pub mod DoomedCounts

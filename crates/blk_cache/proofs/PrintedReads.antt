@@ -215,7 +215,7 @@ module _ (cache : Cache) (state : State) (image : Image) (k : KeepsState cache s
   free : (is_sparse s.object.shape && nat_lt 0 number) ≡ false
   free = ap (λ (o : Object). is_sparse o.shape && nat_lt 0 number) (sym (named-object state handle s.number s.object s.names)) ∙ not-third (names_none state handle) (no_stream number) (is_kept_from_streams state handle number) refusal.BadHandle refusal.BadStream refusal.SparseStream s.passes
 
-  same-stream : stream number s.loaded.streams ≡ stream_of s.object number
+  pub same-stream : stream number s.loaded.streams ≡ stream_of s.object number
   same-stream = bound-stream state k.layout [] image k.kept.entries s.number its-binding its-bound number below free
 
   abbrev pub its-range : StreamRange

@@ -1,12 +1,13 @@
 -- The reply of a command, by the state after it.
-use Rattle.std.proofs.Common.{◌≡◌, ℕ, Bool, true, false, List, [], ◌∷◌, ◌++◌, Option, Some, None, IfSome, refl, sym, ap, subst, ◌∙◌}
-use Rattle.std.specs.Prelude.{◌||◌, IsSome, is_none}
+use Rattle.std.proofs.Common.{◌≡◌, ℕ, Bool, true, false, List, [], ◌∷◌, ◌++◌, Option, Some, None, IfSome, refl, sym, ap, subst, ◌∙◌, length, drop}
+use Rattle.std.specs.Prelude.{◌||◌, IsSome, is_none, min}
 use Rattle.std.specs.List.{flat_map}
+use Rattle.std.proofs.lemmas.List.{length-drop, length-take}
 use Rattle.blk_image.specs.Image.{Image}
 use Rattle.blk_image.specs.Told.{Told}
 use Rattle.blk_model.specs.Bounds.{bounds_of}
 use Rattle.blk_model.specs.Bytes.{bytes_from}
-use Rattle.blk_model.specs.Effects.{effect, stream_of}
+use Rattle.blk_model.specs.Effects.{effect, object_of, stream_of}
 use Rattle.blk_model.specs.Refusals.{evicted, first_refusal, is_kept_from_streams, names_none, no_name, no_stream, refusals, refused}
 use Rattle.blk_model.specs.Holding.{rows}
 use Rattle.blk_model.specs.Reply.{answer_of, answered, gave}
@@ -15,7 +16,7 @@ use Rattle.blk_model.specs.declared.Command.TheVariants as command
 use Rattle.blk_model.specs.Request.{Request, request_of, to_close, to_create, to_doom, to_doom_key, to_list, to_open, to_read, to_size, to_sparse_range, to_sparse_read, to_sparse_write, to_total, to_trim, to_write}
 use Rattle.blk_model.specs.Room.{without}
 use Rattle.blk_model.specs.State.{IsValidState, Object, State, named_by, object_at}
-use Rattle.blk_model.specs.Step.{outcome, reply, step}
+use Rattle.blk_model.specs.Step.{Outcome, outcome, reply, step}
 use Rattle.blk_model.specs.declared.Answer.{Answer}
 use Rattle.blk_model.specs.declared.Answer.TheVariants as answer
 use Rattle.blk_model.specs.declared.Refusal.{Refusal}
@@ -29,7 +30,8 @@ use Rattle.blk_cache.specs.declared.cache.Cache.{Cache}
 use Rattle.blk_cache.specs.Asking.{stream_refusal}
 use Rattle.blk_cache.specs.CacheKeeping.{IsBoundAs, KeepsState}
 use Rattle.blk_cache.specs.Listing.{OnlyRoomChanges}
-use Rattle.blk_cache.specs.ReadPrinting.{ForRead, PrintsInPart}
+use Rattle.blk_cache.specs.Reading.{bytes_there}
+use Rattle.blk_cache.specs.ReadPrinting.{ForRead, KeepsToRead, PrintsInPart}
 use Rattle.blk_cache.specs.Replying.{ForBytes, ForReply, ForRows, IsAfter, bytes_text, rows_text, text_of_reply}
 use Rattle.blk_cache.specs.RoomPrinting.{Prints}
 use Rattle.blk_cache.specs.Stepping.{IsPlain}
@@ -135,13 +137,54 @@ names-one state handle stream valid there =
     let object = some-there (object_at state number.0) (subst (λ (o : Option ℕ). IfSome o (λ n. IsSome (object_at state n))) number.1 (valid.bound handle)) in
     record { number = number.0; object = object.0; names = record { names = number.1; here = object.1 } }
 
--- so the bytes of its line are there
-pub read-bytes : (cache : Cache) (told : Told) (handle stream offset count : ℕ) (P : List ℕ → Type 0) → ForRead cache told handle stream offset count P → ForBytes cache told (to_read handle stream offset count) P
-read-bytes cache told handle stream offset count P reads image here state k n is =
-    let there : stream_refusal state handle stream ≡ None = still-there is.moment handle stream offset count is.before n state is.given_is is.state_is in
-    let one : NamesOne state handle = names-one state handle stream k.kept.entries.valid there in
-    subst P (ap (λ (o : Object). reply_text (gave (bytes_from (stream_of o stream) offset count))) (sym (named-object state handle one.number one.object one.names)))
-    (reads image here state k one.number one.object one.names there)
+module _ (moment handle stream offset count : ℕ) (before : State) where
+  -- it gives as many bytes as there are
+  outcome-number : (n : ℕ) → answer.Bytes n ≡ answer_of (outcome moment (to_read handle stream offset count) before None).reply → n ≡ length (bytes_from (stream_of (object_of (outcome moment (to_read handle stream offset count) before None).state handle) stream) offset count)
+  unfolding outcome reply evicted effect without
+  outcome-number n is = same is where
+    same : {m : ℕ} → answer.Bytes n ≡ answer.Bytes m → n ≡ m
+    same e = cc
+
+  step-outcome : refused moment (to_read handle stream offset count) before ≡ None → step before moment (to_read handle stream offset count) ≡ outcome moment (to_read handle stream offset count) before None
+  unfolding step
+  step-outcome e = ap (λ (o : Option Refusal). outcome moment (to_read handle stream offset count) before o) e
+
+  pub number-there : (n : ℕ) (state : State) → answer.Bytes n ≡ answer_of (step before moment (to_read handle stream offset count)).reply → state ≡ (step before moment (to_read handle stream offset count)).state → n ≡ length (bytes_from (stream_of (object_of state handle) stream) offset count)
+  number-there n state is now =
+      let e = step-outcome (passes moment handle stream offset count before n is) in
+      outcome-number n (is ∙ ap (λ (o : Outcome). answer_of o.reply) e) ∙ ap (λ (s : State). length (bytes_from (stream_of (object_of s handle) stream) offset count)) (sym (now ∙ ap (λ (o : Outcome). o.state) e))
+
+-- which is how many there are to be read
+bytes-number : (bytes : List ℕ) (offset count : ℕ) → length (bytes_from bytes offset count) ≡ bytes_there (length bytes) offset count
+bytes-number bytes offset count = length-take count (drop offset bytes) ∙ ap (min count) (length-drop offset bytes)
+
+module _ (cache : Cache) (told : Told) (handle stream offset count number : ℕ) where
+  -- what is to be read, in a state after a Read
+  pub to-read : (state : State) (image : Image) → KeepsState cache state image → IsAfter (to_read handle stream offset count) (answer.Bytes number) state → KeepsToRead cache handle stream offset number image
+  to-read state image k after =
+      let there : stream_refusal state handle stream ≡ None = still-there after.moment handle stream offset count after.before number state after.given_is after.state_is in
+      let one : NamesOne state handle = names-one state handle stream k.kept.entries.valid there in
+      record {
+        state = state;
+        kept = k;
+        n = one.number;
+        count = count;
+        object = one.object;
+        names = one.names;
+        passes = there;
+        number_is = number-there after.moment handle stream offset count after.before number state after.given_is after.state_is
+            ∙ ap (λ (o : Object). length (bytes_from (stream_of o stream) offset count)) (named-object state handle one.number one.object one.names) ∙ bytes-number (stream_of one.object stream) offset count;
+      }
+
+  -- so the bytes of its line are there
+  pub read-bytes : (P : List ℕ → Type 0) → ForRead cache told handle stream offset number P → ForBytes cache told (to_read handle stream offset count) number P
+  read-bytes P reads image here state k after =
+      let there : stream_refusal state handle stream ≡ None = still-there after.moment handle stream offset count after.before number state after.given_is after.state_is in
+      let one : NamesOne state handle = names-one state handle stream k.kept.entries.valid there in
+      let said : number ≡ bytes_there (length (stream_of one.object stream)) offset count = number-there after.moment handle stream offset count after.before number state after.given_is after.state_is
+      ∙ ap (λ (o : Object). length (bytes_from (stream_of o stream) offset count)) (named-object state handle one.number one.object one.names) ∙ bytes-number (stream_of one.object stream) offset count in
+      subst P (ap (λ (o : Object). reply_text (gave (bytes_from (stream_of o stream) offset count))) (sym (named-object state handle one.number one.object one.names)))
+      (reads image here state k one.number count one.object one.names there said)
 
 -- a command that isn't a Read reads none
 pub no-bytes : (given : Command) (state : State) → ((handle stream offset count : ℕ) → given ≡ command.Read handle stream offset count → ⊥) → bytes_text (request_of given) state ≡ []
@@ -162,8 +205,8 @@ no-bytes command.Total state other = refl
 
 -- ---- the parts of a reply
 
-pub bytes-reply : (cache : Cache) (told : Told) (request : Request) (given : Answer) (n : ℕ) → given ≡ answer.Bytes n → (P : List ℕ → Type 0) → ForBytes cache told request P → ForReply cache told request given P
-bytes-reply cache told request given n is P bytes = subst (λ (a : Answer). ForReply cache told request a P) (sym is) (λ image here state k after. bytes image here state k n after)
+pub bytes-reply : (cache : Cache) (told : Told) (request : Request) (given : Answer) (n : ℕ) → given ≡ answer.Bytes n → (P : List ℕ → Type 0) → ForBytes cache told request n P → ForReply cache told request given P
+bytes-reply cache told request given n is P bytes = subst (λ (a : Answer). ForReply cache told request a P) (sym is) (λ image here state k after. bytes image here state k after)
 
 pub rows-reply : (cache : Cache) (told : Told) (request : Request) (given : Answer) (n : ℕ) → given ≡ answer.Listed n → (P : List ℕ → Type 0) → ForRows cache told given P → ForReply cache told request given P
 rows-reply cache told request given n is P = subst (λ (a : Answer). ForRows cache told a P → ForReply cache told request a P) (sym is) (λ rows image here state k after. rows image here state k)

@@ -18,7 +18,7 @@ use Rattle.blk_cache.specs.declared.cache.Cache.{Cache}
 use Rattle.blk_cache.specs.CacheKeeping.{KeepsState}
 use Rattle.blk_cache.specs.CommandClauses.{KeepsAny}
 use Rattle.blk_cache.specs.ReadPrinting.{PrintsInPart}
-use Rattle.blk_cache.specs.Replying.{ForReply}
+use Rattle.blk_cache.specs.Replying.{ForReply, KeepsAfter}
 use Rattle.blk_cache.specs.RoomPrinting.{Prints}
 use Rattle.blk_cache.specs.Stepping.{IsPlain, SaysEvicted, SaysFront, evicted_first, outcome_text}
 use Rattle.blk_cache.proofs.PrintedReads.{part-on}
@@ -94,9 +94,12 @@ module _ (old done : Cache) (told mid now : Told) (moment : ℕ) (request : Requ
         let here = still-told state image there k in
         subst P (text-after moment request state answer built d.answered) (says here.0 here.1 (step state moment request).state (d.kept here.0 here.1) (is-after moment request state answer d.answered))
 
-    -- the cache keeps a state still, where it did
-    pub any-after : ForSome told.files (KeepsAny old) → (image : Image) → told.files ≡ Some image → ForSome now.files (KeepsAny done)
-    any-after any image there i here = let one = any image there in ((step one.0 moment request).state, (does image there one.0 one.1).kept i here)
+    -- the cache keeps the state after the command, where it kept one
+    pub any-after : ForSome told.files (KeepsAny old) → (image : Image) → told.files ≡ Some image → ForSome now.files (KeepsAfter done request answer)
+    any-after any image there i here =
+        let one = any image there in
+        let d = does image there one.0 one.1 in
+        record { state = (step one.0 moment request).state; kept = d.kept i here; after = is-after moment request one.0 answer d.answered }
 
     module _ (between failed : Bool) (w0 w1 w2 : Option (List ℕ)) (says : SaysEvicted old told moment request false between w0 w1) where
       pub whole-printed : ForReply done now request answer (Prints between failed w1 w2) → failed ≡ false → ForKept (KeepsState old) told (λ state. w2 ≡ option_map (λ (w : List ℕ). w ++ outcome_text (step state moment request)) w0)

@@ -1,5 +1,5 @@
 -- The bytes of a Read, as they are printed.
-use Rattle.std.specs.Prelude.{◌≡◌, ℕ, Bool, List, length, true}
+use Rattle.std.specs.Prelude.{◌≡◌, ◌+◌, ◌^◌, ◌&&◌, ℕ, Bool, List, length, nat_lt, true}
 use Rattle.std.specs.declared.option.Option.{Option}
 use Rattle.std.specs.declared.option.Option.TheVariants.{None, Some}
 use Rattle.blk_image.specs.Image.{Image}
@@ -8,7 +8,8 @@ use Rattle.blk_io.specs.Streams.{Appends}
 use Rattle.blk_model.specs.Bytes.{bytes_from}
 use Rattle.blk_model.specs.Effects.{stream_of}
 use Rattle.blk_model.specs.Reply.{gave}
-use Rattle.blk_model.specs.State.{Object}
+use Rattle.blk_model.specs.Sizes.{stream_count}
+use Rattle.blk_model.specs.State.{Object, State}
 use Rattle.blk_volume.specs.Entries.{stream}
 use Rattle.blk_disk.specs.declared.tables.BlockFiles.{BlockFiles}
 use Rattle.blk_script.specs.Reply.{reply_text}
@@ -19,11 +20,28 @@ use Rattle.blk_cache.specs.declared.cache.Cache.{Cache}
 use Rattle.blk_cache.specs.declared.read_printing.StreamRange.{StreamRange}
 use Rattle.blk_cache.specs.Asking.{stream_refusal}
 use Rattle.blk_cache.specs.CacheKeeping.{KeepsState}
+use Rattle.blk_cache.specs.Reading.{bytes_there}
 
--- what holds of the text of a Read's reply, in each state that is kept where the handle names an object with that stream
-abbrev pub ForRead : Cache → Told → (handle stream offset count : ℕ) → (List ℕ → Type 0) → Type 0
-ForRead cache told handle stream offset count P =
-    ForKept (KeepsState cache) told (λ state. (number : ℕ) (object : Object) → Names state handle number object → stream_refusal state handle stream ≡ None → P (reply_text (gave (bytes_from (stream_of object stream) offset count))))
+-- what holds of the text of a Read's reply, in each state that is kept where the handle names an object with that stream, of which there is this number of bytes to be read
+abbrev pub ForRead : Cache → Told → (handle stream offset number : ℕ) → (List ℕ → Type 0) → Type 0
+ForRead cache told handle stream offset number P =
+    ForKept (KeepsState cache) told (λ state. (n count : ℕ) (object : Object) → Names state handle n object → stream_refusal state handle stream ≡ None → number ≡ bytes_there (length (stream_of object stream)) offset count
+    → P (reply_text (gave (bytes_from (stream_of object stream) offset count))))
+
+-- a cache keeps some state in which there is this number of bytes to be read
+pub record KeepsToRead (cache : Cache) (handle stream offset number : ℕ) (image : Image) : Type 0 where
+  pub state : State
+  pub kept : KeepsState cache state image
+  pub n : ℕ
+  pub count : ℕ
+  pub object : Object
+  pub names : Names state handle n object
+  pub passes : stream_refusal state handle stream ≡ None
+  pub number_is : number ≡ bytes_there (length (stream_of object stream)) offset count
+
+-- whether an object has a stream with this number, and so many bytes from an offset on end where a u64 can tell
+abbrev pub can_be_read : (stream offset number : ℕ) → Bool
+can_be_read stream offset number = nat_lt stream stream_count && nat_lt (offset + number) (2 ^ 64)
 
 -- a record has a stream that can be read, with so many bytes from an offset on
 pub record HasBytes (files : BlockFiles) (range : StreamRange) (image : Image) : Type 0 where

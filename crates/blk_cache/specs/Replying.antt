@@ -1,6 +1,7 @@
 -- The reply of a command, as it is printed once the command is done and noted.
 use Rattle.std.specs.Prelude.{◌≡◌, ℕ, List, [], ◌++◌}
 use Rattle.std.specs.List.{flat_map}
+use Rattle.blk_image.specs.Image.{Image}
 use Rattle.blk_image.specs.Told.{Told}
 use Rattle.blk_model.specs.Bytes.{bytes_from}
 use Rattle.blk_model.specs.Effects.{object_of, stream_of}
@@ -42,10 +43,16 @@ pub record IsAfter (request : Request) (given : Answer) (state : State) : Type 0
 abbrev pub ForReply : Cache → Told → Request → Answer → (List ℕ → Type 0) → Type 0
 ForReply cache told request given P = ForKept (KeepsState cache) told (λ state. IsAfter request given state → P (text_of_reply request given state))
 
--- of the line of the bytes that it reads, where it answers that there are some
-abbrev pub ForBytes : Cache → Told → Request → (List ℕ → Type 0) → Type 0
-ForBytes cache told request P = ForKept (KeepsState cache) told (λ state. (n : ℕ) → IsAfter request (answer.Bytes n) state → P (bytes_text request state))
+-- of the line of the bytes that it reads, where it answers that there is this number of them
+abbrev pub ForBytes : Cache → Told → Request → (number : ℕ) → (List ℕ → Type 0) → Type 0
+ForBytes cache told request number P = ForKept (KeepsState cache) told (λ state. IsAfter request (answer.Bytes number) state → P (bytes_text request state))
 
 -- of the rows of each state that is kept, and of the line of an answer behind them
 abbrev pub ForRows : Cache → Told → Answer → (List ℕ → Type 0) → Type 0
 ForRows cache told given P = ForKept (KeepsState cache) told (λ state. P (rows_text given state))
+
+-- a cache keeps some state that is the one after a request with this answer
+pub record KeepsAfter (cache : Cache) (request : Request) (given : Answer) (image : Image) : Type 0 where
+  pub state : State
+  pub kept : KeepsState cache state image
+  pub after : IsAfter request given state

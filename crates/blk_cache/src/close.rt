@@ -51,6 +51,7 @@ impl Cache {
 
         ensures is_open { ForSome (F.told f.new).files (IsOpen self.new.files) }
         ensures notes { self.new.notes ≡ self.old.notes }
+        ensures mark { self.new.mark ≡ self.old.mark }
 
         // A damage is a check that fails on what is read here; nothing is written after it.
         ensures damaged { IfDamaged result (IsFailedCheck self.new.files (F.told f.new)) }

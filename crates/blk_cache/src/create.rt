@@ -65,6 +65,7 @@ impl Cache {
 
         ensures is_open { OnOk result (ForSome (F.told f.new).files (IsOpen self.new.files)) }
         ensures notes { self.new.notes ≡ self.old.notes }
+        ensures mark { self.new.mark ≡ self.old.mark }
 
         // A damage is a check that fails on what is read here; nothing is written after it.
         ensures damaged { IfDamaged result (IsFailedCheck self.new.files (F.told f.new)) }
@@ -106,6 +107,7 @@ impl Cache {
 
         ensures done { IfOk result (λ given. given ≡ answer.Done) }
         ensures notes { self.new.notes ≡ self.old.notes }
+        ensures mark { self.new.mark ≡ self.old.mark }
         ensures is_open { OnOk result (ForSome (F.told f.new).files (IsOpen self.new.files)) }
         ensures damaged { IfDamaged result (IsFailedCheck self.new.files (F.told f.new)) }
         ensures untold { ForSome (F.told f.old).files (IsReadyForSome self.old handle key.now) → IfDamaged result (λ _. (F.told f.old).files ≡ None) }
@@ -142,6 +144,7 @@ impl Cache {
         ensures stops { ForSome (F.told f.old).files (λ from. (state : State) → KeepsState self.old state from → CanHaveNew state handle key.now → Passes (F.told f.old) (F.told f.new) (Finds (rest state))) }
 
         ensures notes { self.new.notes ≡ self.old.notes }
+        ensures mark { self.new.mark ≡ self.old.mark }
         ensures is_open { OnOk result (ForSome (F.told f.new).files (IsOpen self.new.files)) }
 
         // A damage is a check that fails on what is read here; nothing is written after it.

@@ -47,6 +47,7 @@ impl Cache {
 
         ensures is_open { ForSome (F.told f.new).files (IsOpen self.new.files) }
         ensures notes { self.new.notes ≡ self.old.notes }
+        ensures mark { self.new.mark ≡ self.old.mark }
 
         // A folder that tells its files gives no damage where the cache keeps a state.
         ensures damaged { IfDamaged result (IsOpenDamage self.old.files (F.told f.old) (F.told f.new) key.now) }

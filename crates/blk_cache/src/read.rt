@@ -93,7 +93,7 @@ fn use_item<F: Folder>(
 }
 
 // How many bytes of a stream of so many there are from an offset on, at most `count`.
-pub(crate) fn bytes_there(size: u32, offset: u64, count: u64) -> u64
+fn bytes_there(size: u32, offset: u64, count: u64) -> u64
     ensures { result ≡ bytes_there size offset count }
 {
     u64::from(size).saturating_sub(offset).min(count)

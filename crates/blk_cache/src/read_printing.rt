@@ -9,13 +9,11 @@ ghost use Rattle.blk_disk.specs.Tables.{is_record_among};
 ghost use Rattle.blk_script.specs.Reply.{reply_text};
 ghost use Rattle.blk_script.specs.Spelling.{data_text, number_text};
 ghost use Rattle.blk_object.specs.FailedChecks.{IsFailedCheck};
-ghost use Rattle.blk_cache.specs.CommandClauses.{KeepsAny};
-ghost use Rattle.blk_cache.specs.ReadPrinting.{ForRead, HasBytes, PrintsInPart};
+ghost use Rattle.blk_cache.specs.ReadPrinting.{ForRead, HasBytes, KeepsToRead, PrintsInPart, can_be_read};
 ghost use Rattle.blk_cache.specs.RoomPrinting.{FailsWhereItRose, Prints};
 
-use crate::asking::Asked;
+use crate::asking::STREAMS;
 use crate::cache::Cache;
-use crate::read::bytes_there;
 use blk_addr::Addr;
 use blk_disk::BlockFiles;
 use blk_entry::record_damage;
@@ -37,10 +35,11 @@ pub(crate) struct StreamRange {
 }
 
 impl Cache {
-    /// Prints the line of a Read that was used: the number of bytes from `offset` on, at most `count`, and then the bytes.
+    /// Prints the line of a Read that was used: the number of bytes that there are from `offset` on, which its answer told,
+    /// and then the bytes.
     ///
-    /// One folder call reads the record, and two more are made for each 4096 bytes. Nothing is written. Where the handle
-    /// names no object with that stream nothing is printed. After a fault a front of the line is printed.
+    /// Two folder calls are made for each 4096 bytes. Nothing is written. Where the handle names no object, or no stream
+    /// has that number, nothing is printed. After a fault a front of the line is printed.
     pub(crate) fn print_read<F: Folder, K: Sink>(
         &self,
         f: &mut F,
@@ -49,32 +48,41 @@ impl Cache {
         handle: u16,
         stream: u8,
         offset: u64,
-        count: u64,
+        number: u64,
     ) -> Result<(), Fault>
-        ensures printed { OnOk result (ForRead self.now (F.told f.old) handle stream offset count (Prints failed.old failed.new (K.written out.old) (K.written out.new))) }
-        ensures part { ForRead self.now (F.told f.old) handle stream offset count (PrintsInPart failed.old (K.written out.old) (K.written out.new)) }
+        ensures printed { OnOk result (ForRead self.now (F.told f.old) handle stream offset number (Prints failed.old failed.new (K.written out.old) (K.written out.new))) }
+        ensures part { ForRead self.now (F.told f.old) handle stream offset number (PrintsInPart failed.old (K.written out.old) (K.written out.new)) }
         ensures failed { FailsWhereItRose failed.old failed.new (K.faults out.old) (K.faults out.new) }
         ensures stays { Stays (F.told f.old) (F.told f.new) }
+
+        // A folder that tells its files gives no damage where the cache keeps a state with so many bytes.
         ensures damaged { IfDamaged result (IsFailedCheck self.now.files (F.told f.new)) }
-        ensures untold { ForSome (F.told f.old).files (KeepsAny self.now) → IfDamaged result (λ _. (F.told f.old).files ≡ None) }
+        ensures untold { ForSome (F.told f.old).files (KeepsToRead self.now handle stream offset number) → IfDamaged result (λ _. (F.told f.old).files ≡ None) }
         ensures later { F.faults f.old ≤ F.faults f.new }
         ensures later_out { K.faults out.old ≤ K.faults out.new }
         ensures device { IfDevice result (Rises (F.faults f.old) (F.faults f.new)) }
     {
-        let asked = self.ask_stream(f, handle, stream)?;
-        match asked {
-            Asked::Refused(_) => Ok(()),
-            Asked::Stream(named) => {
-                let range = StreamRange {
-                    entry: named.entry,
-                    stream,
-                    offset,
-                    count: bytes_there(named.size, offset, count),
-                };
-                print_range(f, &self.files, out, failed, &range)
-            }
+        let Some(object) = self.handles.object(handle) else {
+            return Ok(());
+        };
+        if !can_be_read(stream, offset, number) {
+            return Ok(());
         }
+        let range = StreamRange {
+            entry: object.entry,
+            stream,
+            offset,
+            count: number,
+        };
+        print_range(f, &self.files, out, failed, &range)
     }
+}
+
+// Whether an object has a stream with this number, and so many bytes from an offset on end where a u64 can tell.
+fn can_be_read(stream: u8, offset: u64, number: u64) -> bool
+    ensures { result ≡ can_be_read stream offset number }
+{
+    stream < STREAMS && offset.checked_add(number).is_some()
 }
 
 // Prints the line of bytes of a stream: their number, and then the bytes.

@@ -10,7 +10,7 @@ ghost use Rattle.blk_script.specs.Reply.{reply_text};
 ghost use Rattle.blk_cache.specs.CommandClauses.{KeepsAny};
 ghost use Rattle.blk_cache.specs.Listing.{OnlyRoomChanges};
 ghost use Rattle.blk_cache.specs.ReadPrinting.{PrintsInPart};
-ghost use Rattle.blk_cache.specs.Replying.{ForBytes, ForReply, ForRows};
+ghost use Rattle.blk_cache.specs.Replying.{ForBytes, ForReply, ForRows, KeepsAfter};
 ghost use Rattle.blk_cache.specs.RoomPrinting.{FailsWhereItRose, Prints};
 
 use crate::cache::Cache;
@@ -37,15 +37,15 @@ impl Cache {
         ensures others { OnlyRoomChanges self.old self.new }
         ensures stays { Stays (F.told f.old) (F.told f.new) }
 
-        // A folder that tells its files gives no damage where the cache keeps a state.
+        // A folder that tells its files gives no damage where the cache keeps the state after the command.
         ensures damaged { IfDamaged result (IsFailedCheck self.new.files (F.told f.new)) }
-        ensures untold { ForSome (F.told f.old).files (KeepsAny self.old) → IfDamaged result (λ _. (F.told f.old).files ≡ None) }
+        ensures untold { ForSome (F.told f.old).files (KeepsAfter self.old (request_of command.now) answer.now) → IfDamaged result (λ _. (F.told f.old).files ≡ None) }
         ensures later { F.faults f.old ≤ F.faults f.new }
         ensures later_out { K.faults out.old ≤ K.faults out.new }
         ensures device { IfDevice result (Rises (F.faults f.old) (F.faults f.new)) }
     {
         match *answer {
-            Answer::Bytes(_) => self.print_bytes_for(f, out, failed, command),
+            Answer::Bytes(number) => self.print_bytes_for(f, out, failed, command, number),
             Answer::Listed(_) => self.print_list(f, out, failed, answer),
             _ => {
                 say_answer(out, failed, answer);
@@ -54,20 +54,21 @@ impl Cache {
         }
     }
 
-    // Prints the bytes that a command reads.
+    // Prints the bytes that a command reads, of which there is this number.
     fn print_bytes_for<F: Folder, K: Sink>(
         &self,
         f: &mut F,
         out: &mut K,
         failed: &mut bool,
         command: &Command,
+        number: u64,
     ) -> Result<(), Fault>
-        ensures printed { OnOk result (ForBytes self.now (F.told f.old) (request_of command.now) (Prints failed.old failed.new (K.written out.old) (K.written out.new))) }
-        ensures part { ForBytes self.now (F.told f.old) (request_of command.now) (PrintsInPart failed.old (K.written out.old) (K.written out.new)) }
+        ensures printed { OnOk result (ForBytes self.now (F.told f.old) (request_of command.now) number (Prints failed.old failed.new (K.written out.old) (K.written out.new))) }
+        ensures part { ForBytes self.now (F.told f.old) (request_of command.now) number (PrintsInPart failed.old (K.written out.old) (K.written out.new)) }
         ensures failed { FailsWhereItRose failed.old failed.new (K.faults out.old) (K.faults out.new) }
         ensures stays { Stays (F.told f.old) (F.told f.new) }
         ensures damaged { IfDamaged result (IsFailedCheck self.now.files (F.told f.new)) }
-        ensures untold { ForSome (F.told f.old).files (KeepsAny self.now) → IfDamaged result (λ _. (F.told f.old).files ≡ None) }
+        ensures untold { ForSome (F.told f.old).files (KeepsAfter self.now (request_of command.now) (Answer.Bytes number)) → IfDamaged result (λ _. (F.told f.old).files ≡ None) }
         ensures later { F.faults f.old ≤ F.faults f.new }
         ensures later_out { K.faults out.old ≤ K.faults out.new }
         ensures device { IfDevice result (Rises (F.faults f.old) (F.faults f.new)) }
@@ -77,8 +78,8 @@ impl Cache {
                 handle,
                 stream,
                 offset,
-                count,
-            } => self.print_read(f, out, failed, handle, stream, offset, count),
+                ..
+            } => self.print_read(f, out, failed, handle, stream, offset, number),
             _ => Ok(()),
         }
     }

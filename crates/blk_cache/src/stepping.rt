@@ -52,6 +52,9 @@ impl Cache {
         ensures noted { IfDone result (ForKept (KeepsState self.old) (F.told f.old) (IsNoted (F.told f.old) (F.told f.new) moment (request_of command.now) (note_number (self.old.notes + 1)))) }
         ensures counts { IfDone result (self.new.notes ≡ note_number (self.old.notes + 1)) }
 
+        // The session has its number still.
+        ensures session { IfDone result (self.new.mark ≡ self.old.mark) }
+
         // A refused one makes its note alone.
         ensures alone { IfOk result (λ answer. IsRefused answer → Applies (F.told f.old) (F.told f.new) (Note (note_number (self.old.notes + 1)) ∷ [])) }
 
@@ -98,6 +101,8 @@ impl Cache {
         // Its name is free then, and the other names are bound as before.
         ensures frees { OnOk result (IfSome (position is_some self.old.handles) (λ handle. self.new.handles ≡ slice_set self.old.handles handle None)) }
 
+        ensures session { OnOk result (self.new.mark ≡ self.old.mark) }
+
         // Where none is, nothing is done.
         ensures nothing { position is_some self.old.handles ≡ None → Stays (F.told f.old) (F.told f.new) }
         ensures unchanged { position is_some self.old.handles ≡ None → self.new ≡ self.old }
@@ -141,6 +146,7 @@ impl Cache {
         ensures failed { FailsWhereItRose failed.old failed.new (K.faults out.old) (K.faults out.new) }
         ensures quiet { IfOk result (λ answer. IsRefused answer → Stays (F.told f.old) (F.told f.new)) }
         ensures notes { self.new.notes ≡ self.old.notes }
+        ensures mark { self.new.mark ≡ self.old.mark }
         ensures is_open { OnOk result (ForSome (F.told f.new).files (IsOpen self.new.files)) }
         ensures damaged { IfDamaged result (IsFailedCheck self.new.files (F.told f.new)) }
         ensures untold { ForSome (F.told f.old).files (KeepsAny self.old) → IfDamaged result (λ _. (F.told f.old).files ≡ None) }
@@ -163,9 +169,7 @@ impl Cache {
                 offset,
                 cut,
                 bytes,
-            } => self.write(
-                f, out, failed, handle, stream, offset, cut, bytes, moment,
-            ),
+            } => self.write(f, out, failed, handle, stream, offset, cut, bytes, moment),
             Command::Size { handle, stream } => self.size(f, handle, stream),
             Command::Doom { handle } => self.doom(f, handle),
             Command::DoomKey { key } => self.doom_key(f, key),

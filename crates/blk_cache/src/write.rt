@@ -76,6 +76,7 @@ impl Cache {
 
         ensures is_open { OnOk result (ForSome (F.told f.new).files (IsOpen self.new.files)) }
         ensures notes { self.new.notes ≡ self.old.notes }
+        ensures mark { self.new.mark ≡ self.old.mark }
 
         // A damage is a check that fails on what is read here; nothing is written after it. A folder that tells its files gives none where the cache keeps a state.
         ensures damaged { IfDamaged result (IsFailedCheck self.new.files (F.told f.new)) }
@@ -121,6 +122,7 @@ impl Cache {
 
         ensures wrote { IfOk result (λ given. given ≡ answer.Wrote (length bytes.now)) }
         ensures notes { self.new.notes ≡ self.old.notes }
+        ensures mark { self.new.mark ≡ self.old.mark }
         ensures is_open { OnOk result (ForSome (F.told f.new).files (IsOpen self.new.files)) }
         ensures damaged { IfDamaged result (IsFailedCheck self.new.files (F.told f.new)) }
         ensures untold { ForSome (F.told f.old).files (IsReadyToWriteSome self.old handle stream offset cut bytes.now size) → IfDamaged result (λ _. (F.told f.old).files ≡ None) }
@@ -156,6 +158,7 @@ impl Cache {
         ensures stops { ForSome (F.told f.old).files (λ from. (state : State) → KeepsState self.old state from → CanGetBytes state handle stream offset cut bytes.now size → Passes (F.told f.old) (F.told f.new) (Finds (rest state))) }
 
         ensures notes { self.new.notes ≡ self.old.notes }
+        ensures mark { self.new.mark ≡ self.old.mark }
         ensures is_open { OnOk result (ForSome (F.told f.new).files (IsOpen self.new.files)) }
         ensures damaged { IfDamaged result (IsFailedCheck self.new.files (F.told f.new)) }
         ensures untold { ForSome (F.told f.old).files (KeepsToWrite self.old handle stream offset cut bytes.now size) → IfDamaged result (λ _. (F.told f.old).files ≡ None) }

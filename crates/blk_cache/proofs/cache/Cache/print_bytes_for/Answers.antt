@@ -4,26 +4,33 @@ use Rattle.std.proofs.lemmas.Result.{on_ok_weaker}
 use Rattle.blk_model.specs.Request.{request_of}
 use Rattle.blk_model.specs.declared.Command.{Command}
 use Rattle.blk_cache.specs.ReadPrinting.{PrintsInPart}
-use Rattle.blk_cache.specs.Replying.{ForBytes}
+use Rattle.blk_cache.specs.Replying.{ForBytes, IsAfter}
+use Rattle.blk_model.specs.declared.Answer.TheVariants as answer
 use Rattle.blk_cache.specs.RoomPrinting.{Prints}
 use Rattle.blk_cache.proofs.PrintedReads.{part-none}
-use Rattle.blk_cache.proofs.Replies.{no-bytes, read-bytes}
+use Rattle.blk_cache.proofs.Replies.{no-bytes, read-bytes, to-read}
 use Rattle.blk_cache.proofs.RoomTexts.{none-printed}
 use Rattle.blk_cache.proofs.cache.Cache.print_bytes_for.Goals as goal
 
 pub returns-in-Read-clause-printed : goal.returns-in-Read-clause-printed
 returns-in-Read-clause-printed g c =
-    subst (λ (cmd : Command). OnOk c.print_read.result (ForBytes c.args.self.now (g.F.Folder.told c.args.f.now) (request_of cmd) (Prints c.args.failed.now c.print_read.new.failed (g.K.Sink.written c.args.out.now) (g.K.Sink.written c.print_read.new.out)))) (sym c.in-Read.is)
-    (on_ok_weaker c.print_read.result (read-bytes c.args.self.now (g.F.Folder.told c.args.f.now) c.in-Read.handle c.in-Read.stream c.in-Read.offset c.in-Read.count (Prints c.args.failed.now c.print_read.new.failed (g.K.Sink.written c.args.out.now) (g.K.Sink.written c.print_read.new.out))) c.print_read.ensures.printed)
+    subst (λ (cmd : Command). OnOk c.print_read.result (ForBytes c.args.self.now (g.F.Folder.told c.args.f.now) (request_of cmd) c.args.number (Prints c.args.failed.now c.print_read.new.failed (g.K.Sink.written c.args.out.now) (g.K.Sink.written c.print_read.new.out)))) (sym c.in-Read.is)
+    (on_ok_weaker c.print_read.result (read-bytes c.args.self.now (g.F.Folder.told c.args.f.now) c.in-Read.handle c.in-Read.stream c.in-Read.offset c.in-Read.count c.args.number (Prints c.args.failed.now c.print_read.new.failed (g.K.Sink.written c.args.out.now) (g.K.Sink.written c.print_read.new.out))) c.print_read.ensures.printed)
 
 pub returns-in-Read-clause-part : goal.returns-in-Read-clause-part
 returns-in-Read-clause-part g c =
-    subst (λ (cmd : Command). ForBytes c.args.self.now (g.F.Folder.told c.args.f.now) (request_of cmd) (PrintsInPart c.args.failed.now (g.K.Sink.written c.args.out.now) (g.K.Sink.written c.print_read.new.out))) (sym c.in-Read.is)
-    (read-bytes c.args.self.now (g.F.Folder.told c.args.f.now) c.in-Read.handle c.in-Read.stream c.in-Read.offset c.in-Read.count (PrintsInPart c.args.failed.now (g.K.Sink.written c.args.out.now) (g.K.Sink.written c.print_read.new.out)) c.print_read.ensures.part)
+    subst (λ (cmd : Command). ForBytes c.args.self.now (g.F.Folder.told c.args.f.now) (request_of cmd) c.args.number (PrintsInPart c.args.failed.now (g.K.Sink.written c.args.out.now) (g.K.Sink.written c.print_read.new.out))) (sym c.in-Read.is)
+    (read-bytes c.args.self.now (g.F.Folder.told c.args.f.now) c.in-Read.handle c.in-Read.stream c.in-Read.offset c.in-Read.count c.args.number (PrintsInPart c.args.failed.now (g.K.Sink.written c.args.out.now) (g.K.Sink.written c.print_read.new.out)) c.print_read.ensures.part)
 
 pub returns-in_default-clause-printed : goal.returns-in_default-clause-printed
-returns-in_default-clause-printed g c image there state k n after =
+returns-in_default-clause-printed g c image there state k after =
     subst (Prints c.args.failed.now c.args.failed.now (g.K.Sink.written c.args.out.now) (g.K.Sink.written c.args.out.now)) (sym (no-bytes c.args.command.now state c.in_default.not-Read)) (none-printed c.args.failed.now (g.K.Sink.written c.args.out.now))
 
 pub returns-in_default-clause-part : goal.returns-in_default-clause-part
-returns-in_default-clause-part g c image there state k n after = part-none c.args.failed.now (g.K.Sink.written c.args.out.now) (g.K.Sink.written c.args.out.now) _ refl
+returns-in_default-clause-part g c image there state k after = part-none c.args.failed.now (g.K.Sink.written c.args.out.now) (g.K.Sink.written c.args.out.now) _ refl
+
+pub returns-in-Read-clause-untold : goal.returns-in-Read-clause-untold
+returns-in-Read-clause-untold g c any =
+    c.print_read.ensures.untold (λ image there.
+    let one = any image there in
+    to-read c.args.self.now (g.F.Folder.told c.args.f.now) c.in-Read.handle c.in-Read.stream c.in-Read.offset c.in-Read.count c.args.number one.state image one.kept (subst (λ (cmd : Command). IsAfter (request_of cmd) (answer.Bytes c.args.number) one.state) c.in-Read.is one.after))
