@@ -10,7 +10,7 @@ use Rattle.blk_script.specs.Line.{read_text}
 use Rattle.blk_headline.specs.Lines.{Cut, with_byte, with_bytes, lines, open_line, nothing_cut}
 use Rattle.blk_headline.specs.Script.{Script, LineError, faulty_text, asked_by, session_script, line_script}
 use Rattle.blk_headline.specs.Run.{turns, commands_of, stamped_by, state_then}
-use Rattle.blk_headline.specs.Laws.{LinesGoOn, CommandsAreFew}
+use Rattle.blk_headline.specs.Laws.{CommandsAreFew, LinesGoOn, WholeLinesComeFirst}
 
 pub with_bytes-append : (cut : Cut) (bytes more : List ℕ) → with_bytes cut (bytes ++ more) ≡ with_bytes (with_bytes cut bytes) more
 unfolding with_bytes
@@ -42,6 +42,18 @@ lines_go_on cut bytes more =
     let start : before_lines cut.whole (record { whole = []; rest = cut.rest }) ≡ cut = ap (λ (l : List (List ℕ)). record { whole = l; rest = cut.rest }) (append-nil cut.whole) in
     let later = ap (λ (c : Cut). with_bytes c more) (sym start) ∙ bytes_behind cut.whole (record { whole = []; rest = cut.rest }) more in
     (with_bytes-append cut bytes more, ap (λ (c : Cut). c.whole) later, ap (λ (c : Cut). c.rest) later)
+
+-- whole lines come first
+pub whole_first : WholeLinesComeFirst
+whole_first bytes more =
+    let cut : Cut = with_bytes nothing_cut bytes in
+    let all : with_bytes nothing_cut (bytes ++ more) ≡ with_bytes cut more = with_bytes-append nothing_cut bytes more in
+    let split = (lines_go_on cut [] more).1 in
+    let behind : List (List ℕ) = (with_bytes (record { whole = []; rest = cut.rest }) more).whole in
+    let last : List (List ℕ) = open_line (with_bytes cut more).rest in (
+      behind ++ last,
+      ap (λ (c : Cut). c.whole ++ open_line c.rest) all ∙ ap (λ (l : List (List ℕ)). l ++ last) split ∙ append_assoc cut.whole behind last,
+    )
 
 -- How many commands a session makes.
 

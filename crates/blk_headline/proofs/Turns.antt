@@ -11,9 +11,9 @@ use Rattle.blk_model.specs.Request.{Request}
 use Rattle.blk_model.specs.State.{State}
 use Rattle.blk_io.specs.Streams.{Readings, later_of}
 use Rattle.blk_headline.specs.Script.{Script, LineError, ended, errs, says, asks, asked_by, error_text, session_script, line_script}
-use Rattle.blk_headline.specs.Run.{Turn, error_turn, text_turn, command_turn, stamped_by, outcome_in, state_then, turns, commands_of, state_after, clock_after, text_of, refuse, bound_names, closings, commands}
+use Rattle.blk_headline.specs.Run.{Stamped, Turn, error_turn, text_turn, command_turn, stamped_by, outcome_in, state_then, turns, commands_of, state_after, clock_after, text_of, refuse, bound_names, closings, commands}
 use Rattle.blk_headline.specs.Playing.{IsPlayed}
-use Rattle.blk_headline.specs.Laws.{LinesArePlayedInTurn, NothingIsPlayed, CommandsArePlayed, ErrorsArePlayed, TextsArePlayed, PlayingGoesOn, PlayedRunsAreCut, PlayedRunsAreWhole}
+use Rattle.blk_headline.specs.Laws.{LinesArePlayedInTurn, NothingIsPlayed, CommandsArePlayed, ErrorsArePlayed, TextsArePlayed, PlayingGoesOn, PlayedRunsAreCut, PlayedRunsAreWhole, PlayedCommandsComeFirst, AskedCommandsAreNext}
 use Rattle.blk_headline.proofs.CommandStates.{state_after-append}
 
 pub commands_of-append : (xs ys : List Turn) → commands_of (xs ++ ys) ≡ commands_of xs ++ commands_of ys
@@ -143,3 +143,24 @@ run_whole script found limits readings made now readings_now played =
     let opened = open_state found limits in
     let same : turns script opened (later_of readings) ≡ made = played.all ∙ append-nil made in
     (same, cut_same opened (later_of readings) (turns script opened (later_of readings)) made now readings_now same played.state_is played.clock_is)
+
+-- a run has the commands of the turns that were made first
+pub commands_first : PlayedCommandsComeFirst
+unfolding commands
+commands_first script found limits readings made left now readings_now played =
+    let opened = open_state found limits in
+    let all : List Turn = turns script opened (later_of readings) in
+    let later : List Turn = turns left now readings_now in
+    let closed : List Stamped = closings (bound_names (state_after opened (commands_of all))) (clock_after (later_of readings) (length (commands_of all))) in (
+      commands_of later ++ closed,
+      ap (λ (l : List Turn). commands_of l ++ closed) played.all ∙ ap (λ (l : List Stamped). l ++ closed) (commands_of-append made later) ∙ append_assoc (commands_of made) (commands_of later) closed,
+    )
+
+pub asked_next : AskedCommandsAreNext
+asked_next script found limits readings made request shown next now readings_now played =
+    let command = stamped_by readings_now request in
+    let outcome = outcome_in now command in
+    let turn = command_turn command (shown outcome) outcome in
+    let after = played_command script (open_state found limits) (later_of readings) made request shown next now readings_now played in
+    let rest = commands_first script found limits readings (made ++ turn ∷ []) (next outcome) outcome.state (later_of readings_now) after in
+    (rest.0, rest.1 ∙ ap (λ (l : List Stamped). l ++ rest.0) (commands_of-append made (turn ∷ [])) ∙ append_assoc (commands_of made) (command ∷ []) rest.0)

@@ -14,7 +14,7 @@ use Rattle.blk_io.specs.Streams.{Readings, later_of}
 use Rattle.blk_kept.specs.Commands.{IsNoted, IsStepped, note_number}
 use Rattle.blk_volume.specs.Found.{found}
 use Rattle.blk_volume.specs.StandsFor.{StandsFor}
-use Rattle.blk_headline.specs.Lines.{Cut, with_bytes, lines}
+use Rattle.blk_headline.specs.Lines.{Cut, with_bytes, lines, whole_lines}
 use Rattle.blk_headline.specs.Script.{Script, LineError, ended, errs, says, asks, error_text, session_script}
 use Rattle.blk_headline.specs.Run.{Stamped, Turn, error_turn, text_turn, command_turn, stamped_by, outcome_in, state_then, state_after, clock_after, turns, commands_of, bound_names, closings, run_of, cut_after, commands}
 use Rattle.blk_headline.specs.Opening.{IsUsable, HoldsStill, Opens, has_opened, open_mark}
@@ -120,6 +120,16 @@ PlayedRunsAreWhole = (script : Script) (found : List Row) (limits : Bounds) (rea
     → IsPlayed script (open_state found limits) (later_of readings) made ended now readings_now
     → ((run_of script found limits readings).turns ≡ made) × (commands (run_of script found limits readings) ≡ commands_of made ++ closings (bound_names now) readings_now)
 
+-- of a script that was played so far, these commands come first in the run, and a command that is asked next is the next
+abbrev pub PlayedCommandsComeFirst : Type 0
+PlayedCommandsComeFirst = (script : Script) (found : List Row) (limits : Bounds) (readings : Readings) (made : List Turn) (left : Script) (now : State) (readings_now : Readings)
+    → IsPlayed script (open_state found limits) (later_of readings) made left now readings_now → (more : List Stamped) × (commands (run_of script found limits readings) ≡ commands_of made ++ more)
+
+abbrev pub AskedCommandsAreNext : Type 0
+AskedCommandsAreNext = (script : Script) (found : List Row) (limits : Bounds) (readings : Readings) (made : List Turn) (request : Request) (shown : Outcome → Bool) (next : Outcome → Script) (now : State) (readings_now : Readings)
+    → IsPlayed script (open_state found limits) (later_of readings) made (asks request shown next) now readings_now
+    → (more : List Stamped) × (commands (run_of script found limits readings) ≡ commands_of made ++ stamped_by readings_now request ∷ more)
+
 -- a session makes fewer commands than its input has bytes: each has a line that isn't empty
 abbrev pub CommandsAreFew : Type 0
 CommandsAreFew = (number : ℕ) (bytes : List ℕ) (state : State) (clock : Readings) → 2 * length (commands_of (turns (session_script number (lines bytes)) state clock)) ≤ length bytes + 1
@@ -131,6 +141,10 @@ abbrev pub LinesGoOn : Type 0
 LinesGoOn = (cut : Cut) (bytes more : List ℕ) → (with_bytes cut (bytes ++ more) ≡ with_bytes (with_bytes cut bytes) more)
     × ((with_bytes cut more).whole ≡ cut.whole ++ (with_bytes (record { whole = []; rest = cut.rest }) more).whole)
     × ((with_bytes cut more).rest ≡ (with_bytes (record { whole = []; rest = cut.rest }) more).rest)
+
+-- the whole lines of the bytes that come first are the first lines
+abbrev pub WholeLinesComeFirst : Type 0
+WholeLinesComeFirst = (bytes more : List ℕ) → (later : List (List ℕ)) × (lines (bytes ++ more) ≡ whole_lines bytes ++ later)
 
 -- The closings.
 

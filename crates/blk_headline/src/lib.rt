@@ -4,7 +4,7 @@
 //! run composes, each the contract of a function with an empty body.
 #![tactic(auto)]
 
-ghost use Rattle.blk_headline.specs.Laws.{BoundNamesAreFew, ClosesFreeTheirName, CommandsAreFew, CommandsArePlayed, ErrorsArePlayed, LeastNamesAreClosedFirst, LinesArePlayedInTurn, LinesGoOn, NoneIsClosedWhereNoneIsBound, NoteNumbersAreExact, NotedCommandsFollow, NothingIsPlayed, OpeningsOfATrailAreOne, PlayedRunsAreCut, PlayedRunsAreWhole, PlayingGoesOn, RunsBegin, RunsEnd, RunsGoOn, RunsGoOnInTurn, RunsMayStopBetween, RunsMayStopInACommand, TextsArePlayed, UnopenedRunsMayStop};
+ghost use Rattle.blk_headline.specs.Laws.{AskedCommandsAreNext, BoundNamesAreFew, ClosesFreeTheirName, CommandsAreFew, CommandsArePlayed, ErrorsArePlayed, LeastNamesAreClosedFirst, LinesArePlayedInTurn, LinesGoOn, NoneIsClosedWhereNoneIsBound, NoteNumbersAreExact, NotedCommandsFollow, NothingIsPlayed, OpeningsOfATrailAreOne, PlayedCommandsComeFirst, PlayedRunsAreCut, PlayedRunsAreWhole, PlayingGoesOn, RunsBegin, RunsEnd, RunsGoOn, RunsGoOnInTurn, RunsMayStopBetween, RunsMayStopInACommand, TextsArePlayed, UnopenedRunsMayStop, WholeLinesComeFirst};
 
 /// A run begins with an opening. Where the opening failed the folder holds at each word what it held, which a stop in any
 /// run may leave. Where the trail is told, what is said of each word and of the last step is said of the same steps.
@@ -40,11 +40,14 @@ pub fn scripts_are_played()
     ensures lines { LinesArePlayedInTurn }
     ensures cut { PlayedRunsAreCut }
     ensures whole { PlayedRunsAreWhole }
+    ensures first { PlayedCommandsComeFirst }
+    ensures next { AskedCommandsAreNext }
 {}
 
 /// Bytes that come later are cut behind those that came before. A session has no more commands than half its bytes and one.
 pub fn lines_go_on()
     ensures cut { LinesGoOn }
+    ensures whole { WholeLinesComeFirst }
     ensures few { CommandsAreFew }
 {}
 
