@@ -1,8 +1,9 @@
 -- Small runs, computed.
-use Rattle.std.proofs.Common.{◌≡◌, [], ◌∷◌, codes, refl, true, false, length}
+use Rattle.std.proofs.Common.{◌≡◌, ℕ, [], ◌∷◌, codes, refl, true, false, length}
 use Rattle.percent_encoding.specs.Percent.{percent_decode}
 use Rattle.blk_model.proofs.Computing.{computing}
 use Rattle.blk_model.specs.Holding.{rest}
+use Rattle.blk_model.specs.Request.{Request, to_close, to_create}
 use Rattle.blk_model.specs.State.{Bounds}
 use Rattle.blk_io.specs.Streams.{Readings}
 use Rattle.blk_script.specs.Fields.{data_field, key_field, line_fields, number_field}
@@ -11,7 +12,7 @@ use Rattle.blk_script.specs.Reply.{reply_text}
 use Rattle.blk_script.specs.Spelling.{data_text, key_text}
 use Rattle.blk_headline.specs.Lines.{lines, whole_lines, with_bytes}
 use Rattle.blk_headline.specs.Script.{Script, session_script, until_refused, list_script, put_script, get_script, count_script}
-use Rattle.blk_headline.specs.Run.{Run, run_of, turns, state_after, closings, commands, last_state, text_of, refuse}
+use Rattle.blk_headline.specs.Run.{Run, Stamped, cut_after, run_of, turns, state_after, closings, commands, last_state, text_of, refuse}
 
 -- Lines.
 
@@ -32,13 +33,16 @@ whole_alone : whole_lines (codes "ab\ncd") ≡ codes "ab" ∷ []
 unfolding with_bytes
 whole_alone = refl
 
--- Runs on an empty folder, with the clock at 50 and then at 100.
+-- Runs on an empty folder, with the clock at 40 for the opening, then at 50, and at 100 from then on.
 
 abbrev small : Bounds
 small = record { max_bytes = 1000; max_items = 10 }
 
 abbrev clock : Readings
-clock = record { ahead = 50 ∷ []; last = 100 }
+clock = record { ahead = 40 ∷ 50 ∷ []; last = 100 }
+
+abbrev stamped : ℕ → Request → Stamped
+stamped moment request = record { moment = moment; request = request }
 
 abbrev run : Script → Run
 run script = run_of script [] small clock
@@ -84,3 +88,16 @@ session_commands = refl
 session_rest : length (rest (last_state session)) ≡ 1
 unfolding computing percent_decode line_fields number_field data_field key_field reading command_words read_text key_text data_text reply_text session_script turns with_bytes state_after closings commands
 session_rest = refl
+
+-- two handles that are left open are closed, the least first, the first at the reading after the last command
+abbrev two_left : Run
+two_left = run (session_script 1 (lines (codes "create 1 b\ncreate 0 a\n")))
+
+two_closed : commands two_left ≡ stamped 50 (to_create 1 (codes "b")) ∷ stamped 100 (to_create 0 (codes "a")) ∷ stamped 100 (to_close 0) ∷ stamped 100 (to_close 1) ∷ []
+unfolding computing percent_decode line_fields number_field data_field key_field reading command_words read_text key_text data_text reply_text session_script turns with_bytes state_after closings commands
+two_closed = refl
+
+-- a run that ended after its first turn closes what that left open
+one_closed : commands (cut_after 1 two_left) ≡ stamped 50 (to_create 1 (codes "b")) ∷ stamped 100 (to_close 1) ∷ []
+unfolding computing percent_decode line_fields number_field data_field key_field reading command_words read_text key_text data_text reply_text session_script turns with_bytes state_after closings commands
+one_closed = refl

@@ -7,3 +7,4 @@ pub mod Turns
 pub mod LinesCut
 pub mod Closing
 pub mod Examples
+pub mod WorkedRun
