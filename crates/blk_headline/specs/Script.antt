@@ -124,9 +124,13 @@ abbrev pub put_script : List ℕ → ℕ → List ℕ → Script
 put_script key stream bytes =
     asks (to_open 0 key) (λ opened. not (is_missing opened)) (λ opened. put_after opened key (to_write 0 stream 0 true bytes ∷ to_close 0 ∷ []))
 
+-- so many items, with so many bytes, on a line
+abbrev pub totals_line : (item_count byte_count : ℕ) → List ℕ
+totals_line item_count byte_count = codes "items " ++ (number_text item_count ++ (codes " bytes " ++ (number_text byte_count ++ codes "\n")))
+
 -- the line of the totals of a state
 abbrev pub totals_text : State → List ℕ
-totals_text state = line (codes "items" ∷ number_text (items state) ∷ codes "bytes" ∷ number_text (total state) ∷ [])
+totals_text state = totals_line (items state) (total state)
 
 -- no command, and then the totals
 abbrev pub count_script : Script
