@@ -93,11 +93,12 @@ CommandsArePlayed = (script : Script) (state : State) (clock : Readings) (made :
     → IsPlayed script state clock (made ++ command_turn (stamped_by readings request) (shown (outcome_in now (stamped_by readings request))) (outcome_in now (stamped_by readings request)) ∷ [])
     (next (outcome_in now (stamped_by readings request))) (state_then now (stamped_by readings request)) (later_of readings)
 
--- a line that is no command is played, and a text
+-- a line that is no command is played
 abbrev pub ErrorsArePlayed : Type 0
 ErrorsArePlayed = (script : Script) (state : State) (clock : Readings) (made : List Turn) (number : ℕ) (why : LineError) (next : Script) (now : State) (readings : Readings)
     → IsPlayed script state clock made (errs number why next) now readings → IsPlayed script state clock (made ++ error_turn (error_text number why) ∷ []) next now readings
 
+-- a text of the state is played
 abbrev pub TextsArePlayed : Type 0
 TextsArePlayed = (script : Script) (state : State) (clock : Readings) (made : List Turn) (text : State → List ℕ) (next : Script) (now : State) (readings : Readings)
     → IsPlayed script state clock made (says text next) now readings → IsPlayed script state clock (made ++ text_turn (text now) ∷ []) next now readings
@@ -120,11 +121,12 @@ PlayedRunsAreWhole = (script : Script) (found : List Row) (limits : Bounds) (rea
     → IsPlayed script (open_state found limits) (later_of readings) made ended now readings_now
     → ((run_of script found limits readings).turns ≡ made) × (commands (run_of script found limits readings) ≡ commands_of made ++ closings (bound_names now) readings_now)
 
--- of a script that was played so far, these commands come first in the run, and a command that is asked next is the next
+-- of a script that was played so far, these commands come first in the run
 abbrev pub PlayedCommandsComeFirst : Type 0
 PlayedCommandsComeFirst = (script : Script) (found : List Row) (limits : Bounds) (readings : Readings) (made : List Turn) (left : Script) (now : State) (readings_now : Readings)
     → IsPlayed script (open_state found limits) (later_of readings) made left now readings_now → (more : List Stamped) × (commands (run_of script found limits readings) ≡ commands_of made ++ more)
 
+-- and a command that is asked next is the next
 abbrev pub AskedCommandsAreNext : Type 0
 AskedCommandsAreNext = (script : Script) (found : List Row) (limits : Bounds) (readings : Readings) (made : List Turn) (request : Request) (shown : Outcome → Bool) (next : Outcome → Script) (now : State) (readings_now : Readings)
     → IsPlayed script (open_state found limits) (later_of readings) made (asks request shown next) now readings_now

@@ -103,15 +103,19 @@ unfoldable pub until_refused : List Request → Script
 until_refused [] = ended
 until_refused (request ∷ requests) = asks request (λ outcome. true) (λ outcome. if is_refused outcome then ended else until_refused requests)
 
+-- the listing
 abbrev pub list_script : Script
 list_script = until_refused (to_list ∷ [])
 
+-- a stream of the entry with a key is read whole
 abbrev pub get_script : List ℕ → ℕ → Script
 get_script key stream = until_refused (to_open 0 key ∷ to_read 0 stream 0 (2 ^ 64 - 1) ∷ to_close 0 ∷ [])
 
+-- the entry with a key is doomed
 abbrev pub doom_script : List ℕ → Script
 doom_script key = until_refused (to_doom_key key ∷ [])
 
+-- what is used least is evicted until so many bytes are left
 abbrev pub trim_script : ℕ → Script
 trim_script bytes = until_refused (to_trim bytes ∷ [])
 
