@@ -1,0 +1,10 @@
+pub mod StepFacts
+pub mod CommandStates
+pub mod Composing
+pub mod Openings
+pub mod InTurn
+pub mod Turns
+pub mod LinesCut
+pub mod Closing
+pub mod Examples
+pub mod WorkedRun

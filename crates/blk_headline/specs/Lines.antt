@@ -1,0 +1,37 @@
+-- Bytes cut into lines.
+use Rattle.std.specs.Prelude.{ℕ, ◌==◌, List, [], ◌∷◌, ◌++◌, cond}
+
+-- bytes cut at the ends of lines: the lines that have an end, and what stands behind the last end
+pub record Cut : Type 0 where
+  pub whole : List (List ℕ)
+  pub rest : List ℕ
+
+-- a byte more, behind what is cut: it ends a line or belongs to the rest
+abbrev pub with_byte : Cut → ℕ → Cut
+with_byte cut byte = cond (byte == 10) (record { whole = cut.whole ++ cut.rest ∷ []; rest = [] }) (record { whole = cut.whole; rest = cut.rest ++ byte ∷ [] })
+
+-- bytes more, one after another
+unfoldable pub with_bytes : Cut → List ℕ → Cut
+with_bytes cut [] = cut
+with_bytes cut (byte ∷ bytes) = with_bytes (with_byte cut byte) bytes
+
+-- no bytes
+abbrev pub nothing_cut : Cut
+nothing_cut = record { whole = []; rest = [] }
+
+-- the bytes of an input, cut
+abbrev pub cut : List ℕ → Cut
+cut bytes = with_bytes nothing_cut bytes
+
+-- the lines that have an end
+abbrev pub whole_lines : List ℕ → List (List ℕ)
+whole_lines bytes = (cut bytes).whole
+
+-- a last line without an end, where it isn't empty: an empty rest is no line
+abbrev pub open_line : List ℕ → List (List ℕ)
+open_line [] = []
+open_line (byte ∷ bytes) = (byte ∷ bytes) ∷ []
+
+-- all lines
+abbrev pub lines : List ℕ → List (List ℕ)
+lines bytes = whole_lines bytes ++ open_line (cut bytes).rest

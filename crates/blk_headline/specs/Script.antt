@@ -1,0 +1,141 @@
+-- What is asked of a cache, one thing after another, and what is printed of it.
+use Rattle.std.specs.Prelude.{ℕ, ◌+◌, ◌-◌, ◌^◌, Bool, true, false, not, if◌then◌else◌, List, [], ◌∷◌, ◌++◌, codes, Result, Ok, Err}
+use Rattle.std.specs.declared.option.Option.{Option}
+use Rattle.std.specs.declared.option.Option.TheVariants.{None, Some}
+use Rattle.blk_model.specs.declared.Answer.{Answer}
+use Rattle.blk_model.specs.declared.Answer.TheVariants as answer
+use Rattle.blk_model.specs.declared.Refusal.{Refusal}
+use Rattle.blk_model.specs.declared.Refusal.TheVariants as refusal
+use Rattle.blk_model.specs.State.{State}
+use Rattle.blk_model.specs.Room.{total, items}
+use Rattle.blk_model.specs.Request.{Request, to_create, to_open, to_read, to_write, to_sparse_write, to_sparse_read, to_sparse_range, to_doom_key, to_close, to_list, to_trim}
+use Rattle.blk_model.specs.Reply.{answer_of}
+use Rattle.blk_model.specs.Step.{Outcome}
+use Rattle.blk_script.specs.declared.fault.LineFault.{LineFault}
+use Rattle.blk_script.specs.Line.{read_text}
+use Rattle.blk_script.specs.Reply.{evicted_text, line_fault_text, reply_text}
+use Rattle.blk_script.specs.Spelling.{line, number_text}
+
+-- Lines that are no command.
+
+-- why a line of a session is no command: a fault of the line, or it asks for sparse data, which isn't built yet
+pub data LineError : Type 0 where
+  faulty_text : LineFault → LineError
+  not_built : LineError
+
+-- its text, the line counted from 1
+abbrev pub error_text : ℕ → LineError → List ℕ
+error_text number (faulty_text why) = line_fault_text number why
+error_text number not_built = line (codes "fault" ∷ number_text number ∷ number_text 8 ∷ codes "NotBuilt" ∷ [])
+
+-- whether a command is built: all are but the three on sparse data
+abbrev pub is_built : Request → Bool
+is_built (to_sparse_write handle offset bytes) = false
+is_built (to_sparse_read handle offset count) = false
+is_built (to_sparse_range handle offset count) = false
+is_built _ = true
+
+-- a command, where it is built
+abbrev pub built : Request → Result Request LineError
+built request = if is_built request then Ok request else Err not_built
+
+-- what was read of a line, where it is built
+abbrev pub built_text : Result Request LineFault → Result Request LineError
+built_text (Ok request) = built request
+built_text (Err why) = Err (faulty_text why)
+
+-- the command that a line of a session asks for, or why it is none
+abbrev pub asked_by : List ℕ → Result Request LineError
+asked_by text = built_text (read_text text)
+
+-- Scripts.
+
+-- nothing more; a line that is no command, with its number; a text of the state; or a command, with whether its reply is shown and what follows, by its outcome
+pub data Script : Type 0 where
+  ended : Script
+  errs : ℕ → LineError → Script → Script
+  says : (State → List ℕ) → Script → Script
+  asks : Request → (Outcome → Bool) → (Outcome → Script) → Script
+
+-- why an answer is a refusal, where it is one
+abbrev pub refusal_of : Answer → Option Refusal
+refusal_of (answer.Refused why) = Some why
+refusal_of _ = None
+
+-- whether there is a refusal
+abbrev pub is_refusal : Option Refusal → Bool
+is_refusal None = false
+is_refusal (Some why) = true
+
+-- whether a command was refused
+abbrev pub is_refused : Outcome → Bool
+is_refused outcome = is_refusal (refusal_of (answer_of outcome.reply))
+
+-- whether a refusal is Missing
+abbrev pub is_missing_refusal : Option Refusal → Bool
+is_missing_refusal (Some refusal.Missing) = true
+is_missing_refusal _ = false
+
+-- whether a command was refused as Missing
+abbrev pub is_missing : Outcome → Bool
+is_missing outcome = is_missing_refusal (refusal_of (answer_of outcome.reply))
+
+-- what is printed of a command: the evicted items, and then the reply
+abbrev pub outcome_text : Outcome → List ℕ
+outcome_text outcome = evicted_text outcome.groups ++ reply_text outcome.reply
+
+-- The script of a session.
+
+-- one line, and what follows it in any case
+abbrev pub line_script : ℕ → Result Request LineError → Script → Script
+line_script number (Err why) following = errs number why following
+line_script number (Ok request) following = asks request (λ outcome. true) (λ outcome. following)
+
+-- the lines of a session, counted from a number: each is a command or none, and no line ends it
+unfoldable pub session_script : ℕ → List (List ℕ) → Script
+session_script number [] = ended
+session_script number (text ∷ texts) = line_script number (asked_by text) (session_script (number + 1) texts)
+
+-- The scripts of the other words.
+
+-- commands up to the first that is refused, each with its reply
+unfoldable pub until_refused : List Request → Script
+until_refused [] = ended
+until_refused (request ∷ requests) = asks request (λ outcome. true) (λ outcome. if is_refused outcome then ended else until_refused requests)
+
+-- the listing
+abbrev pub list_script : Script
+list_script = until_refused (to_list ∷ [])
+
+-- a stream of the entry with a key is read whole
+abbrev pub get_script : List ℕ → ℕ → Script
+get_script key stream = until_refused (to_open 0 key ∷ to_read 0 stream 0 (2 ^ 64 - 1) ∷ to_close 0 ∷ [])
+
+-- the entry with a key is doomed
+abbrev pub doom_script : List ℕ → Script
+doom_script key = until_refused (to_doom_key key ∷ [])
+
+-- what is used least is evicted until so many bytes are left
+abbrev pub trim_script : ℕ → Script
+trim_script bytes = until_refused (to_trim bytes ∷ [])
+
+-- behind the Open of `put`: an entry that is missing is created, and any other refusal ends the script
+abbrev pub put_after : Outcome → List ℕ → List Request → Script
+put_after opened key requests = if is_missing opened then until_refused (to_create 0 key ∷ requests) else if is_refused opened then ended else until_refused requests
+
+-- the whole input is written to a stream of the entry with a key, which is made where it is missing; that it was missing isn't shown
+abbrev pub put_script : List ℕ → ℕ → List ℕ → Script
+put_script key stream bytes =
+    asks (to_open 0 key) (λ opened. not (is_missing opened)) (λ opened. put_after opened key (to_write 0 stream 0 true bytes ∷ to_close 0 ∷ []))
+
+-- so many items, with so many bytes, on a line
+abbrev pub totals_line : (item_count byte_count : ℕ) → List ℕ
+totals_line item_count byte_count = codes "items " ++ (number_text item_count ++ (codes " bytes " ++ (number_text byte_count ++ codes "\n")))
+
+-- the line of the totals of a state
+abbrev pub totals_text : State → List ℕ
+totals_text state = totals_line (items state) (total state)
+
+-- no command, and then the totals
+abbrev pub count_script : Script
+count_script = says totals_text ended
