@@ -101,9 +101,13 @@ abbrev pub are_escapes : List ℕ → Bool
 are_escapes [] = true
 are_escapes (byte ∷ rest) = (not (byte == 37) || begins_with_hex rest) && are_escapes rest
 
+-- key bytes alone, and whole escapes
+abbrev pub is_key_text : List ℕ → Bool
+is_key_text field = list_all is_key_byte field && are_escapes field
+
 -- a key, percent-decoded; it may be empty
 unfoldable pub key_field : List ℕ → Result (List ℕ) LineFault
-key_field field = if list_all is_key_byte field && are_escapes field then Ok (percent_decode field) else Err fault.Key
+key_field field = if is_key_text field then Ok (percent_decode field) else Err fault.Key
 
 -- a result, with another form of what it gives
 abbrev pub given : {A B : Type 0} → (A → B) → Result A LineFault → Result B LineFault

@@ -3,22 +3,30 @@ ghost use Rattle.std.specs.Prelude.{◌≡◌, ◌≤◌, length, take};
 ghost use Rattle.std.specs.List.{list_all};
 ghost use Rattle.hex.specs.Hex.{is_hex_digit};
 ghost use Rattle.percent_encoding.specs.Percent as percent;
-ghost use Rattle.blk_script.specs.Fields.{is_key_byte, begins_with_hex, are_escapes, key_field, given};
+ghost use Rattle.blk_script.specs.Fields.{is_key_byte, begins_with_hex, are_escapes, is_key_text, key_field, given};
 
 use crate::LineFault;
 use percent_encoding::percent_decode;
 
-/// The key that a field says, in the front of the room.
+/// The key that a field says, in the front of the room. A field is a word of a script line.
 #[tactic(auto, unfolding(crate::specs::Fields::key_field))]
 pub fn decode_key<'a>(field: &[u8], room: &'a mut [u8]) -> Result<&'a [u8], LineFault>
     requires { length field.now ≤ length room.old }
     ensures { given (λ key. key.now) result ≡ key_field field.now }
 {
-    if !are_key_bytes(field) || !are_escapes(field) {
+    if !is_key(field) {
         return Err(LineFault::Key);
     }
     let length = decode_into(field, room);
     Ok(&room[..length])
+}
+
+/// Whether a field says a key.
+#[tactic(auto, unfolding(crate::specs::Fields::key_field))]
+pub fn is_key(field: &[u8]) -> bool
+    ensures { result ≡ is_key_text field.now }
+{
+    are_key_bytes(field) && are_escapes(field)
 }
 
 // Whether each byte may stand in a key field.

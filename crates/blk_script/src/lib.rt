@@ -21,5 +21,7 @@ mod words;
 pub use answers::print_reply;
 pub use commands::print_line;
 pub use fault::LineFault;
+pub use key::{decode_key, is_key};
 pub use line::{LONGEST_LINE, read_line};
+pub use number::{read_count, read_stream};
 pub use print::{Field, print_bytes, print_fields, print_key, print_number};

@@ -1,0 +1,4 @@
+pub mod Kinds
+pub mod Apart
+pub mod Tasks
+pub mod Words
