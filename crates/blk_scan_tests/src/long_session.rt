@@ -123,7 +123,12 @@ fn list_of_first(alloc: Global, entries: u32) -> Result<Vec<u8>, Fail> {
     Ok(text)
 }
 
-// What a Read of an entry's second stream prints, behind what its Open does.
+// The hexadecimal digit of a number below 16.
+fn digit_of(number: u8) -> u8 {
+    number.wrapping_add(if number < 10 { b'0' } else { b'a' - 10 })
+}
+
+// What an Open prints, and behind it a Read of these bytes.
 fn text_of_stream(alloc: Global, bytes: &[u8]) -> Result<Vec<u8>, Fail> {
     let mut text = Vec::new(alloc);
     let mut digits = Buffer::new();
@@ -131,9 +136,8 @@ fn text_of_stream(alloc: Global, bytes: &[u8]) -> Result<Vec<u8>, Fail> {
     text.extend_from_slice(digits.format(bytes.len()).as_bytes())?;
     text.push(b' ')?;
     for byte in bytes {
-        for digit in [byte / 16, byte % 16] {
-            text.push(digit.wrapping_add(if digit < 10 { b'0' } else { b'a' - 10 }))?;
-        }
+        text.push(digit_of(byte / 16))?;
+        text.push(digit_of(byte % 16))?;
     }
     text.push(b'\n')?;
     Ok(text)
