@@ -22,7 +22,11 @@ use blk_io::{Fault, Folder};
 ///
 /// Of a doomed one a folder call reads its places, and each of at most six places takes seven at most. Of another that
 /// was changed one call reads its node, and three make the word 0; of one that wasn't nothing is read or written.
-pub fn end_object<F: Folder>(f: &mut F, files: &BlockFiles, object: &OpenObject) -> Result<(), Fault>
+pub fn end_object<F: Folder>(
+    f: &mut F,
+    files: &BlockFiles,
+    object: &OpenObject,
+) -> Result<(), Fault>
     requires names { IsTrue (is_record_among files.now object.now.entry) }
     requires stands { IsTrue (is_node_among files.now object.now.node) }
     requires is_open { ForSome (F.told f.old).files (IsOpen files.now) }

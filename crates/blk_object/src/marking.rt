@@ -15,7 +15,12 @@ use blk_io::{Fault, Folder};
 
 /// Makes the dirty word of a node this number, where 0 says that its object is settled: one folder call reads the node,
 /// and three write.
-pub fn set_mark<F: Folder>(f: &mut F, files: &BlockFiles, node: Addr, mark: u32) -> Result<(), Fault>
+pub fn set_mark<F: Folder>(
+    f: &mut F,
+    files: &BlockFiles,
+    node: Addr,
+    mark: u32,
+) -> Result<(), Fault>
     requires stands { IsTrue (is_node_among files.now node) }
     requires is_open { ForSome (F.told f.old).files (IsOpen files.now) }
     ensures sets { SetsDirty files.now (F.told f.old) (F.told f.new) node mark result }
