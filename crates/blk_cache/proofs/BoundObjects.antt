@@ -22,7 +22,8 @@ use Rattle.blk_laws.proofs.walks.Loads.{load-then}
 use Rattle.blk_handles.specs.Bindings.{Binding, Bindings, binding_of, is_open}
 use Rattle.blk_handles.proofs.BindingLemmas.{open-bound, open-named}
 use Rattle.blk_kept.specs.Keeping.{KeepsUncounted}
-use Rattle.blk_cache.specs.CacheKeeping.{IsBoundAs, IsBoundTo, node_of_object}
+use Rattle.blk_object.specs.Writing.{node_of_object}
+use Rattle.blk_cache.specs.CacheKeeping.{IsBoundAs, IsBoundTo}
 
 clash : true ≡ false → ⊥
 clash h = cc

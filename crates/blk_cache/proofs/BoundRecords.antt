@@ -32,7 +32,8 @@ use Rattle.blk_kept.specs.Keeping.{KeepsUncounted}
 use Rattle.blk_stream.specs.Streams.{streams_at}
 use Rattle.blk_object.specs.Owning.{LoadsWith}
 use Rattle.blk_object.proofs.OwnedPlaces.{kept-load}
-use Rattle.blk_cache.specs.CacheKeeping.{IsBoundTo, node_of_object}
+use Rattle.blk_object.specs.Writing.{node_of_object}
+use Rattle.blk_cache.specs.CacheKeeping.{IsBoundTo}
 use Rattle.blk_cache.specs.Looking.{charge_at}
 use Rattle.blk_cache.proofs.Looks.{said-charge}
 

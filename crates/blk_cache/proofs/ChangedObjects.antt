@@ -22,8 +22,9 @@ use Rattle.blk_kept.specs.CommandStates.{amidst}
 use Rattle.blk_kept.specs.Keeping.{Keeps, KeepsUncounted}
 use Rattle.blk_kept.specs.OneCallLaws.{Names}
 use Rattle.blk_kept.proofs.Dirtying.{set-at, set-else}
+use Rattle.blk_object.specs.Writing.{node_of_object}
 use Rattle.blk_cache.specs.declared.cache.Cache.{Cache}
-use Rattle.blk_cache.specs.CacheKeeping.{IsBoundAs, IsBoundTo, KeepsState, named_from, named_objects, node_of_object}
+use Rattle.blk_cache.specs.CacheKeeping.{IsBoundAs, IsBoundTo, KeepsState, named_from, named_objects}
 use Rattle.blk_cache.proofs.BoundObjects.{named-at, one-object, same-bound, same-entry}
 use Rattle.blk_cache.proofs.NamedObjects.{named-same}
 

@@ -1,6 +1,6 @@
 -- A Close of the last name of a doomed object, from the moments of the freeing; and of the last name of any object.
-use Rattle.std.proofs.Common.{◌≡◌, ⊎_elim, Result, Ok, Err, ℕ, ◌-◌, ◌<◌, ◌^◌, Bool, true, false, List, [], ◌∷◌, ◌++◌, set, Option, Some, None, refl, sym, ap, subst, ◌∙◌}
-use Rattle.std.specs.Prelude.{IsErrAnd, OnOk, if◌then◌else◌, not}
+use Rattle.std.proofs.Common.{◌≡◌, ⊎_elim, Result, Ok, ℕ, ◌-◌, ◌<◌, ◌^◌, Bool, true, false, List, [], ◌∷◌, ◌++◌, set, Option, Some, None, refl, sym, ap, subst, ◌∙◌}
+use Rattle.std.specs.Prelude.{OnOk, if◌then◌else◌, not}
 use Rattle.std.specs.Option.{ForSome}
 use Rattle.std.proofs.lemmas.Bool.{cases_Bool}
 use Rattle.blk_image.specs.Image.{Image, Index, byte}
@@ -29,13 +29,15 @@ use Rattle.blk_kept.specs.Keeping.{Keeps}
 use Rattle.blk_kept.proofs.CommandEnding.{closes-doomed}
 use Rattle.blk_kept.proofs.OneCalls.{closes-of-doomed-unlink}
 use Rattle.blk_kept.proofs.Stopping.{stop-after}
+use Rattle.blk_object.specs.Ending.{Cleans, FreesAll, HasFreeable, LiesFreeable, MayEnd}
 use Rattle.blk_object.specs.Freeing.{AreGoing, Removes}
 use Rattle.blk_object.specs.Owning.{LoadsWith}
 use Rattle.blk_object.proofs.FreedPlaces.{all-counted, all-gone, freeable, going-finds}
 use Rattle.blk_object.proofs.OwnedPlaces.{kept-load}
+use Rattle.blk_object.specs.Writing.{node_of_object}
 use Rattle.blk_cache.specs.declared.cache.Cache.{Cache}
-use Rattle.blk_cache.specs.CacheKeeping.{IsBoundTo, KeepsState, node_of_object}
-use Rattle.blk_cache.specs.Closing.{Cleans, CountsClosed, FreesAll, HasFreeable, LiesFreeable, MayEnd}
+use Rattle.blk_cache.specs.CacheKeeping.{IsBoundTo, KeepsState}
+use Rattle.blk_cache.specs.Closing.{CountsClosed}
 use Rattle.blk_cache.specs.CommandClauses.{KeepsAny, OnlyNamesChange}
 use Rattle.blk_cache.specs.Looking.{charge_at}
 use Rattle.blk_cache.proofs.BoundRecords.{bound-says}
@@ -200,8 +202,3 @@ module _ (cache : Cache) (old mid now : Told) (stays : mid ≡ old) (handle : �
           (λ (e : object.doomed ≡ false).
           cleaned-done cache old mid now stays handle small b bound new frees others object was (sym same-mark ∙ e) bytes result (cleans e) stands ok last still counts.handles (counts-same e) charged charge counts.open_bytes says moment)
           (cases_Bool object.doomed)
-
--- a fault that is handed on is no success
-pub no-freed : {A : Type 0} (q : Result A Fault) (e : Fault) → IsErrAnd q (λ (x : Fault). x ≡ e) → (P : Type 0) → OnOk q P
-no-freed (Ok a) e same P = absurd same
-no-freed (Err x) e same P = tt

@@ -27,6 +27,7 @@ use Rattle.blk_disk.specs.Open.{IsOpen}
 use Rattle.blk_disk.specs.Tables.{is_node_among, is_record_among}
 use Rattle.blk_lru.proofs.NodeWords.{node_kind}
 use Rattle.blk_entry.specs.Marks.{SetsDirtyInProgress, mark_steps}
+use Rattle.blk_object.specs.Ending.{Cleans}
 use Rattle.blk_object.specs.Owning.{LoadsWith}
 use Rattle.blk_handles.specs.declared.open_object.OpenObject.{OpenObject}
 use Rattle.blk_handles.specs.declared.open_object.Released.{Released}
@@ -45,7 +46,6 @@ use Rattle.blk_kept_calls.proofs.Marks.{being-set, check-as-records, marks-set, 
 use Rattle.blk_cache.specs.declared.cache.Cache.{Cache}
 use Rattle.blk_cache.specs.BoundNames.{AreBoundAmong}
 use Rattle.blk_cache.specs.CacheKeeping.{IsBoundTo, KeepsState}
-use Rattle.blk_cache.specs.Closing.{Cleans}
 use Rattle.blk_cache.specs.CommandClauses.{KeepsAny, OnlyNamesChange}
 use Rattle.blk_cache.specs.Looking.{charge_at}
 use Rattle.blk_cache.proofs.BoundObjects.{free-of}

@@ -20,8 +20,9 @@ use Rattle.blk_disk.specs.Tables.{Agrees}
 use Rattle.blk_kept.specs.CommandStates.{with_names}
 use Rattle.blk_kept.specs.GoneLaws.{layout_without}
 use Rattle.blk_kept.specs.Keeping.{Keeps, KeepsUncounted}
+use Rattle.blk_object.specs.Writing.{node_of_object}
 use Rattle.blk_cache.specs.declared.cache.Cache.{Cache}
-use Rattle.blk_cache.specs.CacheKeeping.{IsBoundAs, IsBoundTo, KeepsState, named_objects, node_of_object}
+use Rattle.blk_cache.specs.CacheKeeping.{IsBoundAs, IsBoundTo, KeepsState, named_objects}
 use Rattle.blk_cache.specs.CommandClauses.{OnlyNamesChange}
 use Rattle.blk_cache.proofs.BoundObjects.{bound-less, named-at, number-of, one-object, open-is-named, set-free}
 use Rattle.blk_cache.proofs.NamedObjects.{IsOneMore, count-more, named-before, named-new, named-same, named-set, set-back}

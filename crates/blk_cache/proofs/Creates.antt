@@ -29,8 +29,9 @@ use Rattle.blk_disk.specs.Tables.{Agrees}
 use Rattle.blk_kept.specs.Keeping.{KeepsUncounted}
 use Rattle.blk_object.specs.declared.making.Made.{Made}
 use Rattle.blk_object.specs.Making.{CanHaveNew, HasNewObject}
+use Rattle.blk_object.specs.Writing.{node_of_object}
 use Rattle.blk_cache.specs.declared.cache.Cache.{Cache}
-use Rattle.blk_cache.specs.CacheKeeping.{IsBoundAs, IsBoundTo, KeepsState, named_from, named_objects, node_of_object}
+use Rattle.blk_cache.specs.CacheKeeping.{IsBoundAs, IsBoundTo, KeepsState, named_from, named_objects}
 use Rattle.blk_cache.specs.Creating.{sum_within}
 use Rattle.blk_cache.proofs.BoundObjects.{bound-more, free-of, number-of, one-object, same-bound}
 use Rattle.blk_cache.proofs.NamedObjects.{IsOneMore, count-more, named-new, named-total}

@@ -28,7 +28,7 @@ use Rattle.blk_laws.proofs.commands.Removing.{in-filter}
 use Rattle.blk_laws.proofs.states.Changing.{at-itself, at-elsewhere, same-place}
 use Rattle.blk_laws.proofs.states.Laid.{IsNodeOf, is_among-node, node-of}
 use Rattle.blk_laws.proofs.states.Settling.{main-listed, main-owned}
-use Rattle.blk_cache.specs.CacheKeeping.{node_of_object}
+use Rattle.blk_object.specs.Writing.{node_of_object}
 use Rattle.blk_cache.specs.Dooming.{NamedObjectsLieOn}
 
 clash : true ≡ false → ⊥

@@ -17,9 +17,10 @@ use Rattle.blk_handles.proofs.BindingLemmas.{binding_of-change}
 use Rattle.blk_disk.specs.declared.tables.BlockFiles.{BlockFiles}
 use Rattle.blk_disk.specs.Tables.{Agrees, is_node_among, is_record_among}
 use Rattle.blk_sparse.specs.declared.dropping.Gone.{Gone}
+use Rattle.blk_object.specs.Writing.{node_of_object}
 use Rattle.blk_cache.specs.declared.cache.Cache.{Cache}
 use Rattle.blk_cache.specs.BoundNames.{AreBoundAmong}
-use Rattle.blk_cache.specs.CacheKeeping.{IsBoundAs, IsBoundTo, KeepsState, node_of_object}
+use Rattle.blk_cache.specs.CacheKeeping.{IsBoundAs, IsBoundTo, KeepsState}
 use Rattle.blk_cache.specs.Dooming.{CountsDoomed, IsDoomed}
 use Rattle.blk_cache.proofs.BoundObjects.{open-is-named}
 use Rattle.blk_cache.proofs.DoomedNames.{bound-after, named-after, open-same}

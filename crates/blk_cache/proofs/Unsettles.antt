@@ -28,8 +28,9 @@ use Rattle.blk_kept.specs.RecordLaws.{IsMarked, IsMarking}
 use Rattle.blk_kept.proofs.Dirtying.{leaves, marking-counts, marking-finds}
 use Rattle.blk_kept.proofs.DoomedMarks.{doomed-marking-counts, doomed-marking-finds}
 use Rattle.blk_kept.proofs.NotAtRest.{within-slots}
+use Rattle.blk_object.specs.Writing.{node_of_object}
 use Rattle.blk_cache.specs.declared.cache.Cache.{Cache}
-use Rattle.blk_cache.specs.CacheKeeping.{IsBoundAs, IsBoundTo, KeepsState, node_of_object}
+use Rattle.blk_cache.specs.CacheKeeping.{IsBoundAs, IsBoundTo, KeepsState}
 use Rattle.blk_cache.specs.CommandClauses.{OnlyNamesChange}
 use Rattle.blk_cache.proofs.ChangedObjects.{CountsAs, LiesChanged, bound-to, changed-keeps, entries-same, its-named, its-object, names-change}
 

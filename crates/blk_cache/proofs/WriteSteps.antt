@@ -22,9 +22,9 @@ use Rattle.blk_kept.specs.Changes.{Finds}
 use Rattle.blk_kept.specs.CommandEnds.{after_write}
 use Rattle.blk_kept.specs.CommandStates.{amidst}
 use Rattle.blk_kept.specs.ObjectLaws.{layout_after}
-use Rattle.blk_object.specs.Writing.{ForEachUnsettled, IsWrittenUncounted, RisesAreCounted, UsesLeaveTheRise, with_written}
+use Rattle.blk_object.specs.Writing.{ForEachUnsettled, IsWrittenUncounted, RisesAreCounted, UsesLeaveTheRise, node_of_object, with_written}
 use Rattle.blk_cache.specs.declared.cache.Cache.{Cache}
-use Rattle.blk_cache.specs.CacheKeeping.{IsBoundTo, KeepsState, node_of_object}
+use Rattle.blk_cache.specs.CacheKeeping.{IsBoundTo, KeepsState}
 use Rattle.blk_cache.specs.Creating.{sum_within}
 use Rattle.blk_cache.specs.Writing.{CanGetBytes, CountsRise, ForEachToUse, IsToBeUsed, IsUsedAndCounted, KeepsToWrite}
 use Rattle.blk_cache.proofs.ChangedObjects.{CountsAs, bound-to, its-object}

@@ -27,9 +27,9 @@ use Rattle.blk_kept.specs.ListLaws.{with_used}
 use Rattle.blk_kept.specs.ObjectLaws.{layout_after}
 use Rattle.blk_kept.specs.OneCallLaws.{Names}
 use Rattle.blk_kept.proofs.Dirtying.{set-at}
-use Rattle.blk_object.specs.Writing.{IsRisen, IsToBeWritten, IsWrittenUncounted, RisesAreCounted, UsesLeaveTheRise, with_written}
+use Rattle.blk_object.specs.Writing.{IsRisen, IsToBeWritten, IsWrittenUncounted, RisesAreCounted, UsesLeaveTheRise, node_of_object, with_written}
 use Rattle.blk_cache.specs.declared.cache.Cache.{Cache}
-use Rattle.blk_cache.specs.CacheKeeping.{IsBoundAs, IsBoundTo, KeepsState, named_objects, node_of_object}
+use Rattle.blk_cache.specs.CacheKeeping.{IsBoundAs, IsBoundTo, KeepsState, named_objects}
 use Rattle.blk_cache.specs.Creating.{sum_within}
 use Rattle.blk_cache.specs.Writing.{CanGetBytes, IsToBeUsed, IsUsedAndCounted}
 use Rattle.blk_cache.proofs.ChangedObjects.{CountsAs, IsOneChanged, LiesChanged, bound-to, changed-keeps, its-named, named-changed, names-stay, sum-changed}

@@ -17,10 +17,10 @@ use Rattle.blk_disk.specs.Tables.{is_node_among, is_record_among}
 use Rattle.blk_handles.specs.Bindings.{Binding, Bindings, binding_of}
 use Rattle.blk_entry.specs.Keys.{IsHeadDamage}
 use Rattle.blk_kept.specs.OneCallLaws.{Names}
+use Rattle.blk_object.specs.Writing.{node_of_object}
 use Rattle.blk_cache.specs.declared.asking.Asked.{Asked}
 use Rattle.blk_cache.specs.declared.asking.Asked.TheVariants as asked
 use Rattle.blk_cache.specs.declared.asking.NamedStream.{NamedStream}
-use Rattle.blk_cache.specs.CacheKeeping.{node_of_object}
 
 -- Refusals.
 

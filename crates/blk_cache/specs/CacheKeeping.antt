@@ -3,7 +3,6 @@ use Rattle.std.specs.Prelude.{◌≡◌, ◌≤◌, ℕ, ◌+◌, not, List, [],
 use Rattle.std.specs.declared.option.Option.{Option}
 use Rattle.std.specs.declared.option.Option.TheVariants.{None, Some}
 use Rattle.blk_image.specs.Image.{Image, Index, byte}
-use Rattle.blk_model.specs.Items.{main}
 use Rattle.blk_model.specs.State.{Object, State, is_named, named_by, object_at}
 use Rattle.blk_model.specs.Bounds.{bounds_of}
 use Rattle.blk_model.specs.Room.{items, own_charge, total}
@@ -13,14 +12,11 @@ use Rattle.blk_volume.specs.Layout.{Layout}
 use Rattle.blk_volume.specs.Loads.{Loaded}
 use Rattle.blk_kept.specs.Keeping.{Keeps}
 use Rattle.blk_disk.specs.Tables.{Agrees}
+use Rattle.blk_object.specs.Writing.{node_of_object}
 use Rattle.blk_handles.specs.Bindings.{Binding, binding_of, open_count}
 use Rattle.blk_cache.specs.declared.cache.Cache.{Cache}
 
 -- Names.
-
--- the node of the object with a number
-abbrev pub node_of_object : Layout → ℕ → Object → ℕ
-node_of_object layout number object = if object.live then layout.place (main object.key) else layout.place_of_doomed number
 
 -- a name is bound to the record and the node of the object with a number, which is marked doomed exactly where it is doomed, and dirty exactly where it isn't settled
 pub record IsBoundTo (state : State) (layout : Layout) (number : ℕ) (binding : Binding) : Type 0 where

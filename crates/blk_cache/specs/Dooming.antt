@@ -20,11 +20,12 @@ use Rattle.blk_kept.specs.Changes.{SameSession}
 use Rattle.blk_kept.specs.Keeping.{Keeps}
 use Rattle.blk_object.specs.RemovingFound.{LiesAsFound}
 use Rattle.blk_sparse.specs.declared.dropping.Gone.{Gone}
+use Rattle.blk_object.specs.Writing.{node_of_object}
 use Rattle.blk_cache.specs.declared.cache.Cache.{Cache}
 use Rattle.blk_cache.specs.declared.dooming_objects.Target.{Target}
 use Rattle.blk_cache.specs.declared.item_names.EntryKind.{EntryKind}
 use Rattle.blk_cache.specs.declared.item_names.EntryKind.TheVariants.{Parent, Part, Plain}
-use Rattle.blk_cache.specs.CacheKeeping.{KeepsState, node_of_object}
+use Rattle.blk_cache.specs.CacheKeeping.{KeepsState}
 use Rattle.blk_cache.specs.EvictingGroups.{kind_of_role}
 
 -- Refusals.

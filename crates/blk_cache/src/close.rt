@@ -1,32 +1,25 @@
 // The command Close.
-ghost use Rattle.std.specs.Prelude.{◌≡◌, ◌≤◌, IfOk, IfSome, IsSome, IsTrue, None, Ok, OnOk, false, if◌then◌else◌, slice_set, true, ℕ};
+ghost use Rattle.std.specs.Prelude.{◌≡◌, ◌≤◌, IfOk, IfSome, IsSome, None, Ok, OnOk, if◌then◌else◌, slice_set, ℕ};
 ghost use Rattle.std.specs.Option.{ForSome};
 ghost use Rattle.blk_image.specs.Told.{Rises, Stays};
 ghost use Rattle.blk_io.specs.Faults.{IfDamaged, IfDevice};
 ghost use Rattle.blk_model.specs.Request.{to_close};
 ghost use Rattle.blk_disk.specs.Open.{IsOpen};
-ghost use Rattle.blk_disk.specs.Tables.{is_node_among, is_record_among};
-ghost use Rattle.blk_disk.specs.Damages.{IsFailedRecord};
-ghost use Rattle.blk_format.specs.Sealed.{record_size};
-ghost use Rattle.blk_volume.specs.View.{list_of};
 ghost use Rattle.blk_model.specs.declared.Answer.TheVariants as answer;
 ghost use Rattle.blk_model.specs.declared.Refusal.TheVariants as refusal;
 ghost use Rattle.blk_handles.specs.Bindings.{AreShared, binding_of, is_open, open_object};
 ghost use Rattle.blk_kept.specs.Commands.{Does, MayStopAtEach};
 ghost use Rattle.blk_object.specs.FailedChecks.{IsFailedCheck};
 ghost use Rattle.blk_cache.specs.CacheKeeping.{KeepsState};
-ghost use Rattle.blk_cache.specs.Closing.{Cleans, CountsClosed, FreesAll, HasFreeable, MayEnd};
+ghost use Rattle.blk_cache.specs.Closing.{CountsClosed};
 ghost use Rattle.blk_cache.specs.CommandClauses.{IsRefused, KeepsAny, OnlyNamesChange};
 
 use crate::cache::Cache;
 use crate::looking::read_charge;
-use blk_addr::Addr;
-use blk_disk::BlockFiles;
-use blk_entry::set_clean;
-use blk_handles::{OpenObject, Released};
+use blk_handles::Released;
 use blk_io::{Fault, Folder};
 use blk_model::{Answer, Refusal};
-use blk_object::{free_owned, read_owned};
+use blk_object::end_object;
 
 impl Cache {
     /// Frees a handle name. Where it was the last name of its object, the object is charged no longer as an open one: of
@@ -97,62 +90,5 @@ impl Cache {
             self.items = self.items.saturating_sub(1);
             self.bytes = self.bytes.saturating_sub(charge);
         }
-    }
-}
-
-// Ends an object that is closed: all that a doomed one has is freed, and of another the dirty word becomes 0.
-fn end_object<F: Folder>(f: &mut F, files: &BlockFiles, object: &OpenObject) -> Result<(), Fault>
-    requires names { IsTrue (is_record_among files.now object.now.entry) }
-    requires stands { IsTrue (is_node_among files.now object.now.node) }
-    requires is_open { ForSome (F.told f.old).files (IsOpen files.now) }
-    ensures cleans { object.now.doomed ≡ false → Cleans files.now (F.told f.old) (F.told f.new) object.now result }
-    ensures frees { object.now.doomed ≡ true → FreesAll (F.told f.old) (F.told f.new) object.now.entry result }
-    ensures is_open { ForSome (F.told f.new).files (IsOpen files.now) }
-    ensures damaged { IfDamaged result (IsFailedCheck files.now (F.told f.new)) }
-    ensures untold { ForSome (F.told f.old).files (MayEnd object.now.doomed object.now.entry object.now.node) → IfDamaged result (λ _. (F.told f.old).files ≡ None) }
-    ensures silent { (F.told f.old).files ≡ None → (F.told f.new).files ≡ None }
-    ensures later { F.faults f.old ≤ F.faults f.new }
-    ensures device { IfDevice result (Rises (F.faults f.old) (F.faults f.new)) }
-{
-    if object.doomed {
-        free_entry(f, files, object.entry)
-    } else {
-        clean(f, files, object)
-    }
-}
-
-// Frees all places of what lies there with a record.
-fn free_entry<F: Folder>(f: &mut F, files: &BlockFiles, entry: Addr) -> Result<(), Fault>
-    requires names { IsTrue (is_record_among files.now entry) }
-    requires is_open { ForSome (F.told f.old).files (IsOpen files.now) }
-    ensures frees { FreesAll (F.told f.old) (F.told f.new) entry result }
-    ensures is_open { ForSome (F.told f.new).files (IsOpen files.now) }
-    ensures damaged { IfDamaged result (IsFailedCheck files.now (F.told f.new)) }
-    ensures untold { ForSome (F.told f.old).files (HasFreeable entry) → IfDamaged result (λ _. (F.told f.old).files ≡ None) }
-    ensures silent { (F.told f.old).files ≡ None → (F.told f.new).files ≡ None }
-    ensures later { F.faults f.old ≤ F.faults f.new }
-    ensures device { IfDevice result (Rises (F.faults f.old) (F.faults f.new)) }
-{
-    let owned = read_owned(f, files, entry)?;
-    free_owned(f, files, &owned)
-}
-
-// Makes the dirty word of an object 0 where it isn't so.
-fn clean<F: Folder>(f: &mut F, files: &BlockFiles, object: &OpenObject) -> Result<(), Fault>
-    requires stands { IsTrue (is_node_among files.now object.now.node) }
-    requires is_open { ForSome (F.told f.old).files (IsOpen files.now) }
-    ensures cleans { Cleans files.now (F.told f.old) (F.told f.new) object.now result }
-    ensures is_open { ForSome (F.told f.new).files (IsOpen files.now) }
-    ensures damaged { IfDamaged result (IsFailedRecord (F.told f.old) object.now.node (record_size object.now.node)) }
-    ensures cause { IfDamaged result (IsFailedCheck files.now (F.told f.new)) }
-    ensures untold { ForSome (F.told f.old).files (λ image. (list_of image).checks object.now.node ≡ true) → IfDamaged result (λ _. (F.told f.old).files ≡ None) }
-    ensures silent { (F.told f.old).files ≡ None → (F.told f.new).files ≡ None }
-    ensures later { F.faults f.old ≤ F.faults f.new }
-    ensures device { IfDevice result (Rises (F.faults f.old) (F.faults f.new)) }
-{
-    if object.dirty {
-        set_clean(f, files, object.node)
-    } else {
-        Ok(())
     }
 }

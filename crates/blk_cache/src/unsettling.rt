@@ -1,13 +1,11 @@
 // An open object that is settled is marked as one that isn't.
-ghost use Rattle.std.specs.Prelude.{◌≡◌, ◌≤◌, IsSome, IsTrue, None, OnOk, false};
+ghost use Rattle.std.specs.Prelude.{◌≡◌, ◌≤◌, IsSome, None, OnOk, false};
 ghost use Rattle.std.specs.Option.{ForSome};
 ghost use Rattle.blk_image.specs.Told.{Passes, Rises};
 ghost use Rattle.blk_io.specs.Faults.{IfDamaged, IfDevice};
 ghost use Rattle.blk_laws.specs.CommandLaws.{marked};
 ghost use Rattle.blk_disk.specs.Open.{IsOpen};
-ghost use Rattle.blk_disk.specs.Tables.{is_node_among};
 ghost use Rattle.blk_handles.specs.Bindings.{binding_of};
-ghost use Rattle.blk_entry.specs.Marks.{SetsDirty};
 ghost use Rattle.blk_object.specs.FailedChecks.{IsFailedCheck};
 ghost use Rattle.blk_object.specs.RemovingObjects.{FindsEither};
 ghost use Rattle.blk_cache.specs.CacheKeeping.{KeepsState};
@@ -15,10 +13,8 @@ ghost use Rattle.blk_cache.specs.CommandClauses.{KeepsAny, OnlyNamesChange};
 ghost use Rattle.blk_cache.specs.Unsettling.{ForEachNamed};
 
 use crate::cache::Cache;
-use blk_addr::Addr;
-use blk_disk::BlockFiles;
 use blk_io::{Fault, Folder};
-use blk_record::NodeView;
+use blk_object::set_mark;
 
 impl Cache {
     /// Unsettles the object that a handle names, live or doomed, where it is settled: the dirty word of its node becomes
@@ -57,21 +53,4 @@ impl Cache {
         self.handles.mark(handle, object.doomed, true);
         Ok(())
     }
-}
-
-// Makes the dirty word of a node this one, by a sealed update: one folder call reads the node, and three write.
-//
-// Where a state is kept the number of the session isn't 0; of another folder that isn't known, nor asked.
-fn set_mark<F: Folder>(f: &mut F, files: &BlockFiles, node: Addr, mark: u32) -> Result<(), Fault>
-    requires stands { IsTrue (is_node_among files.now node) }
-    requires is_open { ForSome (F.told f.old).files (IsOpen files.now) }
-    ensures sets { SetsDirty files.now (F.told f.old) (F.told f.new) node mark result }
-    ensures is_open { ForSome (F.told f.new).files (IsOpen files.now) }
-    ensures damaged { IfDamaged result (IsFailedCheck files.now (F.told f.new)) }
-    ensures later { F.faults f.old ≤ F.faults f.new }
-    ensures device { IfDevice result (Rises (F.faults f.old) (F.faults f.new)) }
-{
-    // That the word is one of an address is known once it is read.
-    let _word = node.word();
-    files.update_sealed(f, node, &[(NodeView::DIRTY, mark)])
 }

@@ -15,3 +15,4 @@ pub mod Dooming
 pub mod FindingOut
 pub mod Writing
 pub mod WritingPlaces
+pub mod Ending

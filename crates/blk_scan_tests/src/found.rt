@@ -50,6 +50,18 @@ fn with_bytes<F: Folder>(
     Ok(all)
 }
 
+// The same hash with bytes that are at hand.
+pub(crate) fn with_these(bytes: &[u8], hash: u64) -> u64 {
+    let mut all = mixed(hash, (bytes.len() & 0xFFFF_FFFF) as u32);
+    for piece in bytes.chunks(PIECE as usize) {
+        all = mixed(all, super_fast_hash(piece));
+    }
+    if bytes.len() % PIECE as usize == 0 {
+        all = mixed(all, 0);
+    }
+    all
+}
+
 // A hash with the key of a record, and the bytes of its three streams.
 fn with_entry<F: Folder>(f: &mut SilentFolder<F>, record: u32, hash: u64) -> Result<u64, Fault> {
     let (file, place) = place_of(record);

@@ -1,8 +1,11 @@
 // A session of four hundred entries by eight handles, whose last Close fails.
-use crate::sessions::{Held, LIMITS, Session, empty, held};
+use crate::found::with_these;
+use crate::repairs::again;
+use crate::sessions::{LIMITS, Session, empty, held};
 use blk_cache::StepFault;
-use blk_io::{SilentFolder, StopFolder};
+use blk_io::{MemSink, SilentFolder, StopFolder};
 use blk_model::{Answer, Command};
+use itoa::Buffer;
 use std::alloc::Global;
 use std::test::Fail;
 
@@ -31,23 +34,36 @@ fn handle_of(number: u32) -> u16 {
     (number % HANDLES) as u16
 }
 
-// Writes the front of some bytes over a stream.
-fn write(
-    session: &mut Session,
-    handle: u16,
-    stream: u8,
-    bytes: &[u8],
-    count: usize,
-) -> Result<(), StepFault> {
-    if count > bytes.len() {
-        return Err(StepFault::Device);
+// The bytes of the second stream of an entry.
+fn size_of(number: u32) -> usize {
+    20_000 + 450 * (number % ENTRIES) as usize
+}
+
+// Bytes of which each stream has a front.
+fn all_bytes(alloc: Global) -> Result<Vec<u8>, Fail> {
+    let mut bytes = Vec::new(alloc);
+    bytes.resize(MOST_BYTES, 0)?;
+    let mut value = 0u8;
+    for byte in bytes.iter_mut() {
+        *byte = value;
+        value = value.wrapping_mul(5).wrapping_add(3);
     }
+    Ok(bytes)
+}
+
+// The front of some bytes.
+fn front(bytes: &[u8], count: usize) -> &[u8] {
+    &bytes[..count.min(bytes.len())]
+}
+
+// Writes some bytes over a stream.
+fn write(session: &mut Session, handle: u16, stream: u8, bytes: &[u8]) -> Result<(), StepFault> {
     session.step(&Command::Write {
         handle,
         stream,
         offset: 0,
         cut: false,
-        bytes: &bytes[..count],
+        bytes,
     })?;
     Ok(())
 }
@@ -60,25 +76,17 @@ fn make(session: &mut Session, number: u32, bytes: &[u8]) -> Result<(), StepFaul
         session.step(&Command::Close { handle })?;
     }
     session.step(&Command::Create { handle, key: &key })?;
-    write(session, handle, 0, bytes, FIRST)?;
-    let size = 20_000 + 450 * (number % ENTRIES) as usize;
-    write(session, handle, 1, bytes, size)
+    write(session, handle, 0, front(bytes, FIRST))?;
+    write(session, handle, 1, front(bytes, size_of(number)))
 }
 
-// A session in which so many entries were made, and all were closed but the last one.
-fn session_of(alloc: Global, entries: u32) -> Result<Session, Fail> {
-    let mut bytes = Vec::new(alloc);
-    bytes.resize(MOST_BYTES, 0)?;
-    let mut value = 0u8;
-    for byte in bytes.iter_mut() {
-        *byte = value;
-        value = value.wrapping_mul(5).wrapping_add(3);
-    }
+// A session in which all entries were made, and closed but the last one.
+fn whole_session(alloc: Global, bytes: &[u8]) -> Result<Session, Fail> {
     let mut session = Session::over(alloc, empty(alloc), LIMITS)?;
-    for number in 0..entries {
-        make(&mut session, number, &bytes)?;
+    for number in 0..ENTRIES {
+        make(&mut session, number, bytes)?;
     }
-    for number in entries.saturating_sub(HANDLES)..entries.saturating_sub(1) {
+    for number in ENTRIES - HANDLES..ENTRIES - 1 {
         session.step(&Command::Close {
             handle: handle_of(number),
         })?;
@@ -86,13 +94,53 @@ fn session_of(alloc: Global, entries: u32) -> Result<Session, Fail> {
     Ok(session)
 }
 
-// What is held once all of so many entries are closed.
-fn held_of(alloc: Global, entries: u32) -> Result<Held, Fail> {
-    let mut session = session_of(alloc, entries)?;
-    session.step(&Command::Close {
-        handle: handle_of(entries.wrapping_sub(1)),
-    })?;
-    Ok(held(alloc, session.f)?)
+// The hash of the keys and streams of the first entries, the last one first.
+fn hash_of_first(entries: u32, bytes: &[u8]) -> u64 {
+    let mut all = 0;
+    for number in (0..entries).rev() {
+        all = with_these(&key_of(number), all);
+        all = with_these(front(bytes, FIRST), all);
+        all = with_these(front(bytes, size_of(number)), all);
+        all = with_these(b"", all);
+    }
+    all
+}
+
+// What a List prints of the first entries, the last one first.
+fn list_of_first(alloc: Global, entries: u32) -> Result<Vec<u8>, Fail> {
+    let mut text = Vec::new(alloc);
+    let mut digits = Buffer::new();
+    for number in (0..entries).rev() {
+        text.extend_from_slice(b"main ")?;
+        text.extend_from_slice(&key_of(number))?;
+        text.extend_from_slice(b" 300 ")?;
+        text.extend_from_slice(digits.format(size_of(number)).as_bytes())?;
+        text.extend_from_slice(b" 0\n")?;
+    }
+    text.extend_from_slice(b"end ")?;
+    text.extend_from_slice(digits.format(entries).as_bytes())?;
+    text.push(b'\n')?;
+    Ok(text)
+}
+
+// The hexadecimal digit of a number below 16.
+fn digit_of(number: u8) -> u8 {
+    number.wrapping_add(if number < 10 { b'0' } else { b'a' - 10 })
+}
+
+// What an Open prints, and behind it a Read of these bytes.
+fn text_of_stream(alloc: Global, bytes: &[u8]) -> Result<Vec<u8>, Fail> {
+    let mut text = Vec::new(alloc);
+    let mut digits = Buffer::new();
+    text.extend_from_slice(b"ok\ndata ")?;
+    text.extend_from_slice(digits.format(bytes.len()).as_bytes())?;
+    text.push(b' ')?;
+    for byte in bytes {
+        text.push(digit_of(byte / 16))?;
+        text.push(digit_of(byte % 16))?;
+    }
+    text.push(b'\n')?;
+    Ok(text)
 }
 
 // The session, where the next folder call fails.
@@ -110,23 +158,48 @@ fn failing_next(session: Session) -> Result<Session, Fail> {
 
 #[test]
 fn all_but_the_entry_whose_close_failed_are_held(rt: HostRuntime) -> Result<(), Fail> {
-    let mut session = session_of(rt.alloc(), ENTRIES)?;
+    let bytes = all_bytes(rt.alloc())?;
+    let mut session = whole_session(rt.alloc(), &bytes)?;
     let (totals, _) = session.step(&Command::Total)?;
-    assert_eq!(rt;
-        totals,
-        Answer::Totals {
-            items: 400,
-            bytes: 44_040_400
-        }
-    );
+    let all = Answer::Totals {
+        items: 400,
+        bytes: 44_040_400,
+    };
+    assert_eq!(rt; totals, all);
     let mut session = failing_next(session)?;
-    let last = handle_of(ENTRIES - 1);
+    let handle = handle_of(ENTRIES - 1);
     assert_eq!(rt;
-        session.step(&Command::Close { handle: last }).err(),
+        session.step(&Command::Close { handle }).err(),
         Some(StepFault::Device)
     );
-    let (items, bytes, hash) = held(rt.alloc(), session.f)?;
-    assert_eq!(rt; (items, bytes), (399, 43_840_524));
-    assert_eq!(rt; held_of(rt.alloc(), 399)?, (items, bytes, hash));
+
+    // The next session has the others, in their order and with all bytes.
+    let mut next = Session::over(rt.alloc(), again(session.f, u64::MAX), LIMITS)?;
+    let (totals, _) = next.step(&Command::Total)?;
+    let first = Answer::Totals {
+        items: 399,
+        bytes: 43_840_524,
+    };
+    assert_eq!(rt; totals, first);
+    next.out = MemSink::new(rt.alloc());
+    next.step(&Command::List)?;
+    assert!(rt; next.out.written() == list_of_first(rt.alloc(), 399)?.as_slice());
+    next.out = MemSink::new(rt.alloc());
+    next.step(&Command::Open {
+        handle: 0,
+        key: &key_of(398),
+    })?;
+    next.step(&Command::Read {
+        handle: 0,
+        stream: 1,
+        offset: 0,
+        count: u64::MAX,
+    })?;
+    let stream = front(&bytes, size_of(398));
+    assert!(rt; next.out.written() == text_of_stream(rt.alloc(), stream)?.as_slice());
+    assert_eq!(rt;
+        held(rt.alloc(), next.f)?,
+        (399, 43_840_524, hash_of_first(399, &bytes))
+    );
     Ok(())
 }

@@ -1,7 +1,9 @@
 // Short sessions, by the lines of a script and what they print.
+use crate::folders::{ADDRS, SIZES, place_of};
+use crate::repairs::Mem;
 use crate::sessions::{LIMITS, Session, empty, held};
 use blk_cache::StepFault;
-use blk_io::{FileId, Folder, MemSink};
+use blk_io::{Fault, FileId, Folder, MemSink, read_word};
 use blk_model::{Limits, MOST_ITEMS};
 use std::alloc::Global;
 use std::test::Fail;
@@ -17,6 +19,18 @@ const TWO_ITEMS: Limits = Limits {
     max_items: 2,
 };
 
+// The record that is made first in a folder.
+const FIRST_RECORD: u32 = 0xA001_0000;
+
+// The size and the address of a stream of the record that was made first.
+fn storage_of(f: &mut Mem, stream: u8) -> Result<[u32; 2], Fault> {
+    let (file, place) = place_of(FIRST_RECORD);
+    let at = place.wrapping_add(4 * u64::from(stream));
+    let size = read_word(f, file, at.wrapping_add(SIZES))?;
+    let addr = read_word(f, file, at.wrapping_add(ADDRS))?;
+    Ok([size, addr])
+}
+
 #[test]
 fn streams_are_written_and_read(rt: HostRuntime) -> Result<(), Fail> {
     let mut session = Session::over(rt.alloc(), empty(rt.alloc()), LIMITS)?;
@@ -25,18 +39,28 @@ fn streams_are_written_and_read(rt: HostRuntime) -> Result<(), Fail> {
         b"write 0 1 5000 616263",
         b"read 0 1 4998 9",
         b"size 0 1",
-        b"cut 0 1 2 7a",
-        b"read 0 1 0 9",
-        b"read 0 1 3 9",
     ])?;
+
+    // Two blocks of 4 KiB.
+    assert_eq!(rt; storage_of(&mut session.f, 1), Ok([5003, 0xC103_0000]));
+    session.run(&[b"cut 0 1 2 7a", b"read 0 1 0 9", b"read 0 1 3 9"])?;
     let printed = b"ok\nok 3\ndata 5 0000616263\nsize 5003\nok 1\ndata 3 00007a\ndata 0 -\n";
     assert_eq!(rt; session.out.written(), printed.as_slice());
+    Ok(())
+}
 
-    // A long stream has a file, which is gone once it is short.
-    session.line(b"write 0 0 19999 7a")?;
+#[test]
+fn a_long_stream_has_a_file_until_it_is_short(rt: HostRuntime) -> Result<(), Fail> {
+    let mut session = Session::over(rt.alloc(), empty(rt.alloc()), LIMITS)?;
+    session.run(&[b"create 0 g", b"write 0 0 19999 7a"])?;
     assert_eq!(rt; session.f.length(FileId::External(1)), Ok(Some(20000)));
+    assert_eq!(rt; storage_of(&mut session.f, 0), Ok([20000, 0x8000_0001]));
     session.line(b"cut 0 0 0 7a7a7a7a7a7a7a7a7a7a")?;
+    assert_eq!(rt; session.out.written(), b"ok\nok 1\nok 10\n".as_slice());
     assert_eq!(rt; session.f.length(FileId::External(1)), Ok(None));
+
+    // One block of 256 bytes, behind that of the record.
+    assert_eq!(rt; storage_of(&mut session.f, 0), Ok([10, 0xA001_0001]));
     Ok(())
 }
 

@@ -1,16 +1,22 @@
-use Rattle.std.proofs.Common.{◌≡◌, ◌∙◌, None, sym, ap, subst}
+use Rattle.std.proofs.Common.{◌≡◌, ◌∙◌, Result, Ok, Err, None, sym, ap, subst}
+use Rattle.std.specs.Prelude.{IsErrAnd, OnOk}
 use Rattle.std.proofs.lemmas.Result.{on_ok_weaker}
 use Rattle.std.specs.Option.{ForSome}
 use Rattle.blk_image.specs.Told.{Passes, Told}
 use Rattle.blk_image.proofs.Runs.{passes_none, passes_stayed, some_inj}
+use Rattle.blk_io.specs.declared.fault.Fault.{Fault}
 use Rattle.blk_io.proofs.Carried.{carried, if_damaged_weaker}
 use Rattle.blk_volume.specs.Sound.{words_of}
 use Rattle.blk_disk.specs.Open.{IsOpen}
 use Rattle.blk_chain.proofs.Heads.{names-parts}
 use Rattle.blk_object.specs.Freeing.{AreFreeable, AreGoing, Removes, words_at}
 use Rattle.blk_object.proofs.FreedPlaces.{none-going}
-use Rattle.blk_cache.proofs.CloseGone.{no-freed}
-use Rattle.blk_cache.proofs.close.free_entry.Goals as goal
+use Rattle.blk_object.proofs.ending.free_entry.Goals as goal
+
+-- a fault that is handed on is no success
+no-freed : {A : Type 0} (q : Result A Fault) (e : Fault) → IsErrAnd q (λ (x : Fault). x ≡ e) → (P : Type 0) → OnOk q P
+no-freed (Ok a) e same P = absurd same
+no-freed (Err x) e same P = tt
 
 pub read_owned-requires-clause-kind : goal.read_owned-requires-clause-kind
 read_owned-requires-clause-kind g c = let p = names-parts c.args.files.now c.args.entry c.requires.names in p.1.0

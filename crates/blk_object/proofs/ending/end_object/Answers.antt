@@ -1,7 +1,7 @@
 use Rattle.std.proofs.Common.{◌≡◌, ◌∙◌, Bool, true, false, sym, subst}
 use Rattle.std.specs.Option.{ForSome}
-use Rattle.blk_cache.specs.Closing.{MayEnd}
-use Rattle.blk_cache.proofs.close.end_object.Goals as goal
+use Rattle.blk_object.specs.Ending.{MayEnd}
+use Rattle.blk_object.proofs.ending.end_object.Goals as goal
 
 clash : true ≡ false → ⊥
 clash e = cc

@@ -1,0 +1,83 @@
+// An object is ended that no handle names any more.
+ghost use Rattle.std.specs.Prelude.{◌≡◌, ◌≤◌, IsTrue, None, false, true};
+ghost use Rattle.std.specs.Option.{ForSome};
+ghost use Rattle.blk_image.specs.Told.{Rises};
+ghost use Rattle.blk_format.specs.Sealed.{record_size};
+ghost use Rattle.blk_volume.specs.View.{list_of};
+ghost use Rattle.blk_io.specs.Faults.{IfDamaged, IfDevice};
+ghost use Rattle.blk_disk.specs.Damages.{IsFailedRecord};
+ghost use Rattle.blk_disk.specs.Open.{IsOpen};
+ghost use Rattle.blk_disk.specs.Tables.{is_node_among, is_record_among};
+ghost use Rattle.blk_object.specs.Ending.{Cleans, FreesAll, HasFreeable, MayEnd};
+ghost use Rattle.blk_object.specs.FailedChecks.{IsFailedCheck};
+
+use crate::marking::set_mark;
+use crate::owning::{free_owned, read_owned};
+use blk_addr::Addr;
+use blk_disk::BlockFiles;
+use blk_handles::OpenObject;
+use blk_io::{Fault, Folder};
+
+/// Ends an object that no handle names any more: all that a doomed one has is freed, and of another the dirty word becomes 0.
+///
+/// Of a doomed one a folder call reads its places, and each of at most six places takes seven at most. Of another that
+/// was changed one call reads its node, and three make the word 0; of one that wasn't nothing is read or written.
+pub fn end_object<F: Folder>(
+    f: &mut F,
+    files: &BlockFiles,
+    object: &OpenObject,
+) -> Result<(), Fault>
+    requires names { IsTrue (is_record_among files.now object.now.entry) }
+    requires stands { IsTrue (is_node_among files.now object.now.node) }
+    requires is_open { ForSome (F.told f.old).files (IsOpen files.now) }
+    ensures cleans { object.now.doomed ≡ false → Cleans files.now (F.told f.old) (F.told f.new) object.now result }
+    ensures frees { object.now.doomed ≡ true → FreesAll (F.told f.old) (F.told f.new) object.now.entry result }
+    ensures is_open { ForSome (F.told f.new).files (IsOpen files.now) }
+    ensures damaged { IfDamaged result (IsFailedCheck files.now (F.told f.new)) }
+    ensures untold { ForSome (F.told f.old).files (MayEnd object.now.doomed object.now.entry object.now.node) → IfDamaged result (λ _. (F.told f.old).files ≡ None) }
+    ensures silent { (F.told f.old).files ≡ None → (F.told f.new).files ≡ None }
+    ensures later { F.faults f.old ≤ F.faults f.new }
+    ensures device { IfDevice result (Rises (F.faults f.old) (F.faults f.new)) }
+{
+    if object.doomed {
+        free_entry(f, files, object.entry)
+    } else {
+        clean(f, files, object)
+    }
+}
+
+// Frees all places of what lies there with a record.
+fn free_entry<F: Folder>(f: &mut F, files: &BlockFiles, entry: Addr) -> Result<(), Fault>
+    requires names { IsTrue (is_record_among files.now entry) }
+    requires is_open { ForSome (F.told f.old).files (IsOpen files.now) }
+    ensures frees { FreesAll (F.told f.old) (F.told f.new) entry result }
+    ensures is_open { ForSome (F.told f.new).files (IsOpen files.now) }
+    ensures damaged { IfDamaged result (IsFailedCheck files.now (F.told f.new)) }
+    ensures untold { ForSome (F.told f.old).files (HasFreeable entry) → IfDamaged result (λ _. (F.told f.old).files ≡ None) }
+    ensures silent { (F.told f.old).files ≡ None → (F.told f.new).files ≡ None }
+    ensures later { F.faults f.old ≤ F.faults f.new }
+    ensures device { IfDevice result (Rises (F.faults f.old) (F.faults f.new)) }
+{
+    let owned = read_owned(f, files, entry)?;
+    free_owned(f, files, &owned)
+}
+
+// Makes the dirty word of an object 0 where it isn't so.
+fn clean<F: Folder>(f: &mut F, files: &BlockFiles, object: &OpenObject) -> Result<(), Fault>
+    requires stands { IsTrue (is_node_among files.now object.now.node) }
+    requires is_open { ForSome (F.told f.old).files (IsOpen files.now) }
+    ensures cleans { Cleans files.now (F.told f.old) (F.told f.new) object.now result }
+    ensures is_open { ForSome (F.told f.new).files (IsOpen files.now) }
+    ensures damaged { IfDamaged result (IsFailedRecord (F.told f.old) object.now.node (record_size object.now.node)) }
+    ensures cause { IfDamaged result (IsFailedCheck files.now (F.told f.new)) }
+    ensures untold { ForSome (F.told f.old).files (λ image. (list_of image).checks object.now.node ≡ true) → IfDamaged result (λ _. (F.told f.old).files ≡ None) }
+    ensures silent { (F.told f.old).files ≡ None → (F.told f.new).files ≡ None }
+    ensures later { F.faults f.old ≤ F.faults f.new }
+    ensures device { IfDevice result (Rises (F.faults f.old) (F.faults f.new)) }
+{
+    if object.dirty {
+        set_mark(f, files, object.node, 0)
+    } else {
+        Ok(())
+    }
+}
