@@ -19,12 +19,12 @@ ghost use Rattle.blk_cache.specs.Closing.{Cleans, CountsClosed, FreesAll, HasFre
 ghost use Rattle.blk_cache.specs.CommandClauses.{IsRefused, KeepsAny, OnlyNamesChange};
 
 use crate::cache::Cache;
-use crate::looking::read_charge;
 use blk_addr::Addr;
 use blk_disk::BlockFiles;
 use blk_entry::set_clean;
 use blk_handles::{OpenObject, Released};
 use blk_io::{Fault, Folder};
+use blk_items::read_charge;
 use blk_model::{Answer, Refusal};
 use blk_object::{free_owned, read_owned};
 

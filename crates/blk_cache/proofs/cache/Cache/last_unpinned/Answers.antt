@@ -10,7 +10,7 @@ use Rattle.blk_disk.specs.Open.{IsOpen}
 use Rattle.blk_disk.specs.Tables.{Agrees, is_node_among, is_record_among}
 use Rattle.blk_handles.specs.Bindings.{is_open}
 use Rattle.blk_lru.proofs.Conditions.{told_now}
-use Rattle.blk_cache.specs.RoomSearch.{IsPlaceInList}
+use Rattle.blk_items.specs.ListPlaces.{IsPlaceInList}
 use Rattle.blk_cache.proofs.Ends.{kept-open}
 use Rattle.blk_cache.proofs.RoomLast.{all-met, front-is, last-found, more-so-far, none-left, record-names}
 use Rattle.blk_cache.proofs.cache.Cache.last_unpinned.Goals as goal
