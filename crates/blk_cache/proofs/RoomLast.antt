@@ -7,7 +7,7 @@ use Rattle.blk_image.proofs.Runs.{some_inj}
 use Rattle.blk_model.specs.Items.{Item}
 use Rattle.blk_model.specs.Room.{is_pinned}
 use Rattle.blk_model.specs.State.{State}
-use Rattle.blk_format.specs.Address.{blocks_256, rankings}
+use Rattle.blk_format.specs.Address.{rankings}
 use Rattle.blk_volume.specs.Layout.{Layout, is_in, is_listed, nodes_of, order, rule_of}
 use Rattle.blk_volume.specs.ListImages.{HasListAtRest}
 use Rattle.blk_volume.specs.ListView.{last_or}
@@ -16,9 +16,8 @@ use Rattle.blk_volume.specs.View.{NodeFields, node_at, node_fields_at, stands_as
 use Rattle.blk_laws.proofs.walks.Loads.{load-then}
 use Rattle.blk_handles.specs.Bindings.{is_open}
 use Rattle.blk_kept.proofs.Free.{standing-at}
-use Rattle.blk_audit.proofs.Shown.{names_stand}
-use Rattle.blk_disk.specs.Tables.{is_record_among}
 use Rattle.blk_lru.specs.Lists.{last_node_of}
+use Rattle.blk_object.specs.ListedParts.{LoadsAt}
 use Rattle.blk_object.proofs.MakingRoom.{uses-few}
 use Rattle.blk_cache.specs.declared.cache.Cache.{Cache}
 use Rattle.blk_items.specs.declared.list_places.Unpinned.{Unpinned}
@@ -126,10 +125,15 @@ module _ (cache : Cache) (state : State) (image : Image) (kept : KeepsState cach
     contents : (node_at image node).contents ≡ loaded.contents
     contents = contents-at node loaded (ap kept.layout.at met.node_is ∙ here)
 
-    pub record-names : is_record_among cache.files (node_at image node).contents ≡ true
-    record-names =
-        let st = standing-at image state kept.layout kept.kept.entries.represents (kept.layout.place met.item) loaded here in
-        names_stand cache.files image (node_at image node).contents kept.files ∙ subst (λ (w : ℕ). stands_as image blocks_256 w ≡ true) (sym contents) st.record_
+    -- it loads
+    pub node-loads : (l : Loaded) × LoadsAt node l image
+    node-loads = (
+      loaded,
+      subst (λ (n : ℕ). LoadsAt n loaded image) (sym met.node_is) (record {
+        rule = rule_of kept.layout (kept.layout.place met.item);
+        loads = kept.kept.entries.represents.holds.shows.each (kept.layout.place met.item) loaded here;
+      }),
+    )
 
     pinned-is : (entry : ℕ) → entry ≡ (node_at image node).contents → is_open cache.handles entry ≡ is_pinned state [] met.item
     pinned-is entry is = ap (is_open cache.handles) (is ∙ contents) ∙ record-pinned state kept.layout [] image kept.kept.entries cache.handles kept.names met.item loaded listed here

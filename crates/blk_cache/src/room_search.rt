@@ -13,7 +13,8 @@ ghost use Rattle.blk_cache.specs.RoomSearch.{KeepsPinnedFrom};
 use crate::cache::Cache;
 use blk_addr::Addr;
 use blk_io::{Fault, Folder};
-use blk_items::{Unpinned, in_front, record_of};
+use blk_items::{Unpinned, in_front};
+use blk_object::entry_named;
 
 impl Cache {
     /// The last item of the use list that isn't pinned, of those in front of a node, from which on all are; without a
@@ -44,7 +45,7 @@ impl Cache {
             let Some(node) = in_front(f, &self.files, &behind)? else {
                 return Ok(None);
             };
-            let entry = record_of(f, &self.files, node)?;
+            let entry = entry_named(f, &self.files, node)?;
             if !self.handles.is_pinned(entry) {
                 return Ok(Some(Unpinned {
                     node,

@@ -5,13 +5,11 @@ use Rattle.blk_model.specs.Items.{main}
 use Rattle.blk_model.specs.State.{Object, State, is_named, object_at}
 use Rattle.blk_model.proofs.StopRests.{owner_live}
 use Rattle.blk_volume.specs.Layout.{Layout}
-use Rattle.blk_volume.specs.Loads.{Loaded}
 use Rattle.blk_volume.specs.Searches.{IsOfLive}
-use Rattle.blk_volume.specs.View.{RecordFields, entry_at, store_of, view_of}
+use Rattle.blk_volume.specs.View.{RecordFields, entry_at, view_of}
 use Rattle.blk_laws.proofs.chains.ChainWords.{shown-fields}
 use Rattle.blk_laws.proofs.chains.Searches.{found-live}
 use Rattle.blk_laws.proofs.claims.Owner.{IsOwned, its-key, owned}
-use Rattle.blk_laws.proofs.walks.Loads.{load-then}
 use Rattle.blk_chain.specs.Finding.{IsFound}
 use Rattle.blk_kept.specs.Keeping.{KeepsUncounted}
 use Rattle.blk_object.specs.Owning.{LoadsWith}
@@ -20,16 +18,10 @@ use Rattle.blk_object.proofs.FoundEntries.{found-lies}
 use Rattle.blk_object.proofs.OwnedPlaces.{kept-load}
 use Rattle.blk_items.specs.declared.dooming_objects.Target.{Target}
 use Rattle.blk_items.specs.DoomingObjects.{IsTargetAt, LiesAsTarget}
-use Rattle.blk_items.specs.EvictingGroups.{kind_of_role, kind_said}
+use Rattle.blk_items.specs.EvictingGroups.{kind_said}
 use Rattle.blk_items.specs.Looking.{charge_at}
-use Rattle.blk_items.proofs.GroupsOut.{role-kind}
+use Rattle.blk_items.proofs.GroupsOut.{kind-there}
 use Rattle.blk_items.proofs.Looks.{chained-there, loaded-charge}
-
--- the flags of the record of what loads say its kind
-kind-there : (image : Image) (entry : ℕ) (loaded : Loaded) → LoadsWith entry loaded image → kind_said (entry_at image entry).flags ≡ kind_of_role loaded.role
-kind-there image entry loaded w = load-then (store_of image) w.rule w.node loaded w.loads (λ n e f.
-    let here : (store_of image).entry entry ≡ Some e = ap (store_of image).entry (sym w.contents ∙ f.facts.contents_is) ∙ f.entry in
-    ap (λ (z : RecordFields). kind_said z.flags) (shown-fields image entry e here) ∙ role-kind e loaded.key loaded.streams loaded.role f.facts.role)
 
 module _ (state : State) (layout : Layout) (unlinked : List ℕ) (image : Image) (k : KeepsUncounted state layout unlinked image) (key : List ℕ) (target : Target) (found : IsFound key false target.found.entry target.found.before image)
     (node_is : target.node ≡ (entry_at image target.found.entry).rankings_node) (kind_is : target.kind ≡ kind_said (entry_at image target.found.entry).flags) (charge_is : target.charge ≡ charge_at image target.found.entry) where

@@ -1,6 +1,6 @@
 -- The last item that isn't pinned, by its record, and what is left once its group is out.
-use Rattle.std.proofs.Common.{◌≡◌, ℕ, ◌+◌, ◌≤◌, Bool, true, false, List, [], ◌∷◌, length, map, take, Option, Some, None, Result, Ok, Err, inl, refl, sym, ap, ap₂, subst, ◌∙◌, arith, append-nil, ⊎_elim}
-use Rattle.std.specs.Prelude.{◌&&◌, ◌==◌, IfOk, IfSome, OnOk, if◌then◌else◌, is_some, not, slice_index, slice_set}
+use Rattle.std.proofs.Common.{◌≡◌, ℕ, ◌≤◌, Bool, true, false, List, [], ◌∷◌, length, map, take, Option, Some, None, Result, Ok, Err, inl, refl, sym, ap, subst, ◌∙◌, arith, append-nil, ⊎_elim}
+use Rattle.std.specs.Prelude.{◌&&◌, ◌==◌, IfOk, IfSome, OnOk, if◌then◌else◌, is_some, not, slice_set}
 use Rattle.std.specs.List.{cons_option, filter_map, flat_map, sum_by}
 use Rattle.std.specs.Option.{option_and_then, option_map, option_map_or}
 use Rattle.std.specs.Str.{bytes_eq}
@@ -26,7 +26,8 @@ use Rattle.blk_volume.specs.Found.{charge_of, row_of_loaded, row_with}
 use Rattle.blk_volume.specs.Layout.{IsPlacedAt, Layout, is_in, is_listed, rule_of}
 use Rattle.blk_volume.specs.Loads.{Loaded, is_part_role}
 use Rattle.blk_volume.specs.Removal.{is_of_another, without_items}
-use Rattle.blk_volume.specs.View.{RecordFields, store_of, view_of}
+use Rattle.blk_volume.specs.View.{RecordFields, entry_at, store_of, view_of}
+use Rattle.blk_laws.proofs.chains.ChainWords.{shown-fields}
 use Rattle.blk_laws.proofs.commands.Touches.{in-times}
 use Rattle.blk_laws.proofs.states.Charges.{items-charged}
 use Rattle.blk_laws.proofs.states.Laid.{item-of}
@@ -51,17 +52,15 @@ use Rattle.blk_object.specs.Removing.{LiesBehind}
 use Rattle.blk_object.specs.RemovingObjects.{FindsEither, GoesAlone}
 use Rattle.blk_object.proofs.FoundLeft.{listed-found}
 use Rattle.blk_object.proofs.OwnedPlaces.{kept-load}
-use Rattle.blk_object.proofs.PartNames.{all-piece, head-flags, key-short, key-there}
+use Rattle.blk_object.proofs.PartNames.{all-piece, key-short, key-there}
 use Rattle.blk_object.proofs.PlainObjects.{no-listed, plain-alone}
 use Rattle.blk_items.specs.declared.item_names.EntryKind.{EntryKind}
 use Rattle.blk_items.specs.declared.item_names.EntryKind.TheVariants as kinds
 use Rattle.blk_items.specs.declared.item_names.Named.{Named}
 use Rattle.blk_items.specs.declared.list_places.Unpinned.{Unpinned}
 use Rattle.blk_items.specs.EvictingGroups.{GoesAs, IsGroupOut, IsNamedAs, alone_kind, kind_of_role, kind_said}
-use Rattle.blk_items.specs.Looking.{charge_said}
 use Rattle.blk_items.specs.RoomLaws.{IsLastUnpinned, NamedObjectsStay, group_for, item_charge}
 use Rattle.blk_items.specs.ListPlaces.{IsLastAt}
-use Rattle.blk_items.proofs.Looks.{loaded-charge}
 use Rattle.blk_items.proofs.RoomApart.{alone-apart}
 use Rattle.blk_items.proofs.RoomGroups.{in-middle, parts-front}
 
@@ -384,16 +383,13 @@ main-said state layout image found key is =
 
 -- ---- what is read
 
-pub kind-read : (image : Image) (entry : ℕ) (head : Head) (loaded : Loaded) → IsRecordHead image entry head → LoadsWith entry loaded image → kind_said head.flags ≡ kind_of_role loaded.role
-kind-read image entry head loaded is with_record = load-then (store_of image) with_record.rule with_record.node loaded with_record.loads (λ n e f.
-    let here : (store_of image).entry entry ≡ Some e = ap (store_of image).entry (sym with_record.contents ∙ f.facts.contents_is) ∙ f.entry in
-    let flags = head-flags image entry head e is here in
-    ap kind_said (sym flags) ∙ role-kind e loaded.key loaded.streams loaded.role f.facts.role)
+pub kind-there : (image : Image) (entry : ℕ) (loaded : Loaded) → LoadsWith entry loaded image → kind_said (entry_at image entry).flags ≡ kind_of_role loaded.role
+kind-there image entry loaded w = load-then (store_of image) w.rule w.node loaded w.loads (λ n e f.
+    let here : (store_of image).entry entry ≡ Some e = ap (store_of image).entry (sym w.contents ∙ f.facts.contents_is) ∙ f.entry in
+    ap (λ (z : RecordFields). kind_said z.flags) (shown-fields image entry e here) ∙ role-kind e loaded.key loaded.streams loaded.role f.facts.role)
 
--- and the charge
-pub charge-read : (image : Image) (entry : ℕ) (head : Head) (loaded : Loaded) → IsRecordHead image entry head → LoadsWith entry loaded image → charge_said head ≡ charge_of loaded
-charge-read image entry head loaded is with_record =
-    ap₂ (λ (n : ℕ) (sizes : List ℕ). n + slice_index sizes 0 + slice_index sizes 1 + slice_index sizes 2) is.key_len is.sizes ∙ loaded-charge image entry loaded with_record
+pub kind-read : (image : Image) (entry : ℕ) (head : Head) (loaded : Loaded) → IsRecordHead image entry head → LoadsWith entry loaded image → kind_said head.flags ≡ kind_of_role loaded.role
+kind-read image entry head loaded is with_record = ap kind_said is.flags ∙ kind-there image entry loaded with_record
 
 pub key-read : (image : Image) (entry : ℕ) (loaded : Loaded) (old new : List ℕ) (len : ℕ) → LoadsWith entry loaded image → 32796 ≤ length old → ((stored : List ℕ) → key_at image entry ≡ Some stored → IsPiece stored 0 old new len) → take len new ≡ loaded.key
 key-read image entry loaded old new len with_record room piece =

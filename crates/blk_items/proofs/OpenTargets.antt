@@ -33,7 +33,7 @@ module _ (state : State) (layout : Layout) (image : Image) (k : Keeps state layo
 
   -- so it lies as a target
   pub open-target : (named : Named) (bytes : List ℕ) → IsNamedAs o.loaded named bytes → (at : Found) → o.loaded.contents ≡ at.entry → LiesBehind state layout (main object.key) o.loaded at.before
-      → LiesAsTarget true state layout number object (record { found = at; node = node; kind = named.kind; charge = named.charge })
+      → LiesAsTarget true state layout number object (record { found = at; node = node; kind = named.kind; charge = named.owned.charge })
   open-target named bytes n at entry_is behind = record {
     here = o.lies.here;
     live = o.lies.live;

@@ -1,26 +1,14 @@
--- The record that a node names, and the node in front of a place of the list.
-use Rattle.std.proofs.Common.{◌++◌, ◌+◌, ◌∙◌, ◌∷◌, ◌≡◌, List, None, Option, Some, [], ap, append-nil, refl, subst, sym, true, w32, ℕ}
-use Rattle.std.specs.Int.{from_le_bytes}
+-- The node in front of a place of the list.
+use Rattle.std.proofs.Common.{◌++◌, ◌+◌, ◌∙◌, ◌∷◌, ◌≡◌, List, None, Option, Some, [], ap, append-nil, refl, subst, sym, true, ℕ}
 use Rattle.blk_chain.proofs.Apart.{middle-there}
-use Rattle.blk_image.specs.Bytes.{range_at}
-use Rattle.blk_image.specs.Image.{Block, Image, byte}
-use Rattle.blk_format.specs.Address.{file_selector, place}
-use Rattle.blk_format.specs.Records.{node_in}
+use Rattle.blk_image.specs.Image.{Image}
+use Rattle.blk_format.specs.Address.{place}
 use Rattle.blk_format.specs.BlockFiles.{is_among}
 use Rattle.blk_volume.specs.ListImages.{HasListAtRest, walked}
-use Rattle.blk_volume.specs.View.{list_of, node_at}
+use Rattle.blk_volume.specs.View.{list_of}
 use Rattle.blk_laws.proofs.lists.Walks.{walk_list}
 use Rattle.blk_lru.specs.Lists.{IsListAtRest, IsListed, first_node_of}
-use Rattle.blk_lru.specs.Nodes.{link_at}
-use Rattle.blk_lru.proofs.LinkReads.{read_link}
 use Rattle.blk_items.specs.ListPlaces.{AreInFront, IsPlaceInList}
-
-contents-word : (image : Image) (node : ℕ) → link_at image node 24 ≡ (node_at image node).contents
-unfolding node_in
-contents-word image node = refl
-
-pub read-record : (image : Image) (node : ℕ) (bytes : List ℕ) (found : ℕ) → bytes ≡ range_at (byte image (Block (file_selector node))) (place node + 24) 4 → found ≡ from_le_bytes w32 bytes → found ≡ (node_at image node).contents
-read-record image node bytes found read is = read_link image node 24 bytes found read is ∙ contents-word image node
 
 -- what begins with a node
 begins : (nodes : List ℕ) (node : ℕ) → ◌≡◌ {A = Option ℕ} (Some node) (first_node_of nodes) → (rest : List ℕ) × (nodes ≡ node ∷ rest)

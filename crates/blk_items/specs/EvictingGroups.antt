@@ -43,7 +43,7 @@ IsNameOf entry name image = key_bytes image entry ≡ name
 -- the kind of what lies there is told, and its charge, and its key is at the front of some bytes
 pub record IsNamedAs (loaded : Loaded) (named : Named) (bytes : List ℕ) : Type 0 where
   pub kind : named.kind ≡ kind_of_role loaded.role
-  pub charge : named.charge ≡ charge_of loaded
+  pub charge : named.owned.charge ≡ charge_of loaded
   pub key : take named.len bytes ≡ loaded.key
 
 -- what holds of each listed item of a kept state that has this as the key or the name in its record

@@ -16,7 +16,6 @@ use Rattle.blk_volume.specs.View.{entry_at}
 use Rattle.blk_disk.specs.declared.tables.BlockFiles.{BlockFiles}
 use Rattle.blk_disk.specs.Damages.{IsNodeWordDamage}
 use Rattle.blk_disk.specs.Tables.{is_record_among}
-use Rattle.blk_entry.specs.declared.keys.Head.{Head}
 use Rattle.blk_entry.specs.Keys.{IsHeadDamage, node_place}
 use Rattle.blk_chain.specs.Finding.{IsSearchDamage}
 use Rattle.blk_kept.specs.Keeping.{KeepsUncounted}
@@ -24,11 +23,7 @@ use Rattle.blk_items.specs.declared.looking.Live.{Live}
 
 -- Charges.
 
--- the bytes of the key and of the three streams, as the words of a record say
-abbrev pub charge_said : Head → ℕ
-charge_said head = head.key_len + slice_index head.sizes 0 + slice_index head.sizes 1 + slice_index head.sizes 2
-
--- those of the record that a word names
+-- the bytes of the key and of the three streams, as the words of the record say that a word names
 abbrev pub charge_at : Image → ℕ → ℕ
 charge_at image entry = (entry_at image entry).key_len + slice_index (entry_at image entry).data_size 0 + slice_index (entry_at image entry).data_size 1 + slice_index (entry_at image entry).data_size 2
 

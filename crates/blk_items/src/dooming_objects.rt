@@ -9,26 +9,22 @@ ghost use Rattle.blk_model.specs.State.{State};
 ghost use Rattle.blk_format.specs.Address.{blocks_256, kind_of};
 ghost use Rattle.blk_format.specs.Names.{longest_name};
 ghost use Rattle.blk_volume.specs.Layout.{Layout};
-ghost use Rattle.blk_volume.specs.Loads.{Loaded};
-ghost use Rattle.blk_volume.specs.View.{entry_at};
 ghost use Rattle.blk_disk.specs.Open.{IsOpen};
-ghost use Rattle.blk_disk.specs.Tables.{Agrees, is_node_among, is_record_among, stands_among};
+ghost use Rattle.blk_disk.specs.Tables.{is_node_among, is_record_among, stands_among};
 ghost use Rattle.blk_kept.specs.Keeping.{KeepsUncounted};
 ghost use Rattle.blk_object.specs.FailedChecks.{IsFailedCheck};
-ghost use Rattle.blk_object.specs.Owning.{LoadsWith};
 ghost use Rattle.blk_object.specs.RemovingObjects.{FindsEither};
 ghost use Rattle.blk_items.specs.DoomingObjects.{ForEachOpenAt, ForEachTarget, ForEachWithKey, IsDoomed, IsTarget, has_index};
-ghost use Rattle.blk_items.specs.EvictingGroups.{kind_said};
-ghost use Rattle.blk_items.specs.Looking.{IsEntryDamage, IsLookDamage, KeepsSomeState, charge_at};
+ghost use Rattle.blk_items.specs.Looking.{IsLookDamage, KeepsSomeState};
 ghost use Rattle.blk_items.specs.NameRoom.{name_room};
 
 use crate::evicting_groups::{find_listed, is_no_key};
-use crate::item_names::{EntryKind, kind_said, read_name};
-use crate::looking::charge_of;
+use crate::item_names::{EntryKind, read_name};
+use crate::looking::read_said;
 use blk_addr::Addr;
 use blk_chain::{Found, find};
 use blk_disk::BlockFiles;
-use blk_entry::{read_head, record_damage};
+use blk_entry::record_damage;
 use blk_io::{Fault, Folder};
 use blk_object::{doom_plain, remove_item};
 use blk_record::EntryView;
@@ -67,37 +63,13 @@ pub fn find_target<F: Folder>(
     let Some(found) = find(f, files, key, false)? else {
         return Ok(None);
     };
-    Ok(Some(read_target(f, files, &found)?))
-}
-
-// Reads what the object of a record that was found is, by one folder call.
-fn read_target<F: Folder>(f: &mut F, files: &BlockFiles, found: &Found) -> Result<Target, Fault>
-    requires kind { kind_of found.now.entry ≡ blocks_256 }
-    requires stands { IsTrue (stands_among files.now found.now.entry) }
-    ensures found { IfOk result (λ target. target.found ≡ found.now) }
-    ensures node { IfOk result (λ target. ForSome (F.told f.old).files (λ image. target.node ≡ (entry_at image found.now.entry).rankings_node)) }
-    ensures kind { IfOk result (λ target. ForSome (F.told f.old).files (λ image. target.kind ≡ kind_said (entry_at image found.now.entry).flags)) }
-    ensures charge { IfOk result (λ target. ForSome (F.told f.old).files (λ image. target.charge ≡ charge_at image found.now.entry)) }
-    ensures stands { IfOk result (λ target. IsTrue (is_node_among files.now target.node)) }
-    ensures stays { Stays (F.told f.old) (F.told f.new) }
-    ensures damaged { IfDamaged result (IsEntryDamage files.now (F.told f.old) found.now.entry) }
-    ensures untold { ForSome (F.told f.old).files (Agrees files.now) → ForSome (F.told f.old).files (λ image. (loaded : Loaded) × LoadsWith found.now.entry loaded image) → ForSome (F.told f.old).files (λ image. is_node_among files.now (entry_at image found.now.entry).rankings_node ≡ true) → IfDamaged result (λ _. (F.told f.old).files ≡ None) }
-    ensures later { F.faults f.old ≤ F.faults f.new }
-    ensures device { IfDevice result (Rises (F.faults f.old) (F.faults f.new)) }
-{
-    let head = read_head(f, files, found.entry)?;
-    let Some(node) = files.node(head.node) else {
-        return Err(record_damage(found.entry, EntryView::NODE, head.node));
-    };
-    Ok(Target {
-        found: Found {
-            entry: found.entry,
-            before: found.before,
-        },
-        node,
-        kind: kind_said(head.flags),
-        charge: charge_of(&head),
-    })
+    let said = read_said(f, files, found.entry)?;
+    Ok(Some(Target {
+        found,
+        node: said.node,
+        kind: said.kind,
+        charge: said.charge,
+    }))
 }
 
 /// Dooms a live object that a handle names, by its record and its node. Its key is read into `name`, and the names of its
@@ -135,7 +107,7 @@ pub fn doom_named<F: Folder>(
         found,
         node,
         kind: named.kind,
-        charge: named.charge,
+        charge: named.owned.charge,
     };
     doom_target(f, files, &target, key, room, true)
 }

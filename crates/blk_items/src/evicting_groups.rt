@@ -1,5 +1,5 @@
 // A group goes out of a folder, and is printed.
-ghost use Rattle.std.specs.Prelude.{◌≡◌, ◌≤◌, ◌+◌, [], ◌∷◌, IfOk, IfSome, IsTrue, None, OnOk, length, true};
+ghost use Rattle.std.specs.Prelude.{◌≡◌, ◌≤◌, ◌+◌, [], ◌∷◌, All, IfOk, IfSome, IsTrue, None, OnOk, length, true};
 ghost use Rattle.std.specs.Option.{ForSome};
 ghost use Rattle.blk_image.specs.Told.{Passes, Rises, Stays};
 ghost use Rattle.blk_io.specs.Faults.{IfDamaged, IfDevice};
@@ -16,8 +16,9 @@ ghost use Rattle.blk_disk.specs.Open.{IsOpen};
 ghost use Rattle.blk_disk.specs.Tables.{is_node_among, is_record_among, stands_among};
 ghost use Rattle.blk_kept.specs.Changes.{SameSession};
 ghost use Rattle.blk_object.specs.FailedChecks.{IsFailedCheck};
+ghost use Rattle.blk_object.specs.Freeing.{IsPlaceAmong};
 ghost use Rattle.blk_object.specs.Removing.{LiesBehind};
-ghost use Rattle.blk_object.specs.RemovingObjects.{FindsEither};
+ghost use Rattle.blk_object.specs.RemovingObjects.{FindsEither, IsOwnedBy};
 ghost use Rattle.blk_items.specs.EvictingGroups.{ForEachGoing, ForEachListed, ForEachOfKind, IsGroupOut, IsNameOf, alone_kind, text_of_parts};
 ghost use Rattle.blk_items.specs.NameRoom.{name_room};
 ghost use Rattle.blk_items.specs.RoomPrinting.{FailsWhereItRose, Prints};
@@ -31,7 +32,7 @@ use blk_chain::{Found, find};
 use blk_disk::BlockFiles;
 use blk_entry::record_damage;
 use blk_io::{Fault, Folder, Sink};
-use blk_object::remove_item;
+use blk_object::{Owned, remove_read};
 use blk_ranges::{ChildName, LONGEST_KEY, read_child_name};
 use blk_record::EntryView;
 use blk_sparse::{Gone, remove_parent_with};
@@ -74,8 +75,14 @@ pub fn evict_group<F: Folder, K: Sink>(
 {
     let named = read_name(f, files, found.entry, name)?;
     match named.kind {
-        EntryKind::Plain => evict_plain(f, files, &name[..named.len], out, failed, found),
-        EntryKind::Part => evict_part(f, files, &name[..named.len], out, failed, found),
+        EntryKind::Plain => {
+            let key = &name[..named.len];
+            evict_plain(f, files, key, &named.owned, out, failed, found)
+        }
+        EntryKind::Part => {
+            let name = &name[..named.len];
+            evict_part(f, files, name, &named.owned, out, failed, found)
+        }
         EntryKind::Parent => {
             let (key, room) = name.split_at_mut(named.len);
             evict_parent(f, files, key, room, out, failed, found)
@@ -88,29 +95,31 @@ fn evict_plain<F: Folder, K: Sink>(
     f: &mut F,
     files: &BlockFiles,
     key: &[u8],
+    owned: &Owned,
     out: &mut K,
     failed: &mut bool,
     found: &Unpinned,
 ) -> Result<Gone, Fault>
     requires node { IsTrue (is_node_among files.now found.now.node) }
     requires record_stands { IsTrue (is_record_among files.now found.now.entry) }
+    requires places { All (IsPlaceAmong files.now) owned.now.places }
     requires is_open { ForSome (F.told f.old).files (IsOpen files.now) }
-    ensures out { IfOk result (λ gone. ForSome (F.told f.old).files (λ from. ForEachOfKind found.now EntryKind.Plain key.now from (λ state layout group. ForSome (F.told f.new).files (IsGroupOut state layout group gone from)))) }
+    ensures out { IfOk result (λ gone. ForSome (F.told f.old).files (λ from. IsOwnedBy found.now.entry owned.now from → ForEachOfKind found.now EntryKind.Plain key.now from (λ state layout group. ForSome (F.told f.new).files (IsGroupOut state layout group gone from)))) }
     ensures prints { OnOk result (ForSome (F.told f.old).files (λ from. ForEachOfKind found.now EntryKind.Plain key.now from (λ state layout group. Prints failed.old failed.new (K.written out.old) (K.written out.new) (evicted_text (group ∷ []))))) }
-    ensures stops { ForSome (F.told f.old).files (λ from. ForEachOfKind found.now EntryKind.Plain key.now from (λ state layout group. Passes (F.told f.old) (F.told f.new) (FindsEither state (without (group ∷ []) state)))) }
+    ensures stops { ForSome (F.told f.old).files (λ from. IsOwnedBy found.now.entry owned.now from → ForEachOfKind found.now EntryKind.Plain key.now from (λ state layout group. Passes (F.told f.old) (F.told f.new) (FindsEither state (without (group ∷ []) state)))) }
     ensures front { ForSome (F.told f.old).files (λ from. ForEachOfKind found.now EntryKind.Plain key.now from (λ state layout group. Appends (K.written out.old) (K.written out.new) (evicted_text (group ∷ [])))) }
     ensures quiet { failed.old ≡ true → (failed.new ≡ true) × (K.written out.new ≡ K.written out.old) }
     ensures fails { FailsWhereItRose failed.old failed.new (K.faults out.old) (K.faults out.new) }
     ensures is_open { ForSome (F.told f.new).files (IsOpen files.now) }
     ensures damaged { ForSome (F.told f.old).files (IsNameOf found.now.entry key.now) → IfDamaged result (IsFailedCheck files.now (F.told f.new)) }
-    ensures untold { ForSome (F.told f.old).files (λ from. ForEachOfKind found.now EntryKind.Plain key.now from (λ state layout group. IfDamaged result (λ _. (F.told f.old).files ≡ None))) }
+    ensures untold { ForSome (F.told f.old).files (λ from. IsOwnedBy found.now.entry owned.now from → ForEachOfKind found.now EntryKind.Plain key.now from (λ state layout group. IfDamaged result (λ _. (F.told f.old).files ≡ None))) }
     ensures silent { (F.told f.old).files ≡ None → (F.told f.new).files ≡ None }
     ensures later { F.faults f.old ≤ F.faults f.new }
     ensures sink_later { K.faults out.old ≤ K.faults out.new }
     ensures device { IfDevice result (Rises (F.faults f.old) (F.faults f.new)) }
 {
     say_evicted(out, failed, key);
-    remove_alone(f, files, key, false, found)
+    remove_alone(f, files, key, false, owned, found)
 }
 
 // Evicts a part, without its main item.
@@ -118,22 +127,24 @@ fn evict_part<F: Folder, K: Sink>(
     f: &mut F,
     files: &BlockFiles,
     name: &[u8],
+    owned: &Owned,
     out: &mut K,
     failed: &mut bool,
     found: &Unpinned,
 ) -> Result<Gone, Fault>
     requires node { IsTrue (is_node_among files.now found.now.node) }
     requires record_stands { IsTrue (is_record_among files.now found.now.entry) }
+    requires places { All (IsPlaceAmong files.now) owned.now.places }
     requires is_open { ForSome (F.told f.old).files (IsOpen files.now) }
-    ensures out { IfOk result (λ gone. ForSome (F.told f.old).files (λ from. ForEachOfKind found.now EntryKind.Part name.now from (λ state layout group. ForSome (F.told f.new).files (IsGroupOut state layout group gone from)))) }
+    ensures out { IfOk result (λ gone. ForSome (F.told f.old).files (λ from. IsOwnedBy found.now.entry owned.now from → ForEachOfKind found.now EntryKind.Part name.now from (λ state layout group. ForSome (F.told f.new).files (IsGroupOut state layout group gone from)))) }
     ensures prints { OnOk result (ForSome (F.told f.old).files (λ from. ForEachOfKind found.now EntryKind.Part name.now from (λ state layout group. Prints failed.old failed.new (K.written out.old) (K.written out.new) (evicted_text (group ∷ []))))) }
-    ensures stops { ForSome (F.told f.old).files (λ from. ForEachOfKind found.now EntryKind.Part name.now from (λ state layout group. Passes (F.told f.old) (F.told f.new) (FindsEither state (without (group ∷ []) state)))) }
+    ensures stops { ForSome (F.told f.old).files (λ from. IsOwnedBy found.now.entry owned.now from → ForEachOfKind found.now EntryKind.Part name.now from (λ state layout group. Passes (F.told f.old) (F.told f.new) (FindsEither state (without (group ∷ []) state)))) }
     ensures front { ForSome (F.told f.old).files (λ from. ForEachOfKind found.now EntryKind.Part name.now from (λ state layout group. Appends (K.written out.old) (K.written out.new) (evicted_text (group ∷ [])))) }
     ensures quiet { failed.old ≡ true → (failed.new ≡ true) × (K.written out.new ≡ K.written out.old) }
     ensures fails { FailsWhereItRose failed.old failed.new (K.faults out.old) (K.faults out.new) }
     ensures is_open { ForSome (F.told f.new).files (IsOpen files.now) }
     ensures damaged { ForSome (F.told f.old).files (IsNameOf found.now.entry name.now) → IfDamaged result (IsFailedCheck files.now (F.told f.new)) }
-    ensures untold { ForSome (F.told f.old).files (λ from. ForEachOfKind found.now EntryKind.Part name.now from (λ state layout group. IfDamaged result (λ _. (F.told f.old).files ≡ None))) }
+    ensures untold { ForSome (F.told f.old).files (λ from. IsOwnedBy found.now.entry owned.now from → ForEachOfKind found.now EntryKind.Part name.now from (λ state layout group. IfDamaged result (λ _. (F.told f.old).files ≡ None))) }
     ensures silent { (F.told f.old).files ≡ None → (F.told f.new).files ≡ None }
     ensures later { F.faults f.old ≤ F.faults f.new }
     ensures sink_later { K.faults out.old ≤ K.faults out.new }
@@ -143,7 +154,7 @@ fn evict_part<F: Folder, K: Sink>(
         return Err(record_damage(found.entry, EntryView::FLAGS, CHILD));
     };
     say_evicted_part(out, failed, parent_key(name, &child), u64::from(child.part));
-    remove_alone(f, files, name, true, found)
+    remove_alone(f, files, name, true, owned, found)
 }
 
 // Evicts an object with an index, and then its parts, whose names are made in `room`.
@@ -240,29 +251,35 @@ pub(crate) fn parent_key<'a>(name: &'a [u8], child: &ChildName) -> &'a [u8]
     &behind[..child.key_len]
 }
 
-// Removes an item that goes alone, as an object without an index or a part, by its key or name.
+// Removes an item that goes alone, as an object without an index or a part, by its key or name, and by what was read of
+// its record.
 fn remove_alone<F: Folder>(
     f: &mut F,
     files: &BlockFiles,
     name: &[u8],
     is_child: bool,
+    owned: &Owned,
     found: &Unpinned,
 ) -> Result<Gone, Fault>
     requires node { IsTrue (is_node_among files.now found.now.node) }
     requires record_stands { IsTrue (is_record_among files.now found.now.entry) }
+    requires places { All (IsPlaceAmong files.now) owned.now.places }
     requires is_open { ForSome (F.told f.old).files (IsOpen files.now) }
-    ensures out { IfOk result (λ gone. ForSome (F.told f.old).files (λ from. ForEachOfKind found.now (alone_kind is_child) name.now from (λ state layout group. ForSome (F.told f.new).files (IsGroupOut state layout group gone from)))) }
-    ensures stops { ForSome (F.told f.old).files (λ from. ForEachOfKind found.now (alone_kind is_child) name.now from (λ state layout group. Passes (F.told f.old) (F.told f.new) (FindsEither state (without (group ∷ []) state)))) }
+    ensures out { IfOk result (λ gone. ForSome (F.told f.old).files (λ from. IsOwnedBy found.now.entry owned.now from → ForEachOfKind found.now (alone_kind is_child) name.now from (λ state layout group. ForSome (F.told f.new).files (IsGroupOut state layout group gone from)))) }
+    ensures stops { ForSome (F.told f.old).files (λ from. IsOwnedBy found.now.entry owned.now from → ForEachOfKind found.now (alone_kind is_child) name.now from (λ state layout group. Passes (F.told f.old) (F.told f.new) (FindsEither state (without (group ∷ []) state)))) }
     ensures is_open { ForSome (F.told f.new).files (IsOpen files.now) }
     ensures damaged { ForSome (F.told f.old).files (IsNameOf found.now.entry name.now) → IfDamaged result (IsFailedCheck files.now (F.told f.new)) }
-    ensures untold { ForSome (F.told f.old).files (λ from. ForEachOfKind found.now (alone_kind is_child) name.now from (λ state layout group. IfDamaged result (λ _. (F.told f.old).files ≡ None))) }
+    ensures untold { ForSome (F.told f.old).files (λ from. IsOwnedBy found.now.entry owned.now from → ForEachOfKind found.now (alone_kind is_child) name.now from (λ state layout group. IfDamaged result (λ _. (F.told f.old).files ≡ None))) }
     ensures silent { (F.told f.old).files ≡ None → (F.told f.new).files ≡ None }
     ensures later { F.faults f.old ≤ F.faults f.new }
     ensures device { IfDevice result (Rises (F.faults f.old) (F.faults f.new)) }
 {
     let at = find_listed(f, files, name, is_child, found.entry)?;
-    let bytes = remove_item(f, files, &at, found.node)?;
-    Ok(Gone { items: 1, bytes })
+    remove_read(f, files, &at, found.node, owned)?;
+    Ok(Gone {
+        items: 1,
+        bytes: owned.charge,
+    })
 }
 
 // Finds the record of a listed item by its key or its name, and the one before it in its chain. Where it isn't found that

@@ -20,13 +20,13 @@ ghost use Rattle.blk_items.specs.RoomPrinting.{FailsWhereItRose, Prints, PrintsI
 
 use crate::evicting_groups::parent_key;
 use crate::item_names::{EntryKind, kind_said};
-use crate::list_places::record_of;
 use crate::row_printing::{say_part, say_plain, say_sparse};
 use blk_addr::Addr;
 use blk_disk::BlockFiles;
 use blk_entry::{Head, key_piece, read_head, record_damage};
 use blk_io::{Fault, Folder, Sink};
 use blk_lru::{after, first};
+use blk_object::entry_named;
 use blk_ranges::read_child_name;
 use blk_record::EntryView;
 
@@ -91,7 +91,7 @@ fn print_row<F: Folder, K: Sink>(
     ensures later_out { K.faults out.old ≤ K.faults out.new }
     ensures device { IfDevice result (Rises (F.faults f.old) (F.faults f.new)) }
 {
-    let entry = record_of(f, files, node)?;
+    let entry = entry_named(f, files, node)?;
     let head = read_head(f, files, entry)?;
     let len = key_piece(f, files, entry, 0, name)?;
     say_row(out, failed, entry, &name[..len], &head)

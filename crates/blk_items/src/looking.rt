@@ -1,5 +1,5 @@
 // The live object of a key, as it is found in the folder.
-ghost use Rattle.std.specs.Prelude.{◌≡◌, ◌≤◌, ◌<◌, ◌^◌, ℕ, IfOk, IfSome, IsTrue, List, None, true};
+ghost use Rattle.std.specs.Prelude.{◌≡◌, ◌≤◌, ◌<◌, ℕ, IfOk, IfSome, IsTrue, List, None, true};
 ghost use Rattle.std.specs.Option.{ForSome};
 ghost use Rattle.blk_image.specs.Told.{Rises, Stays};
 ghost use Rattle.blk_format.specs.Address.{blocks_256, kind_of};
@@ -13,13 +13,16 @@ ghost use Rattle.blk_disk.specs.Tables.{Agrees, is_node_among, is_record_among, 
 ghost use Rattle.blk_entry.specs.Keys.{IsHeadDamage};
 ghost use Rattle.blk_kept.specs.Keeping.{KeepsUncounted};
 ghost use Rattle.blk_object.specs.Owning.{LoadsWith};
-ghost use Rattle.blk_items.specs.Looking.{IsEntryDamage, IsLive, IsLookDamage, KeepsSomeState, charge_at, charge_said};
+ghost use Rattle.blk_items.specs.EvictingGroups.{kind_said};
+ghost use Rattle.blk_items.specs.Looking.{IsEntryDamage, IsLive, IsLookDamage, KeepsSomeState, charge_at};
 
+use crate::item_names::{EntryKind, kind_said};
 use blk_addr::Addr;
 use blk_chain::find;
 use blk_disk::BlockFiles;
-use blk_entry::{Head, read_head, record_damage};
+use blk_entry::{read_head, record_damage};
 use blk_io::{Fault, Folder};
+use blk_object::charge_of_head;
 use blk_record::EntryView;
 
 /// The record and the node of a live object, and what it is charged as a main item.
@@ -28,6 +31,14 @@ pub struct Live {
     pub entry: Addr,
     pub node: Addr,
     pub charge: u64,
+}
+
+/// What the record of an object says: its node, what kind of entry it has, and what it is charged as a main item.
+#[derive(Clone, Copy, Debug)]
+pub(crate) struct Said {
+    pub(crate) node: Addr,
+    pub(crate) kind: EntryKind,
+    pub(crate) charge: u64,
 }
 
 /// Finds the live object with a key, by one folder call more than `find`. Nothing is written.
@@ -50,17 +61,26 @@ pub fn find_live<F: Folder>(
     let Some(found) = find(f, files, key, false)? else {
         return Ok(None);
     };
-    Ok(Some(read_live(f, files, found.entry)?))
+    let said = read_said(f, files, found.entry)?;
+    Ok(Some(Live {
+        entry: found.entry,
+        node: said.node,
+        charge: said.charge,
+    }))
 }
 
-// Reads the node of a record, and what it is charged, by one folder call.
-fn read_live<F: Folder>(f: &mut F, files: &BlockFiles, entry: Addr) -> Result<Live, Fault>
+// Reads what the record of an object says, by one folder call.
+pub(crate) fn read_said<F: Folder>(
+    f: &mut F,
+    files: &BlockFiles,
+    entry: Addr,
+) -> Result<Said, Fault>
     requires kind { kind_of entry ≡ blocks_256 }
     requires stands { IsTrue (stands_among files.now entry) }
-    ensures entry { IfOk result (λ live. live.entry ≡ entry) }
-    ensures node { IfOk result (λ live. ForSome (F.told f.old).files (λ image. live.node ≡ (entry_at image entry).rankings_node)) }
-    ensures charge { IfOk result (λ live. ForSome (F.told f.old).files (λ image. live.charge ≡ charge_at image entry)) }
-    ensures stands { IfOk result (λ live. IsTrue (is_node_among files.now live.node)) }
+    ensures node { IfOk result (λ said. ForSome (F.told f.old).files (λ image. said.node ≡ (entry_at image entry).rankings_node)) }
+    ensures kind { IfOk result (λ said. ForSome (F.told f.old).files (λ image. said.kind ≡ kind_said (entry_at image entry).flags)) }
+    ensures charge { IfOk result (λ said. ForSome (F.told f.old).files (λ image. said.charge ≡ charge_at image entry)) }
+    ensures stands { IfOk result (λ said. IsTrue (is_node_among files.now said.node)) }
     ensures stays { Stays (F.told f.old) (F.told f.new) }
     ensures damaged { IfDamaged result (IsEntryDamage files.now (F.told f.old) entry) }
     ensures untold { ForSome (F.told f.old).files (Agrees files.now) → ForSome (F.told f.old).files (λ image. (loaded : Loaded) × LoadsWith entry loaded image) → ForSome (F.told f.old).files (λ image. is_node_among files.now (entry_at image entry).rankings_node ≡ true) → IfDamaged result (λ _. (F.told f.old).files ≡ None) }
@@ -71,10 +91,10 @@ fn read_live<F: Folder>(f: &mut F, files: &BlockFiles, entry: Addr) -> Result<Li
     let Some(node) = files.node(head.node) else {
         return Err(record_damage(entry, EntryView::NODE, head.node));
     };
-    Ok(Live {
-        entry,
+    Ok(Said {
         node,
-        charge: charge_of(&head),
+        kind: kind_said(head.flags),
+        charge: charge_of_head(&head),
     })
 }
 
@@ -91,14 +111,5 @@ pub fn read_charge<F: Folder>(f: &mut F, files: &BlockFiles, entry: Addr) -> Res
     ensures device { IfDevice result (Rises (F.faults f.old) (F.faults f.new)) }
 {
     let head = read_head(f, files, entry)?;
-    Ok(charge_of(&head))
-}
-
-// The bytes of the key and of the streams, as the words of a record say.
-pub(crate) fn charge_of(head: &Head) -> u64
-    ensures charge { result ≡ charge_said head.now }
-    ensures few { result < 2 ^ 34 }
-{
-    let [first, second, third, _] = head.sizes;
-    u64::from(head.key_len) + u64::from(first) + u64::from(second) + u64::from(third)
+    Ok(charge_of_head(&head))
 }

@@ -21,11 +21,11 @@ pub record_damage-requires-clause-kind : goal.record_damage-requires-clause-kind
 record_damage-requires-clause-kind g c = let p = names-parts c.args.files.now c.args.found.now.entry c.requires.record_stands in p.1.0
 
 pub returns-in_default-clause-stops : goal.returns-in_default-clause-stops
-returns-in_default-clause-stops g c from there state layout is =
+returns-in_default-clause-stops g c from there by state layout is =
     stayed-stops (g.F.Folder.told c.args.f.now) (g.F.Folder.told c.args.f.now) state (without (group_for is.last.item is.last.front ∷ []) state) layout from there refl is.kept
 
 pub returns-in_default-clause-untold : goal.returns-in_default-clause-untold
-returns-in_default-clause-untold g c from there state layout is =
+returns-in_default-clause-untold g c from there by state layout is =
     err_damaged Gone c.record_damage.result c.record_damage.ensures.damage (λ _. (g.F.Folder.told c.args.f.now).files ≡ None) c.record_damage.ensures.is
     (absurd (not-unsaid state layout from c.args.found.now c.args.name.now is
     (subst (λ (o : Option ChildName). option_map (name_within c.args.name.now) o ≡ read_name c.args.name.now) c.in_default.is c.read_child_name.ensures.name)))

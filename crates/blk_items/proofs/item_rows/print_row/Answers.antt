@@ -3,43 +3,30 @@ use Rattle.std.proofs.lemmas.Result.{on_ok_weaker}
 use Rattle.blk_image.specs.Told.{Told}
 use Rattle.blk_io.specs.Faults.{IfDamaged}
 use Rattle.blk_io.proofs.Carried.{carried, if_damaged_weaker, untold_where}
-use Rattle.blk_chain.proofs.Heads.{names-parts}
 use Rattle.blk_format.specs.Names.{read_name}
 use Rattle.blk_object.proofs.DamageChecks.{handed, head-checked, moved, part-checked, whole-key, within-checked}
 use Rattle.blk_object.proofs.OwnedPlaces.{loaded-checks}
 use Rattle.blk_object.specs.FailedChecks.{WrongName}
-use Rattle.blk_object.proofs.PartNames.{at-with, key-readable, record-named}
+use Rattle.blk_object.proofs.PartNames.{at-with, key-readable}
 use Rattle.blk_items.proofs.ListedRecords.{told-by}
 use Rattle.blk_items.proofs.item_rows.print_row.Goals as goal
 
 pub returns-in_err-entry-clause-untold : goal.returns-in_err-entry-clause-untold
 returns-in_err-entry-clause-untold g c agrees lies =
-    carried c.record_of.result c.from_residual.result c.in_err-entry.field-0.0 (λ _. (g.F.Folder.told c.args.f.now).files ≡ None) c.in_err-entry.was c.from_residual.ensures.1
-    (c.record_of.ensures.untold agrees (λ image there. let at = lies image there in record-named c.args.files.now image c.args.node at.0 (agrees image there) at.1))
-
-pub read_head-requires-clause-kind : goal.read_head-requires-clause-kind
-read_head-requires-clause-kind g c = let p = names-parts c.args.files.now c.in_ok-entry.entry c.in_ok-entry.ensures.stands in p.1.0
-
-pub read_head-requires-clause-stands : goal.read_head-requires-clause-stands
-read_head-requires-clause-stands g c = let p = names-parts c.args.files.now c.in_ok-entry.entry c.in_ok-entry.ensures.stands in p.1.1
+    carried c.entry_named.result c.from_residual.result c.in_err-entry.field-0.0 (λ _. (g.F.Folder.told c.args.f.now).files ≡ None) c.in_err-entry.was c.from_residual.ensures.1
+    (c.entry_named.ensures.untold agrees lies)
 
 pub returns-in_err-head-clause-untold : goal.returns-in_err-head-clause-untold
 returns-in_err-head-clause-untold g c agrees lies =
     let same = ap (λ (t : Told). t.files) c.in_ok-entry.ensures.stays in
     subst (λ (t : Told). IfDamaged c.from_residual-in_err-head.result (λ _. t.files ≡ None)) c.in_ok-entry.ensures.stays
-    (carried c.read_head.result c.from_residual-in_err-head.result c.in_err-head.field-0.0 (λ _. (g.F.Folder.told c.record_of.new.f).files ≡ None) c.in_err-head.was c.from_residual-in_err-head.ensures.1
+    (carried c.read_head.result c.from_residual-in_err-head.result c.in_err-head.field-0.0 (λ _. (g.F.Folder.told c.entry_named.new.f).files ≡ None) c.in_err-head.was c.from_residual-in_err-head.ensures.1
     (c.read_head.ensures.untold
     (λ image now. agrees image (sym same ∙ now))
     (λ image now.
     let there = sym same ∙ now in
     let at = lies image there in
-    loaded-checks image c.in_ok-entry.entry at.0 (g.met.F.Folder.are_bytes c.args.f.now image there) (at-with image c.args.node c.in_ok-entry.entry at.0 (c.in_ok-entry.ensures.record_is image there) at.1))))
-
-pub key_piece-requires-clause-kind : goal.key_piece-requires-clause-kind
-key_piece-requires-clause-kind g c = let p = names-parts c.args.files.now c.in_ok-entry.entry c.in_ok-entry.ensures.stands in p.1.0
-
-pub key_piece-requires-clause-stands : goal.key_piece-requires-clause-stands
-key_piece-requires-clause-stands g c = let p = names-parts c.args.files.now c.in_ok-entry.entry c.in_ok-entry.ensures.stands in p.1.1
+    loaded-checks image c.in_ok-entry.entry at.0 (g.met.F.Folder.are_bytes c.args.f.now image there) (at-with image c.args.node c.in_ok-entry.entry at.0 (c.in_ok-entry.ensures.entry image there) at.1))))
 
 pub returns-in_err-len-clause-untold : goal.returns-in_err-len-clause-untold
 returns-in_err-len-clause-untold g c agrees lies =
@@ -50,22 +37,19 @@ returns-in_err-len-clause-untold g c agrees lies =
     (c.key_piece.ensures.untold (λ image now.
     let there = sym same ∙ now in
     let at = lies image there in
-    let with_record = at-with image c.args.node c.in_ok-entry.entry at.0 (c.in_ok-entry.ensures.record_is image there) at.1 in
+    let with_record = at-with image c.args.node c.in_ok-entry.entry at.0 (c.in_ok-entry.ensures.entry image there) at.1 in
     record {
       agrees = agrees image there;
       checks = loaded-checks image c.in_ok-entry.entry at.0 (g.met.F.Folder.are_bytes c.args.f.now image there) with_record;
       key = key-readable image c.in_ok-entry.entry at.0 with_record;
     })))
 
-pub say_row-requires : goal.say_row-requires
-say_row-requires g c = let p = names-parts c.args.files.now c.in_ok-entry.entry c.in_ok-entry.ensures.stands in record { kind = p.1.0 }
-
 pub returns-clause-printed : goal.returns-clause-printed
 returns-clause-printed g c =
     on_ok_weaker c.say_row.result
     (λ printed image there loaded at. printed loaded
     (told-by image c.in_ok-entry.entry c.in_ok-head.head loaded c.args.name.now c.key_piece.new.out c.in_ok-len.len (c.in_ok-head.ensures.head image (ap (λ (t : Told). t.files) c.in_ok-entry.ensures.stays ∙ there))
-    (at-with image c.args.node c.in_ok-entry.entry loaded (c.in_ok-entry.ensures.record_is image there) at) c.requires.room
+    (at-with image c.args.node c.in_ok-entry.entry loaded (c.in_ok-entry.ensures.entry image there) at) c.requires.room
     (c.in_ok-len.ensures.piece image (ap (λ (t : Told). t.files) (c.in_ok-head.ensures.stays ∙ c.in_ok-entry.ensures.stays) ∙ there))))
     c.say_row.ensures.printed
 
@@ -76,29 +60,26 @@ returns-clause-untold g c agrees lies =
     let at = lies image there in
     never at.0
     (told-by image c.in_ok-entry.entry c.in_ok-head.head at.0 c.args.name.now c.key_piece.new.out c.in_ok-len.len (c.in_ok-head.ensures.head image (ap (λ (t : Told). t.files) c.in_ok-entry.ensures.stays ∙ there))
-    (at-with image c.args.node c.in_ok-entry.entry at.0 (c.in_ok-entry.ensures.record_is image there) at.1) c.requires.room
+    (at-with image c.args.node c.in_ok-entry.entry at.0 (c.in_ok-entry.ensures.entry image there) at.1) c.requires.room
     (c.in_ok-len.ensures.piece image (ap (λ (t : Told). t.files) (c.in_ok-head.ensures.stays ∙ c.in_ok-entry.ensures.stays) ∙ there)))))
     c.say_row.ensures.untold
 
 pub returns-in_err-head-clause-damaged : goal.returns-in_err-head-clause-damaged
 returns-in_err-head-clause-damaged g c =
-    let p = names-parts c.args.files.now c.in_ok-entry.entry c.in_ok-entry.ensures.stands in
     handed c.read_head.result c.from_residual-in_err-head.result c.in_err-head.field-0.0 _ c.args.files.now (g.F.Folder.told c.read_head.new.f)
-    (λ damage wrong. moved c.args.files.now (g.F.Folder.told c.record_of.new.f) (g.F.Folder.told c.read_head.new.f) damage c.read_head.ensures.stays (head-checked c.args.files.now (g.F.Folder.told c.record_of.new.f) c.in_ok-entry.entry damage p.1.0 p.1.1 wrong))
+    (λ damage wrong. moved c.args.files.now (g.F.Folder.told c.entry_named.new.f) (g.F.Folder.told c.read_head.new.f) damage c.read_head.ensures.stays (head-checked c.args.files.now (g.F.Folder.told c.entry_named.new.f) c.in_ok-entry.entry damage c.in_ok-entry.ensures.kind c.in_ok-entry.ensures.stands wrong))
     c.in_err-head.was c.from_residual-in_err-head.ensures.1 c.read_head.ensures.damaged
 
 pub returns-in_err-len-clause-damaged : goal.returns-in_err-len-clause-damaged
 returns-in_err-len-clause-damaged g c =
-    let p = names-parts c.args.files.now c.in_ok-entry.entry c.in_ok-entry.ensures.stands in
     handed c.key_piece.result c.from_residual-in_err-len.result c.in_err-len.field-0.0 _ c.args.files.now (g.F.Folder.told c.key_piece.new.f)
-    (λ damage wrong. moved c.args.files.now (g.F.Folder.told c.read_head.new.f) (g.F.Folder.told c.key_piece.new.f) damage c.key_piece.ensures.stays (part-checked c.args.files.now (g.F.Folder.told c.read_head.new.f) c.in_ok-entry.entry _ _ damage p.1.0 p.1.1 wrong))
+    (λ damage wrong. moved c.args.files.now (g.F.Folder.told c.read_head.new.f) (g.F.Folder.told c.key_piece.new.f) damage c.key_piece.ensures.stays (part-checked c.args.files.now (g.F.Folder.told c.read_head.new.f) c.in_ok-entry.entry _ _ damage c.in_ok-entry.ensures.kind c.in_ok-entry.ensures.stands wrong))
     c.in_err-len.was c.from_residual-in_err-len.ensures.1 c.key_piece.ensures.damaged
 
 pub returns-clause-damaged : goal.returns-clause-damaged
 returns-clause-damaged g c =
-    let p = names-parts c.args.files.now c.in_ok-entry.entry c.in_ok-entry.ensures.stands in
     if_damaged_weaker c.say_row.result _ _
-    (λ damage d. within-checked c.args.files.now (g.F.Folder.told c.key_piece.new.f) c.in_ok-entry.entry damage p.1.0 p.1.1 (WrongName (record {
+    (λ damage d. within-checked c.args.files.now (g.F.Folder.told c.key_piece.new.f) c.in_ok-entry.entry damage c.in_ok-entry.ensures.kind c.in_ok-entry.ensures.stands (WrongName (record {
       of_word = d.0;
       unlike = λ image here.
           let now : (g.F.Folder.told c.read_head.new.f).files ≡ Some image = ap (λ (t : Told). t.files) (sym c.in_ok-len.ensures.stays) ∙ here in
