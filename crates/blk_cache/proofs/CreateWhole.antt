@@ -30,11 +30,11 @@ use Rattle.blk_cache.specs.CacheKeeping.{KeepsState}
 use Rattle.blk_cache.specs.CommandClauses.{IsRefused, KeepsAny}
 use Rattle.blk_cache.specs.Creating.{IsReadyForSome, IsReadyToCreate, create_refusal}
 use Rattle.blk_cache.specs.Evicting.{IsEvicting}
-use Rattle.blk_cache.specs.RoomPrinting.{Prints}
+use Rattle.blk_items.specs.RoomPrinting.{Prints}
 use Rattle.blk_cache.specs.Stepping.{SaysEvicted, SaysFront}
 use Rattle.blk_cache.proofs.CreateRoom.{wants-one}
-use Rattle.blk_cache.proofs.RoomGroups.{without-none}
-use Rattle.blk_cache.proofs.RoomTexts.{none-behind, none-printed}
+use Rattle.blk_items.proofs.RoomGroups.{without-none}
+use Rattle.blk_items.proofs.RoomTexts.{none-behind, none-printed}
 
 -- ---- answers
 

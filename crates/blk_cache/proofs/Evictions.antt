@@ -31,15 +31,15 @@ use Rattle.blk_kept.proofs.Keeping.{kept-found}
 use Rattle.blk_object.specs.RemovingObjects.{FindsEither}
 use Rattle.blk_object.proofs.MakingRoom.{uses-few}
 use Rattle.blk_cache.specs.declared.cache.Cache.{Cache}
-use Rattle.blk_cache.specs.declared.room_search.Unpinned.{Unpinned}
+use Rattle.blk_items.specs.declared.list_places.Unpinned.{Unpinned}
 use Rattle.blk_cache.specs.CacheKeeping.{KeepsState}
 use Rattle.blk_cache.specs.Evicting.{IsEvicting, KeepsInPlaces, count_of_groups}
-use Rattle.blk_cache.specs.RoomLaws.{AreAllPinned, group_for}
-use Rattle.blk_cache.specs.RoomPrinting.{FailsWhereItRose, Prints}
-use Rattle.blk_cache.specs.RoomSearch.{IsLastAt, IsPinnedFrom}
-use Rattle.blk_cache.proofs.RoomCounts.{counted-less}
-use Rattle.blk_cache.proofs.RoomGroups.{last-next, nothing-more, others-next, pinned-before, without-none}
-use Rattle.blk_cache.proofs.RoomTexts.{none-printed, printed-on}
+use Rattle.blk_items.specs.RoomLaws.{AreAllPinned, group_for}
+use Rattle.blk_items.specs.RoomPrinting.{Prints}
+use Rattle.blk_items.specs.ListPlaces.{IsLastAt, IsPinnedFrom}
+use Rattle.blk_items.proofs.RoomCounts.{counted-less}
+use Rattle.blk_items.proofs.RoomGroups.{last-next, nothing-more, others-next, pinned-before, without-none}
+use Rattle.blk_items.proofs.RoomTexts.{appends-after, appends-longer, none-printed, printed-on}
 
 -- ---- what stays behind the group that goes
 
@@ -117,33 +117,6 @@ some-items (part key n) front = omega arith
 
 pub text-both : (first others : List Group) → evicted_text (first ++ others) ≡ evicted_text first ++ evicted_text others
 text-both first others = ap (flat_map evicted_line) (flat_map-append items_of_group first others) ∙ flat_map-append evicted_line (flat_map items_of_group first) (flat_map items_of_group others)
-
--- a front of a text is one of a longer text
-pub appends-longer : (w0 w1 : Option (List ℕ)) (a b : List ℕ) → Appends w0 w1 a → Appends w0 w1 (a ++ b)
-appends-longer w0 w1 a b one = record { front = one.front; rest = one.rest ++ b; split = ap (λ (l : List ℕ). l ++ b) one.split ∙ append_assoc one.front one.rest b; written = one.written }
-
-both-written : (a b : List ℕ) (w : Option (List ℕ)) → option_map (λ (v : List ℕ). v ++ b) (option_map (λ (v : List ℕ). v ++ a) w) ≡ option_map (λ (v : List ℕ). v ++ (a ++ b)) w
-both-written a b None = refl
-both-written a b (Some v) = ap Some (append_assoc v a b)
-
--- a text was printed, and then a front of another one, or nothing where the sink failed
-pub appends-after : (failed_before failed : Bool) (w0 w1 w2 : Option (List ℕ)) (a b : List ℕ) → Prints failed_before failed w0 w1 a → (failed ≡ true → w2 ≡ w1) → Appends w1 w2 b → Appends w0 w2 (a ++ b)
-appends-after failed_before failed w0 w1 w2 a b one quiet more = go failed refl where
-  went-on : failed ≡ false → Appends w0 w2 (a ++ b)
-  went-on e = record {
-    front = a ++ more.front;
-    rest = more.rest;
-    split = ap (λ (l : List ℕ). a ++ l) more.split ∙ sym (append_assoc a more.front more.rest);
-    written = more.written ∙ ap (option_map (λ (w : List ℕ). w ++ more.front)) (one.whole e) ∙ both-written a more.front w0;
-  }
-
-  go : (c : Bool) → failed ≡ c → Appends w0 w2 (a ++ b)
-  go true e = subst (λ (w : Option (List ℕ)). Appends w0 w (a ++ b)) (sym (quiet e)) (appends-longer w0 w1 a b one.front)
-  go false e = went-on e
-
--- a sink that is found to fail no more than before
-pub same-fails : (failed : Bool) (before now : ℕ) → FailsWhereItRose failed failed before now
-same-fails failed before now was is = absurd (clash (sym is ∙ was))
 
 -- ---- the loop
 

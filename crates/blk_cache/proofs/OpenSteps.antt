@@ -37,10 +37,10 @@ use Rattle.blk_kept.proofs.Touching.{opens-stop}
 use Rattle.blk_kept_calls.specs.Lists.{IsAmidList}
 use Rattle.blk_kept_calls.proofs.Lists.{listed-amid, touches-done, touches-partly}
 use Rattle.blk_cache.specs.declared.cache.Cache.{Cache}
-use Rattle.blk_cache.specs.declared.looking.Live.{Live}
+use Rattle.blk_items.specs.declared.looking.Live.{Live}
 use Rattle.blk_cache.specs.CacheKeeping.{KeepsState}
 use Rattle.blk_cache.specs.CommandClauses.{KeepsAny, OnlyNamesChange, charged_with, open_refusal}
-use Rattle.blk_cache.specs.Looking.{IsLiveAt}
+use Rattle.blk_items.specs.Looking.{IsLiveAt}
 use Rattle.blk_cache.proofs.Opens.{opened-keeps, used-node}
 use Rattle.blk_cache.proofs.Refusing.{name-below, name-free, not-refused}
 

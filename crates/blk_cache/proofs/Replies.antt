@@ -31,12 +31,11 @@ use Rattle.blk_cache.specs.Asking.{stream_refusal}
 use Rattle.blk_cache.specs.CacheKeeping.{IsBoundAs, KeepsState}
 use Rattle.blk_cache.specs.Listing.{OnlyRoomChanges}
 use Rattle.blk_cache.specs.Reading.{bytes_there}
-use Rattle.blk_cache.specs.ReadPrinting.{ForRead, KeepsToRead, PrintsInPart}
+use Rattle.blk_cache.specs.ReadPrinting.{ForRead, KeepsToRead}
+use Rattle.blk_items.specs.RoomPrinting.{Prints, PrintsInPart}
 use Rattle.blk_cache.specs.Replying.{ForBytes, ForReply, ForRows, IsAfter, bytes_text, rows_text, text_of_reply}
-use Rattle.blk_cache.specs.RoomPrinting.{Prints}
 use Rattle.blk_cache.specs.Stepping.{IsPlain}
-use Rattle.blk_cache.proofs.Evictions.{appends-longer}
-use Rattle.blk_cache.proofs.RoomTexts.{printed-on}
+use Rattle.blk_items.proofs.RoomTexts.{appends-longer, printed-on}
 use Rattle.blk_cache.proofs.Sizes.{named-object}
 
 -- ---- the text is the map's

@@ -6,16 +6,17 @@ use Rattle.std.specs.Option.{option_and_then}
 use Rattle.std.proofs.lemmas.List.Sums.{sum_by-cons}
 use Rattle.blk_model.specs.Room.{Group, is_pinned, left_of, own_charge, without}
 use Rattle.blk_model.specs.State.{Object, State, IsValidState, is_named, named_by, object_at}
-use Rattle.blk_model.proofs.Evicted.{IsLoose, kept_parts, map_at, named_left}
+use Rattle.blk_model.proofs.Evicted.{IsLoose, kept_parts, named_left}
 use Rattle.blk_volume.specs.Layout.{Layout}
 use Rattle.blk_model.specs.Bounds.{bounds_of}
 use Rattle.blk_handles.specs.Bindings.{Binding, Bindings, binding_of, open_count}
 use Rattle.blk_cache.specs.CacheKeeping.{IsBoundAs, named_from, named_objects}
-use Rattle.blk_cache.specs.RoomKept.{EvictedStatesAreKept, NamedObjectsStay}
-use Rattle.blk_cache.specs.RoomLaws.{group_for}
+use Rattle.blk_cache.specs.RoomKept.{EvictedStatesAreKept, NamedObjectsLieApart, WholeGroupsLieApart}
+use Rattle.blk_items.specs.RoomLaws.{NamedObjectsStay, group_for}
 use Rattle.blk_cache.proofs.RoomBound.{has-slot}
-use Rattle.blk_cache.proofs.RoomCounts.{counted-less}
-use Rattle.blk_cache.proofs.RoomGroups.{loose-for}
+use Rattle.blk_items.proofs.RoomApart.{alone-apart, key-apart, named-stays}
+use Rattle.blk_items.proofs.RoomCounts.{counted-less}
+use Rattle.blk_items.proofs.RoomGroups.{loose-for}
 
 module _ (state : State) (valid : IsValidState state) (group : Group) (loose : IsLoose (is_pinned state []) group) where
   abbrev left : State
@@ -27,11 +28,6 @@ module _ (state : State) (valid : IsValidState state) (group : Group) (loose : I
   named-same : (number : ℕ) → is_named left number ≡ is_named state number
   unfolding without
   named-same number = refl
-
-  -- a named object stays, but for parts of it
-  pub named-stays : (number : ℕ) (object : Object) → object_at state number ≡ Some object → is_named state number ≡ true → object_at left number ≡ Some (shrunk object)
-  unfolding without
-  named-stays number object here named = map_at (left_of (group ∷ [])) state.objects number ∙ ap (option_and_then (left_of (group ∷ []))) here ∙ named_left state valid [] (group ∷ []) (loose, tt) number object here named
 
   abbrev StayFrom : ℕ → List (Option Object) → Type 0
   StayFrom number slots = (k : ℕ) → IfSome (get_or slots k None) (λ object. is_named state (number + k) ≡ true → left_of (group ∷ []) object ≡ Some (shrunk object))
@@ -92,7 +88,7 @@ module _ (state : State) (valid : IsValidState state) (group : Group) (loose : I
     bound-left name (Some number) None e is = is
     bound-left name (Some number) (Some binding) e is =
         let named : is_named state number ≡ true = has-slot state.names name number e in
-        let here : object_at left number ≡ Some (shrunk is.object) = named-stays number is.object is.here named in
+        let here : object_at left number ≡ Some (shrunk is.object) = named-stays state valid group loose number is.object is.here named in
         let lies = stay number (shrunk is.object) here (named-same number ∙ named) in
         record {
           object = shrunk is.object;
@@ -145,3 +141,10 @@ evicted-kept state front item behind there old new from image k is gone =
         mark = gone.fewer.mark ∙ k.mark ∙ sym gone.session;
       };
     }
+
+-- where an item goes alone, or a whole object, the objects that handles name lie where they lay
+pub lie-apart : NamedObjectsLieApart
+lie-apart cache state image front item behind contents k is = alone-apart state k.layout [] image front item behind contents k.kept.entries is
+
+pub whole-apart : WholeGroupsLieApart
+whole-apart cache state image front key behind chains k is = key-apart state k.layout [] image front key behind chains k.kept.entries is

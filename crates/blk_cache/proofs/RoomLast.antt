@@ -2,14 +2,12 @@
 use Rattle.std.proofs.Common.{◌≡◌, ℕ, suc, ◌+◌, ◌≤◌, List, [], ◌∷◌, ◌++◌, length, Option, Some, None, true, false, refl, sym, ap, subst, ◌∙◌, arith, append_assoc}
 use Rattle.std.specs.List.{AllByRecursion}
 use Rattle.std.proofs.lemmas.List.{map-append}
-use Rattle.std.proofs.lemmas.Bool.{or_left, or_right}
 use Rattle.blk_image.specs.Image.{Image}
 use Rattle.blk_image.proofs.Runs.{some_inj}
-use Rattle.blk_model.specs.Items.{Item, same_item}
+use Rattle.blk_model.specs.Items.{Item}
 use Rattle.blk_model.specs.Room.{is_pinned}
 use Rattle.blk_model.specs.State.{State}
-use Rattle.blk_model.proofs.Same.{same_item_self}
-use Rattle.blk_format.specs.Address.{blocks_256, rankings}
+use Rattle.blk_format.specs.Address.{rankings}
 use Rattle.blk_volume.specs.Layout.{Layout, is_in, is_listed, nodes_of, order, rule_of}
 use Rattle.blk_volume.specs.ListImages.{HasListAtRest}
 use Rattle.blk_volume.specs.ListView.{last_or}
@@ -18,15 +16,15 @@ use Rattle.blk_volume.specs.View.{NodeFields, node_at, node_fields_at, stands_as
 use Rattle.blk_laws.proofs.walks.Loads.{load-then}
 use Rattle.blk_handles.specs.Bindings.{is_open}
 use Rattle.blk_kept.proofs.Free.{standing-at}
-use Rattle.blk_audit.proofs.Shown.{names_stand}
-use Rattle.blk_disk.specs.Tables.{is_record_among}
 use Rattle.blk_lru.specs.Lists.{last_node_of}
+use Rattle.blk_object.specs.ListedParts.{LoadsAt}
 use Rattle.blk_object.proofs.MakingRoom.{uses-few}
 use Rattle.blk_cache.specs.declared.cache.Cache.{Cache}
-use Rattle.blk_cache.specs.declared.room_search.Unpinned.{Unpinned}
+use Rattle.blk_items.specs.declared.list_places.Unpinned.{Unpinned}
 use Rattle.blk_cache.specs.CacheKeeping.{KeepsState}
-use Rattle.blk_cache.specs.RoomLaws.{AreAllPinned}
-use Rattle.blk_cache.specs.RoomSearch.{AreInFront, IsLastAt, IsPinnedFrom}
+use Rattle.blk_items.specs.RoomLaws.{AreAllPinned}
+use Rattle.blk_items.specs.ListPlaces.{AreInFront, IsLastAt, IsPinnedFrom}
+use Rattle.blk_items.proofs.RoomGroups.{in-middle}
 use Rattle.blk_cache.proofs.RoomBound.{record-pinned}
 
 -- so many items at least are pinned from a node on
@@ -58,10 +56,6 @@ ends-none layout [] e = refl
 ends-none layout (item ∷ all) e = absurd (no (last_or (layout.place item) (nodes_of layout all)) e) where
   no : (w : ℕ) → ◌≡◌ {A = Option ℕ} None (Some w) → ⊥
   no w e = cc
-
-pub in-middle : (front : List Item) (item : Item) (rest : List Item) → is_in (front ++ item ∷ rest) item ≡ true
-in-middle [] item rest = or_left (same_item item item) (is_in rest item) (same_item_self item)
-in-middle (i ∷ front) item rest = or_right (same_item item i) (is_in (front ++ item ∷ rest) item) (in-middle front item rest)
 
 length-both : (front rest : List Item) → length (front ++ rest) ≡ length front + length rest
 length-both [] rest = omega arith
@@ -131,10 +125,15 @@ module _ (cache : Cache) (state : State) (image : Image) (kept : KeepsState cach
     contents : (node_at image node).contents ≡ loaded.contents
     contents = contents-at node loaded (ap kept.layout.at met.node_is ∙ here)
 
-    pub record-names : is_record_among cache.files (node_at image node).contents ≡ true
-    record-names =
-        let st = standing-at image state kept.layout kept.kept.entries.represents (kept.layout.place met.item) loaded here in
-        names_stand cache.files image (node_at image node).contents kept.files ∙ subst (λ (w : ℕ). stands_as image blocks_256 w ≡ true) (sym contents) st.record_
+    -- it loads
+    pub node-loads : (l : Loaded) × LoadsAt node l image
+    node-loads = (
+      loaded,
+      subst (λ (n : ℕ). LoadsAt n loaded image) (sym met.node_is) (record {
+        rule = rule_of kept.layout (kept.layout.place met.item);
+        loads = kept.kept.entries.represents.holds.shows.each (kept.layout.place met.item) loaded here;
+      }),
+    )
 
     pinned-is : (entry : ℕ) → entry ≡ (node_at image node).contents → is_open cache.handles entry ≡ is_pinned state [] met.item
     pinned-is entry is = ap (is_open cache.handles) (is ∙ contents) ∙ record-pinned state kept.layout [] image kept.kept.entries cache.handles kept.names met.item loaded listed here

@@ -9,7 +9,7 @@ use Rattle.blk_model.specs.State.{Bounds, Object, State, is_named, object_at}
 use Rattle.blk_model.specs.Refusals.{evicted_for, is_full}
 use Rattle.blk_model.specs.Room.{Group, Room, full, after, charge, count_of, evicted_until, fits, item_count, low, of_slot, own_charge, pinned, pinned_from, pinned_of, room, total_of}
 use Rattle.blk_cache.specs.CacheKeeping.{named_from}
-use Rattle.blk_cache.specs.RoomLaws.{NamedObjectsArePinned, RoomIsMade, RoomIsTold, is_over}
+use Rattle.blk_cache.specs.RoomTold.{NamedObjectsArePinned, RoomIsMade, RoomIsTold, is_over}
 
 -- no part is covered
 none-covered : (key : List ℕ) (parts : List (ℕ × PartValue)) → filter (λ (p : ℕ × PartValue). list_any (same_item (part key p.0)) []) parts ≡ []

@@ -17,13 +17,11 @@ use Rattle.blk_script.specs.Reply.{evicted_text, reply_text}
 use Rattle.blk_cache.specs.declared.cache.Cache.{Cache}
 use Rattle.blk_cache.specs.CacheKeeping.{KeepsState}
 use Rattle.blk_cache.specs.CommandClauses.{KeepsAny}
-use Rattle.blk_cache.specs.ReadPrinting.{PrintsInPart}
+use Rattle.blk_items.specs.RoomPrinting.{Prints, PrintsInPart}
 use Rattle.blk_cache.specs.Replying.{ForReply, KeepsAfter}
-use Rattle.blk_cache.specs.RoomPrinting.{Prints}
 use Rattle.blk_cache.specs.Stepping.{IsPlain, SaysEvicted, SaysFront, evicted_first, outcome_text}
-use Rattle.blk_cache.proofs.PrintedReads.{part-on}
+use Rattle.blk_items.proofs.RoomTexts.{none-printed, part-on, printed-on}
 use Rattle.blk_cache.proofs.Replies.{is-after, text-after}
-use Rattle.blk_cache.proofs.RoomTexts.{none-printed, printed-on}
 
 -- What evicts nothing.
 

@@ -22,7 +22,7 @@ use Rattle.blk_cache.specs.declared.cache.Cache.{Cache}
 use Rattle.blk_cache.specs.declared.goal.Goal.TheVariants as goal
 use Rattle.blk_cache.specs.CacheKeeping.{KeepsState}
 use Rattle.blk_cache.specs.Evicting.{IsEvicting, count_of_groups, is_met}
-use Rattle.blk_cache.specs.RoomPrinting.{Prints}
+use Rattle.blk_items.specs.RoomPrinting.{Prints}
 use Rattle.blk_cache.specs.Stepping.{SaysEvicted, SaysFront}
 
 module _ (moment bytes : ℕ) where

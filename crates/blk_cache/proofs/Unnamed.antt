@@ -1,16 +1,14 @@
 -- What no handle names, and names that are free.
 use Rattle.std.proofs.Common.{◌≡◌, ℕ, zero, suc, ◌+◌, ◌≤◌, Bool, true, false, not, ◌&&◌, cond, List, [], ◌∷◌, length, map, Option, Some, None, IfSome, get_or, replicate, refl, sym, ap, ◌∙◌, arith}
-use Rattle.std.specs.List.{count_by, filter_map, cons_option}
+use Rattle.std.specs.List.{cons_option, count_by, filter_map, list_any}
 use Rattle.std.proofs.lemmas.Bool.{and_parts}
 use Rattle.std.proofs.lemmas.List.{length-map}
 use Rattle.std.proofs.lemmas.List.Sums.{sum_by-cons}
-use Rattle.std.specs.List.{list_any}
-use Rattle.blk_model.specs.Sizes.{handle_names}
+use Rattle.blk_model.specs.Sizes.{handle_names, most_items}
 use Rattle.blk_model.specs.Items.{Item, Row}
 use Rattle.blk_model.specs.State.{State, Object, Bounds, IsValidState, is_named, is_number, named_by, object_at}
 use Rattle.blk_model.specs.Holding.{open_state, row_of, rows}
 use Rattle.blk_model.specs.Room.{items}
-use Rattle.blk_model.specs.Sizes.{most_items}
 use Rattle.blk_model.specs.Totals.{is_doomed_slot}
 use Rattle.blk_model.proofs.Sums.{totals_are_sums}
 use Rattle.blk_image.specs.Image.{Image}

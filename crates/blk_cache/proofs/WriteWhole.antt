@@ -35,12 +35,12 @@ use Rattle.blk_cache.specs.Asking.{stream_refusal}
 use Rattle.blk_cache.specs.CacheKeeping.{KeepsState}
 use Rattle.blk_cache.specs.CommandClauses.{IsRefused, KeepsAny}
 use Rattle.blk_cache.specs.Evicting.{IsEvicting}
-use Rattle.blk_cache.specs.RoomPrinting.{Prints}
+use Rattle.blk_items.specs.RoomPrinting.{Prints}
 use Rattle.blk_cache.specs.Stepping.{SaysEvicted, SaysFront}
 use Rattle.blk_cache.specs.Writing.{IsReadyToWrite, IsReadyToWriteSome, MayBeWritten}
 use Rattle.blk_cache.proofs.CreateWhole.{there-after, untold-by}
-use Rattle.blk_cache.proofs.RoomGroups.{without-none}
-use Rattle.blk_cache.proofs.RoomTexts.{none-behind, none-printed}
+use Rattle.blk_items.proofs.RoomGroups.{without-none}
+use Rattle.blk_items.proofs.RoomTexts.{none-behind, none-printed}
 use Rattle.blk_cache.proofs.Sizes.{named-object}
 use Rattle.blk_cache.proofs.WriteRoom.{bound, first, long-after, same-stream, wants-rise}
 use Rattle.blk_cache.proofs.WriteUses.{never-told}

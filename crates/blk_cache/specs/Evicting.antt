@@ -9,10 +9,10 @@ use Rattle.blk_kept.specs.Changes.{Finds}
 use Rattle.blk_cache.specs.declared.cache.Cache.{Cache}
 use Rattle.blk_cache.specs.declared.goal.Goal.{Goal}
 use Rattle.blk_cache.specs.declared.goal.Goal.TheVariants.{Bytes, Room}
-use Rattle.blk_cache.specs.declared.room_search.Unpinned.{Unpinned}
+use Rattle.blk_items.specs.declared.list_places.Unpinned.{Unpinned}
 use Rattle.blk_cache.specs.CacheKeeping.{KeepsState}
-use Rattle.blk_cache.specs.RoomLaws.{group_for}
-use Rattle.blk_cache.specs.RoomSearch.{IsLastAt}
+use Rattle.blk_items.specs.RoomLaws.{group_for}
+use Rattle.blk_items.specs.ListPlaces.{IsLastAt}
 
 -- whether a goal is met: so many more bytes and items fit below the low-water mark, or no more bytes are left
 abbrev pub is_met : Goal → State → Bool

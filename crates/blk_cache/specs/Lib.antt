@@ -1,21 +1,16 @@
 pub mod BoundNames
-pub mod NameRoom
 pub mod CacheKeeping
 pub mod Opening
 pub mod Opened
 pub mod OpeningLaws
-pub mod Looking
 pub mod CommandClauses
 pub mod Creating
 pub mod CreatingLaws
-pub mod RoomLaws
-pub mod RoomPrinting
 pub mod RoomSearch
 pub mod RoomKept
 pub mod Evicting
 pub mod MakingRoom
 pub mod Stepping
-pub mod EvictingGroups
 pub mod Closing
 pub mod Asking
 pub mod Reading
@@ -26,3 +21,4 @@ pub mod Writing
 pub mod WritingLaws
 pub mod Listing
 pub mod Replying
+pub mod RoomTold

@@ -1,23 +1,18 @@
 -- The bytes of a Read, as they are printed.
-use Rattle.std.specs.Prelude.{◌≡◌, ◌+◌, ◌^◌, ◌&&◌, ℕ, Bool, List, length, nat_lt, true}
-use Rattle.std.specs.declared.option.Option.{Option}
-use Rattle.std.specs.declared.option.Option.TheVariants.{None, Some}
+use Rattle.std.specs.Prelude.{◌≡◌, ◌+◌, ◌^◌, ◌&&◌, ℕ, Bool, List, length, nat_lt}
+use Rattle.std.specs.declared.option.Option.TheVariants.{None}
 use Rattle.blk_image.specs.Image.{Image}
 use Rattle.blk_image.specs.Told.{Told}
-use Rattle.blk_io.specs.Streams.{Appends}
 use Rattle.blk_model.specs.Bytes.{bytes_from}
 use Rattle.blk_model.specs.Effects.{stream_of}
 use Rattle.blk_model.specs.Reply.{gave}
 use Rattle.blk_model.specs.Sizes.{stream_count}
 use Rattle.blk_model.specs.State.{Object, State}
 use Rattle.blk_volume.specs.Entries.{stream}
-use Rattle.blk_disk.specs.declared.tables.BlockFiles.{BlockFiles}
 use Rattle.blk_script.specs.Reply.{reply_text}
-use Rattle.blk_stream.specs.Streams.{StreamsCanBeRead, streams_at}
 use Rattle.blk_kept.specs.Commands.{ForKept}
 use Rattle.blk_kept.specs.OneCallLaws.{Names}
 use Rattle.blk_cache.specs.declared.cache.Cache.{Cache}
-use Rattle.blk_cache.specs.declared.read_printing.StreamRange.{StreamRange}
 use Rattle.blk_cache.specs.Asking.{stream_refusal}
 use Rattle.blk_cache.specs.CacheKeeping.{KeepsState}
 use Rattle.blk_cache.specs.Reading.{bytes_there}
@@ -42,17 +37,3 @@ pub record KeepsToRead (cache : Cache) (handle stream offset number : ℕ) (imag
 -- whether an object has a stream with this number, and so many bytes from an offset on end where a u64 can tell
 abbrev pub can_be_read : (stream offset number : ℕ) → Bool
 can_be_read stream offset number = nat_lt stream stream_count && nat_lt (offset + number) (2 ^ 64)
-
--- a record has a stream that can be read, with so many bytes from an offset on
-pub record HasBytes (files : BlockFiles) (range : StreamRange) (image : Image) : Type 0 where
-  pub readable : StreamsCanBeRead files range.entry image
-  pub streams : List (List ℕ)
-  pub here : streams_at image range.entry ≡ Some streams
-  pub bytes : List ℕ
-  pub long : length bytes ≡ range.count
-  pub bytes_are : bytes ≡ bytes_from (stream range.stream streams) range.offset range.count
-
--- a front of a text was printed, and nothing where the sink had failed before
-pub record PrintsInPart (failed_before : Bool) (old new : Option (List ℕ)) (text : List ℕ) : Type 0 where
-  pub silent : failed_before ≡ true → new ≡ old
-  pub front : Appends old new text

@@ -1,27 +1,19 @@
 -- What a cache keeps once a group is evicted.
-use Rattle.std.specs.Prelude.{◌≡◌, ℕ, ◌+◌, List, [], ◌∷◌, length, sum_by, true}
-use Rattle.std.specs.declared.option.Option.TheVariants.{Some}
+use Rattle.std.specs.Prelude.{◌≡◌, ℕ, ◌+◌, List, [], ◌∷◌, length, sum_by}
 use Rattle.blk_image.specs.Image.{Image, Index, byte}
 use Rattle.blk_format.specs.Headers.{this_id_of}
 use Rattle.blk_model.specs.Items.{Item, main}
 use Rattle.blk_model.specs.Room.{Group, items_of_group, without}
-use Rattle.blk_model.specs.State.{Object, State, is_named, object_at}
+use Rattle.blk_model.specs.State.{State}
 use Rattle.blk_volume.specs.Layout.{Layout}
 use Rattle.blk_volume.specs.Removal.{is_of_another}
 use Rattle.blk_kept.specs.GroupLaws.{gone_nodes, layout_less}
 use Rattle.blk_kept.specs.Keeping.{Keeps}
 use Rattle.blk_kept.specs.RemovalLaws.{layout_removed}
 use Rattle.blk_disk.specs.Tables.{Agrees}
-use Rattle.blk_object.specs.Writing.{node_of_object}
 use Rattle.blk_cache.specs.declared.cache.Cache.{Cache}
 use Rattle.blk_cache.specs.CacheKeeping.{KeepsState}
-use Rattle.blk_cache.specs.RoomLaws.{IsLastUnpinned, group_for, item_charge}
-
--- each object that a handle names lies where it lay
-abbrev pub NamedObjectsStay : State → (old new : Layout) → Type 0
-NamedObjectsStay state old new =
-    (number : ℕ) (object : Object) → object_at state number ≡ Some object → is_named state number ≡ true
-    → (node_of_object new number object ≡ node_of_object old number object) × (new.at (node_of_object old number object) ≡ old.at (node_of_object old number object))
+use Rattle.blk_items.specs.RoomLaws.{IsLastUnpinned, NamedObjectsStay, group_for, item_charge}
 
 -- a cache has so many items and bytes less; its names, its limits and its mark are as before
 pub record HasFewer (old new : Cache) (item_count charged : ℕ) : Type 0 where

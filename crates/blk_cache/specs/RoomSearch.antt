@@ -1,55 +1,11 @@
--- The last item of the use list that isn't pinned, as it is found in a folder.
-use Rattle.std.specs.Prelude.{◌≡◌, ℕ, List, [], ◌++◌, true}
-use Rattle.std.specs.List.{AllByRecursion}
+-- A cache keeps a state in which the last item that isn't pinned is searched.
+use Rattle.std.specs.Prelude.{ℕ}
 use Rattle.std.specs.declared.option.Option.{Option}
-use Rattle.std.specs.declared.option.Option.TheVariants.{None, Some}
 use Rattle.blk_image.specs.Image.{Image}
-use Rattle.blk_model.specs.Items.{Item}
-use Rattle.blk_model.specs.Room.{is_pinned}
 use Rattle.blk_model.specs.State.{State}
-use Rattle.blk_volume.specs.Layout.{Layout, nodes_of}
-use Rattle.blk_volume.specs.ListImages.{HasListAtRest}
-use Rattle.blk_volume.specs.Loads.{Loaded}
-use Rattle.blk_lru.specs.Lists.{first_node_of}
+use Rattle.blk_items.specs.ListPlaces.{IsPinnedFrom}
 use Rattle.blk_cache.specs.declared.cache.Cache.{Cache}
-use Rattle.blk_cache.specs.declared.room_search.Unpinned.{Unpinned}
 use Rattle.blk_cache.specs.CacheKeeping.{KeepsState}
-use Rattle.blk_cache.specs.RoomLaws.{AreAllPinned, IsLastUnpinned}
-
--- these nodes are in front of a place of the list, where this node is next behind it; none is at the end
-pub record AreInFront (front : List ℕ) (behind : Option ℕ) (image : Image) : Type 0 where
-  pub rest : List ℕ
-  pub list : HasListAtRest (front ++ rest) image
-  pub next : behind ≡ first_node_of rest
-
--- some nodes are in front of it
-abbrev pub IsPlaceInList : Option ℕ → Image → Type 0
-IsPlaceInList behind image = (front : List ℕ) × AreInFront front behind image
-
--- the items from a node on are pinned; none is at the end
-pub record IsPinnedFrom (state : State) (layout : Layout) (behind : Option ℕ) : Type 0 where
-  pub front : List Item
-  pub rest : List Item
-  pub listed : state.uses ≡ front ++ rest
-  pub pinned : AllByRecursion (λ item. is_pinned state [] item ≡ true) rest
-  pub next : behind ≡ first_node_of (nodes_of layout rest)
-
--- the last item that isn't pinned, by its node and its record, and by the node next behind it
-pub record IsLastAt (state : State) (layout : Layout) (found : Unpinned) : Type 0 where
-  pub front : List Item
-  pub item : Item
-  pub rest : List Item
-  pub last : IsLastUnpinned state [] front item rest
-  pub node : found.node ≡ layout.place item
-  pub loaded : Loaded
-  pub here : layout.at (layout.place item) ≡ Some loaded
-  pub entry : found.entry ≡ loaded.contents
-  pub next : found.behind ≡ first_node_of (nodes_of layout rest)
-
--- what is found: nothing where each item is pinned
-abbrev pub IsLast : State → Layout → Option Unpinned → Type 0
-IsLast state layout None = AreAllPinned state []
-IsLast state layout (Some found) = IsLastAt state layout found
 
 -- the cache keeps some state, whose items are pinned from a node on
 pub record KeepsPinnedFrom (cache : Cache) (behind : Option ℕ) (image : Image) : Type 0 where

@@ -1,7 +1,7 @@
 // What a cache keeps.
 ghost use Rattle.std.specs.Prelude.{◌≡◌, length};
 ghost use Rattle.blk_cache.specs.BoundNames.{AreBoundAmong};
-ghost use Rattle.blk_cache.specs.NameRoom.{name_room};
+ghost use Rattle.blk_items.specs.NameRoom.{name_room};
 
 use blk_disk::BlockFiles;
 use blk_handles::Handles;

@@ -20,15 +20,15 @@ ghost use Rattle.blk_object.specs.Making.{CanHaveNew};
 ghost use Rattle.blk_cache.specs.CacheKeeping.{KeepsState};
 ghost use Rattle.blk_cache.specs.CommandClauses.{IsRefused, KeepsAny, open_refusal};
 ghost use Rattle.blk_cache.specs.Creating.{CountsOneMore, HasRoomFor, IsReadyForSome, IsReadyToCreate, KeepsWithRoom, create_refusal};
-ghost use Rattle.blk_cache.specs.Looking.{IsLookDamage};
-ghost use Rattle.blk_cache.specs.RoomPrinting.{FailsWhereItRose};
+ghost use Rattle.blk_items.specs.Looking.{IsLookDamage};
+ghost use Rattle.blk_items.specs.RoomPrinting.{FailsWhereItRose};
 ghost use Rattle.blk_cache.specs.Stepping.{SaysEvicted, SaysFront};
 
 use crate::cache::Cache;
-use crate::looking::{Live, find_live};
 use crate::making_room::Room;
 use blk_addr::Addr;
 use blk_io::{Fault, Folder, Sink};
+use blk_items::{Live, find_live};
 use blk_model::{Answer, Refusal};
 use blk_object::make_entry;
 

@@ -20,10 +20,9 @@ ghost use Rattle.blk_cache.specs.CommandClauses.{IsRefused, KeepsAny};
 ghost use Rattle.blk_cache.specs.Dooming.{CountsDoomed, ForEachKept, ForEachOpen, doom_refusal};
 
 use crate::cache::Cache;
-use crate::dooming_objects::{Target, doom_named, doom_target, find_target};
-use crate::evicting_groups::is_no_key;
 use blk_addr::Addr;
 use blk_io::{Fault, Folder};
+use blk_items::{Target, doom_named, doom_target, find_target, is_no_key};
 use blk_model::{Answer, Refusal};
 use blk_sparse::Gone;
 

@@ -14,13 +14,12 @@ ghost use Rattle.blk_object.specs.RemovingObjects.{FindsEither};
 ghost use Rattle.blk_cache.specs.CacheKeeping.{KeepsState};
 ghost use Rattle.blk_cache.specs.CommandClauses.{KeepsAny};
 ghost use Rattle.blk_cache.specs.Evicting.{ForEachLast, IsEvicting, KeepsInPlaces, KeepsLastAt, OnlyItemsChange, count_of_groups, is_met};
-ghost use Rattle.blk_cache.specs.RoomPrinting.{FailsWhereItRose, Prints};
+ghost use Rattle.blk_items.specs.RoomPrinting.{FailsWhereItRose, Prints};
 
 use crate::cache::Cache;
-use crate::evicting_groups::evict_group;
 use crate::goal::Goal;
-use crate::room_search::Unpinned;
 use blk_io::{Fault, Folder, Sink};
+use blk_items::{Unpinned, evict_group};
 
 impl Cache {
     /// Evicts groups, each that of the last item that isn't pinned, until enough is evicted or each item is pinned, and

@@ -16,7 +16,7 @@ ghost use Rattle.blk_cache.specs.CacheKeeping.{KeepsState};
 ghost use Rattle.blk_cache.specs.CommandClauses.{KeepsAny};
 ghost use Rattle.blk_cache.specs.Evicting.{IsEvicting, OnlyItemsChange};
 ghost use Rattle.blk_cache.specs.MakingRoom.{says_full};
-ghost use Rattle.blk_cache.specs.RoomPrinting.{FailsWhereItRose, Prints};
+ghost use Rattle.blk_items.specs.RoomPrinting.{FailsWhereItRose, Prints};
 
 use crate::cache::Cache;
 use crate::goal::Goal;

@@ -15,10 +15,10 @@ ghost use Rattle.blk_cache.specs.CacheKeeping.{KeepsState};
 ghost use Rattle.blk_cache.specs.CommandClauses.{IsOpenDamage, IsRefused, KeepsAny, OnlyNamesChange, charged_with, open_refusal};
 
 use crate::cache::Cache;
-use crate::looking::{Live, find_live};
 use blk_addr::Addr;
 use blk_handles::NAMES;
 use blk_io::{Fault, Folder};
+use blk_items::{Live, find_live};
 use blk_lru::touch;
 use blk_model::{Answer, Refusal};
 use blk_ranges::LONGEST_KEY;

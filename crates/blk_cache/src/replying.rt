@@ -9,9 +9,8 @@ ghost use Rattle.blk_object.specs.FailedChecks.{IsFailedCheck};
 ghost use Rattle.blk_script.specs.Reply.{reply_text};
 ghost use Rattle.blk_cache.specs.CommandClauses.{KeepsAny};
 ghost use Rattle.blk_cache.specs.Listing.{OnlyRoomChanges};
-ghost use Rattle.blk_cache.specs.ReadPrinting.{PrintsInPart};
+ghost use Rattle.blk_items.specs.RoomPrinting.{FailsWhereItRose, Prints, PrintsInPart};
 ghost use Rattle.blk_cache.specs.Replying.{ForBytes, ForReply, ForRows, KeepsAfter};
-ghost use Rattle.blk_cache.specs.RoomPrinting.{FailsWhereItRose, Prints};
 
 use crate::cache::Cache;
 use blk_io::{Fault, Folder, Sink};

@@ -7,7 +7,7 @@ ghost use Rattle.blk_model.specs.State.{State};
 ghost use Rattle.blk_model.specs.Bounds.{bounds_of};
 ghost use Rattle.blk_handles.specs.Bindings.{open_count};
 ghost use Rattle.blk_cache.specs.CacheKeeping.{KeepsState};
-ghost use Rattle.blk_cache.specs.RoomLaws.{is_over};
+ghost use Rattle.blk_cache.specs.RoomTold.{is_over};
 
 use crate::cache::Cache;
 

@@ -13,7 +13,7 @@ ghost use Rattle.blk_kept.specs.Commands.{Does, ForKept, IsNoted, IsStepped, May
 ghost use Rattle.blk_object.specs.FailedChecks.{IsFailedCheck};
 ghost use Rattle.blk_cache.specs.CacheKeeping.{KeepsState};
 ghost use Rattle.blk_cache.specs.CommandClauses.{IsRefused, KeepsAny, OnlyNotesChange};
-ghost use Rattle.blk_cache.specs.RoomPrinting.{FailsWhereItRose};
+ghost use Rattle.blk_items.specs.RoomPrinting.{FailsWhereItRose};
 ghost use Rattle.blk_cache.specs.Stepping.{IfDone, IfSink, IfStepDamaged, IfStepDevice, IsPlain, SaysEvicted, SaysFront, evicted_first, outcome_text};
 
 use crate::cache::Cache;

@@ -2,15 +2,18 @@
 use Rattle.std.proofs.Common.{◌≡◌, ◌⊎◌, inl, inr, ℕ, List, [], ◌∷◌, refl, ap, sym, ◌∙◌, subst, Bool, true, false, Option, None, Some}
 use Rattle.std.specs.Prelude.{◌==◌, ◌&&◌, ◌||◌, filter, not, slice_index, if◌then◌else◌}
 use Rattle.std.specs.List.{AllByRecursion, cons_option}
+use Rattle.std.specs.Option.{ForSome}
 use Rattle.std.proofs.lemmas.Bool.{and_parts, cases_Bool, eq-eqb, eqb-true}
 use Rattle.blk_image.specs.Bytes.{words_at as words_in}
 use Rattle.blk_image.specs.Image.{AreBytes, Image}
+use Rattle.blk_image.specs.Told.{Told}
 use Rattle.blk_format.specs.Address.{blocks_256, external, is_address, kind_of}
 use Rattle.blk_format.specs.BlockFiles.{stands_in}
 use Rattle.blk_format.specs.Records.{entry_in}
 use Rattle.blk_format.specs.Sealed.{RecordChecks}
 use Rattle.blk_format.specs.Standing.{stands}
 use Rattle.blk_volume.specs.Entries.{stored_streams}
+use Rattle.blk_volume.specs.Found.{charge_of}
 use Rattle.blk_volume.specs.Layout.{rule_of}
 use Rattle.blk_volume.specs.Loads.{Loaded}
 use Rattle.blk_volume.specs.Sound.{words_of}
@@ -28,6 +31,8 @@ use Rattle.blk_entry.specs.Keys.{IsRecordHead}
 use Rattle.blk_kept.proofs.Groups as groups
 use Rattle.blk_object.specs.Freeing.{words_at}
 use Rattle.blk_object.specs.Owning.{KeptNodesLoad, LeftNodesLoad, LoadsWith, is_there}
+use Rattle.blk_object.specs.RemovingObjects.{IsOwnedBy}
+use Rattle.blk_object.specs.declared.owning.Owned.{Owned}
 
 -- ---- what lies at nodes
 
@@ -185,3 +190,8 @@ pub loaded-checks : (image : Image) (entry : ℕ) (loaded : Loaded) → AreBytes
 loaded-checks image entry loaded bytes with_record = load-then (store_of image) with_record.rule with_record.node loaded with_record.loads (λ n e f.
     let here : (store_of image).entry entry ≡ Some e = ap (store_of image).entry (sym with_record.contents ∙ f.facts.contents_is) ∙ f.entry in
     record_checks image entry bytes (standing-parts image blocks_256 entry (core-standing image entry e here)).1 (ap (λ (x : RecordFields). x.checks) (shown-fields image entry e here) ∙ f.checks))
+
+-- what was read of a record are its places and its charge
+pub owned-by : (told : Told) (entry : ℕ) (owned : Owned) → ForSome told.files (λ image. (loaded : Loaded) → LoadsWith entry loaded image → words_at owned.places ≡ words_of loaded) → ForSome told.files (λ image. (loaded : Loaded) → LoadsWith entry loaded image → owned.charge ≡ charge_of loaded)
+    → (image : Image) → told.files ≡ Some image → IsOwnedBy entry owned image
+owned-by told entry owned words charge image there = record { words = words image there; charge = charge image there }

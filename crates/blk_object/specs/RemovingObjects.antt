@@ -6,13 +6,18 @@ use Rattle.blk_model.specs.Holding.{rest}
 use Rattle.blk_model.specs.Items.{Item, main}
 use Rattle.blk_model.specs.State.{IsValidState, Object, State, is_named, object_at}
 use Rattle.blk_volume.specs.Layout.{Layout}
+use Rattle.blk_volume.specs.Found.{charge_of}
 use Rattle.blk_volume.specs.Loads.{Loaded}
 use Rattle.blk_volume.specs.Removal.{is_of_another, without_items}
+use Rattle.blk_volume.specs.Sound.{words_of}
 use Rattle.blk_kept.specs.Changes.{Finds}
 use Rattle.blk_kept.specs.Keeping.{CountsItems, Keeps, KeepsUncounted}
 use Rattle.blk_kept.specs.RemovalLaws.{IsWithout, layout_removed}
+use Rattle.blk_object.specs.Freeing.{words_at}
+use Rattle.blk_object.specs.Owning.{LoadsWith}
 use Rattle.blk_object.specs.Removing.{LiesBehind}
 use Rattle.blk_object.specs.Counters.{IsOneItemLess}
+use Rattle.blk_object.specs.declared.owning.Owned.{Owned}
 
 -- a state is left without an item, by its objects then and the items that stay; the item lies at this node with this record, which stands in its chain behind this one, or is the first
 pub record GoesAlone (state : State) (layout : Layout) (objects : List (Option Object)) (keep : Item → Bool) (item : Item) (node entry : ℕ) (before : Option ℕ) : Type 0 where
@@ -33,6 +38,11 @@ ForEachAlone node entry before from P =
     (state : State) (layout : Layout) (unlinked : List ℕ) (objects : List (Option Object)) (keep : Item → Bool) (item : Item)
     → Keeps state layout unlinked from → GoesAlone state layout objects keep item node entry before
     → P state (without_items state objects keep) layout unlinked
+
+-- the places and the charge that were read are those of what lies there with a record
+pub record IsOwnedBy (entry : ℕ) (owned : Owned) (image : Image) : Type 0 where
+  pub words : (loaded : Loaded) → LoadsWith entry loaded image → words_at owned.places ≡ words_of loaded
+  pub charge : (loaded : Loaded) → LoadsWith entry loaded image → owned.charge ≡ charge_of loaded
 
 -- what is at rest in one state is found, or what is at rest in another
 abbrev pub FindsEither : (state after : State) → Image → Type 0

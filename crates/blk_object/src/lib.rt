@@ -32,10 +32,10 @@ pub use ending::end_object;
 pub use finding_laws::left_items_are_found;
 pub use freeing::free_places;
 pub use freeing_laws::freed_words_are_gone;
-pub use listed_parts::{ListedPart, next_part};
+pub use listed_parts::{ListedPart, entry_named, next_part};
 pub use making::{Made, creates_can_have_new, make_entry};
 pub use marking::set_mark;
-pub use owning::{Owned, free_owned, read_owned};
+pub use owning::{Owned, charge_of_head, free_owned, read_owned};
 pub use owning_laws::entries_of_states_load;
 pub use removing::take_out;
 pub use removing_laws::{
@@ -43,7 +43,7 @@ pub use removing_laws::{
     taken_parts_are_out,
 };
 pub use removing_mains::take_main;
-pub use removing_objects::remove_item;
+pub use removing_objects::{remove_item, remove_read};
 pub use removing_parts::remove_part;
 pub use writing::write_object;
 pub use writing_laws::rises_are_counted;

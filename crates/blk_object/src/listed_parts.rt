@@ -139,8 +139,10 @@ fn part_at<F: Folder>(
     }
 }
 
-// The record that a node names, by one folder call.
-fn entry_named<F: Folder>(f: &mut F, files: &BlockFiles, node: Addr) -> Result<Addr, Fault>
+/// The record that a node names, by one folder call. Nothing is written.
+///
+/// A damage is a read that gave too few bytes, or a word that names no record which is there.
+pub fn entry_named<F: Folder>(f: &mut F, files: &BlockFiles, node: Addr) -> Result<Addr, Fault>
     requires node { IsTrue (is_node_among files.now node) }
     ensures entry { IfOk result (λ entry. ForSome (F.told f.old).files (λ image. entry ≡ (node_at image node).contents)) }
     ensures kind { IfOk result (λ entry. kind_of entry ≡ blocks_256) }

@@ -7,6 +7,7 @@ ghost use Rattle.blk_format.specs.Records.{entry_size};
 ghost use Rattle.blk_volume.specs.Found.{charge_of};
 ghost use Rattle.blk_volume.specs.Loads.{Loaded};
 ghost use Rattle.blk_volume.specs.Sound.{words_of};
+ghost use Rattle.blk_volume.specs.View.{entry_at};
 ghost use Rattle.blk_io.specs.Faults.{IfDamaged, IfDevice};
 ghost use Rattle.blk_disk.specs.Open.{IsOpen};
 ghost use Rattle.blk_disk.specs.Tables.{Agrees, stands_among};
@@ -21,16 +22,18 @@ use blk_entry::{Head, read_head, record_damage};
 use blk_io::{Fault, Folder};
 use blk_record::EntryView;
 
-/// What an entry has.
+/// What an entry has, by its record.
 #[derive(Clone, Copy, Debug)]
 pub struct Owned {
     /// The places of its node, its record, its long key and its three streams, in this order, where it has them.
     pub places: [Option<Addr>; 6],
     /// The bytes of its key and its streams.
     pub charge: u64,
+    /// The flags of its record.
+    pub flags: u32,
 }
 
-/// Reads which places an entry has, by its record: one folder call.
+/// Reads which places an entry has, and its flags, by its record: one folder call.
 ///
 /// A damage is a read that gave too few bytes, a record that doesn't check, or a word of it that is neither 0 nor an
 /// address which is there.
@@ -42,6 +45,7 @@ pub fn read_owned<F: Folder>(f: &mut F, files: &BlockFiles, entry: Addr) -> Resu
     ensures words { IfOk result (λ owned. ForSome (F.told f.old).files (λ image. (loaded : Loaded) → LoadsWith entry loaded image → words_at owned.places ≡ words_of loaded)) }
     ensures charge { IfOk result (λ owned. ForSome (F.told f.old).files (λ image. (loaded : Loaded) → LoadsWith entry loaded image → owned.charge ≡ charge_of loaded)) }
     ensures small { IfOk result (λ owned. owned.charge < 2 ^ 34) }
+    ensures flags { IfOk result (λ owned. ForSome (F.told f.old).files (λ image. owned.flags ≡ (entry_at image entry).flags)) }
     ensures there { IfOk result (λ owned. All (IsPlaceAmong files.now) owned.places) }
 
     ensures stays { Stays (F.told f.old) (F.told f.new) }
@@ -64,6 +68,7 @@ pub fn read_owned<F: Folder>(f: &mut F, files: &BlockFiles, entry: Addr) -> Resu
     Ok(Owned {
         places: [node, Some(entry), long_key, first, second, third],
         charge: charge_of_head(&head),
+        flags: head.flags,
     })
 }
 
@@ -91,8 +96,8 @@ pub fn free_owned<F: Folder>(f: &mut F, files: &BlockFiles, owned: &Owned) -> Re
     free_places(f, files, &owned.places)
 }
 
-// The bytes of the key and the streams of an entry.
-fn charge_of_head(head: &Head) -> u64
+/// The bytes of the key and the streams of an entry, by the words of its record.
+pub fn charge_of_head(head: &Head) -> u64
     ensures small { result < 2 ^ 34 }
     ensures charge { result ≡ head.now.key_len + slice_index head.now.sizes 0 + slice_index head.now.sizes 1 + slice_index head.now.sizes 2 }
 {

@@ -1,5 +1,5 @@
 // An item that goes alone is removed.
-ghost use Rattle.std.specs.Prelude.{◌≡◌, ◌≤◌, ◌<◌, ◌^◌, IfOk, IfSome, IsTrue, None, OnOk};
+ghost use Rattle.std.specs.Prelude.{◌≡◌, ◌≤◌, ◌<◌, ◌^◌, All, IfOk, IfSome, IsTrue, None, OnOk};
 ghost use Rattle.std.specs.Option.{ForSome};
 ghost use Rattle.blk_image.specs.Told.{Passes, Rises};
 ghost use Rattle.blk_format.specs.Address.{blocks_256, kind_of};
@@ -10,12 +10,13 @@ ghost use Rattle.blk_disk.specs.Open.{IsOpen};
 ghost use Rattle.blk_disk.specs.Tables.{is_node_among, stands_among};
 ghost use Rattle.blk_kept.specs.Changes.{SameSession};
 ghost use Rattle.blk_object.specs.FailedChecks.{IsFailedCheck};
+ghost use Rattle.blk_object.specs.Freeing.{IsPlaceAmong};
 ghost use Rattle.blk_object.specs.NextItems.{ForEachNext, IsGoingNext, IsOutUncounted};
 ghost use Rattle.blk_object.specs.Owning.{LoadsWith};
-ghost use Rattle.blk_object.specs.RemovingObjects.{FindsEither, ForEachAlone, IsGoneUncounted, IsRemovedWhole};
+ghost use Rattle.blk_object.specs.RemovingObjects.{FindsEither, ForEachAlone, IsGoneUncounted, IsOwnedBy, IsRemovedWhole};
 
 use crate::counters::count_less;
-use crate::owning::{free_owned, read_owned};
+use crate::owning::{Owned, free_owned, read_owned};
 use crate::removing::take_out;
 use blk_addr::Addr;
 use blk_chain::Found;
@@ -63,9 +64,50 @@ pub fn remove_item<F: Folder>(
     ensures later { F.faults f.old ≤ F.faults f.new }
     ensures device { IfDevice result (Rises (F.faults f.old) (F.faults f.new)) }
 {
-    let charge = take_away(f, files, found, node)?;
-    count_less(f, files, charge)?;
-    Ok(charge)
+    let owned = read_owned(f, files, found.entry)?;
+    remove_read(f, files, found, node, &owned)?;
+    Ok(owned.charge)
+}
+
+/// Removes an item that goes alone, as `remove_item`, where its places and its charge were read before: one folder call
+/// less.
+pub fn remove_read<F: Folder>(
+    f: &mut F,
+    files: &BlockFiles,
+    found: &Found,
+    node: Addr,
+    owned: &Owned,
+) -> Result<(), Fault>
+    requires node { IsTrue (is_node_among files.now node) }
+    requires kind { kind_of found.now.entry ≡ blocks_256 }
+    requires stands { IsTrue (stands_among files.now found.now.entry) }
+    requires kind_before { IfSome found.now.before (λ before. kind_of before ≡ blocks_256) }
+    requires stands_before { IfSome found.now.before (λ before. IsTrue (stands_among files.now before)) }
+    requires places { All (IsPlaceAmong files.now) owned.now.places }
+    requires small { owned.now.charge < 2 ^ 34 }
+    requires is_open { ForSome (F.told f.old).files (IsOpen files.now) }
+
+    // Where these are its places and its charge, and such an item lies there in a state that is kept and counted, the state without it is so in the end. At each word what was at rest is found, or what is at rest without it.
+    ensures removed { OnOk result (ForSome (F.told f.old).files (λ from. IsOwnedBy found.now.entry owned.now from → ForEachAlone node found.now.entry found.now.before from (λ state after layout unlinked. ForSome (F.told f.new).files (IsRemovedWhole after layout unlinked node found.now.entry)))) }
+    ensures stops { ForSome (F.told f.old).files (λ from. IsOwnedBy found.now.entry owned.now from → ForEachAlone node found.now.entry found.now.before from (λ state after layout unlinked. Passes (F.told f.old) (F.told f.new) (FindsEither state after))) }
+
+    // The session is the same then.
+    ensures session { OnOk result (ForSome (F.told f.old).files (λ from. IsOwnedBy found.now.entry owned.now from → ForEachAlone node found.now.entry found.now.before from (λ state after layout unlinked. ForSome (F.told f.new).files (SameSession from)))) }
+
+    ensures is_open { ForSome (F.told f.new).files (IsOpen files.now) }
+
+    // A damage is a check that fails on what is read here; nothing is written after it.
+    ensures damaged { IfDamaged result (IsFailedCheck files.now (F.told f.new)) }
+
+    // A folder that tells its files, with such an item in a state that is kept and counted, gives no damage.
+    ensures untold { ForSome (F.told f.old).files (λ from. IsOwnedBy found.now.entry owned.now from → ForEachAlone node found.now.entry found.now.before from (λ state after layout unlinked. IfDamaged result (λ _. (F.told f.old).files ≡ None))) }
+
+    ensures silent { (F.told f.old).files ≡ None → (F.told f.new).files ≡ None }
+    ensures later { F.faults f.old ≤ F.faults f.new }
+    ensures device { IfDevice result (Rises (F.faults f.old) (F.faults f.new)) }
+{
+    take_read(f, files, found, node, owned)?;
+    count_less(f, files, owned.charge)
 }
 
 // Takes an item out, and frees its places. Its charge is given.
@@ -95,8 +137,38 @@ pub(crate) fn take_away<F: Folder>(
     ensures later { F.faults f.old ≤ F.faults f.new }
     ensures device { IfDevice result (Rises (F.faults f.old) (F.faults f.new)) }
 {
-    let owned = read_owned(f, files, found.entry)?;
+    let read = read_owned(f, files, found.entry)?;
+    take_read(f, files, found, node, &read)?;
+    Ok(read.charge)
+}
+
+// Takes an item out, and frees its places, which were read before.
+fn take_read<F: Folder>(
+    f: &mut F,
+    files: &BlockFiles,
+    found: &Found,
+    node: Addr,
+    owned: &Owned,
+) -> Result<(), Fault>
+    requires node { IsTrue (is_node_among files.now node) }
+    requires kind { kind_of found.now.entry ≡ blocks_256 }
+    requires stands { IsTrue (stands_among files.now found.now.entry) }
+    requires kind_before { IfSome found.now.before (λ before. kind_of before ≡ blocks_256) }
+    requires stands_before { IfSome found.now.before (λ before. IsTrue (stands_among files.now before)) }
+    requires places { All (IsPlaceAmong files.now) owned.now.places }
+    requires is_open { ForSome (F.told f.old).files (IsOpen files.now) }
+    ensures gone { OnOk result (ForSome (F.told f.old).files (λ from. IsOwnedBy found.now.entry owned.now from → ForEachAlone node found.now.entry found.now.before from (λ state after layout unlinked. ForSome (F.told f.new).files (IsGoneUncounted state after layout unlinked node found.now.entry owned.now.charge)))) }
+    ensures stops { ForSome (F.told f.old).files (λ from. IsOwnedBy found.now.entry owned.now from → ForEachAlone node found.now.entry found.now.before from (λ state after layout unlinked. Passes (F.told f.old) (F.told f.new) (FindsEither state after))) }
+    ensures out { OnOk result (ForSome (F.told f.old).files (λ from. IsOwnedBy found.now.entry owned.now from → ForEachNext node found.now.entry found.now.before from (λ state layout keep chains unlinked item. ForSome (F.told f.new).files (IsOutUncounted state layout keep chains unlinked item found.now.entry owned.now.charge from)))) }
+    ensures going { ForSome (F.told f.old).files (λ from. IsOwnedBy found.now.entry owned.now from → ForEachNext node found.now.entry found.now.before from (λ state layout keep chains unlinked item. Passes (F.told f.old) (F.told f.new) (IsGoingNext state layout keep chains unlinked item node found.now.entry found.now.before from))) }
+    ensures is_open { ForSome (F.told f.new).files (IsOpen files.now) }
+    ensures damaged { IfDamaged result (IsFailedCheck files.now (F.told f.new)) }
+    ensures untold { ForSome (F.told f.old).files (λ from. IsOwnedBy found.now.entry owned.now from → ForEachAlone node found.now.entry found.now.before from (λ state after layout unlinked. IfDamaged result (λ _. (F.told f.old).files ≡ None))) }
+    ensures untold_out { ForSome (F.told f.old).files (λ from. IsOwnedBy found.now.entry owned.now from → ForEachNext node found.now.entry found.now.before from (λ state layout keep chains unlinked item. IfDamaged result (λ _. (F.told f.old).files ≡ None))) }
+    ensures silent { (F.told f.old).files ≡ None → (F.told f.new).files ≡ None }
+    ensures later { F.faults f.old ≤ F.faults f.new }
+    ensures device { IfDevice result (Rises (F.faults f.old) (F.faults f.new)) }
+{
     take_out(f, files, found, node)?;
-    free_owned(f, files, &owned)?;
-    Ok(owned.charge)
+    free_owned(f, files, owned)
 }

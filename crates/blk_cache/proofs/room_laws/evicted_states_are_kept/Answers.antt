@@ -1,5 +1,4 @@
-use Rattle.blk_cache.proofs.RoomApart.{lie-apart, whole-apart}
-use Rattle.blk_cache.proofs.RoomKept.{evicted-kept}
+use Rattle.blk_cache.proofs.RoomKept.{evicted-kept, lie-apart, whole-apart}
 use Rattle.blk_cache.proofs.room_laws.evicted_states_are_kept.Goals as goal
 
 pub returns : goal.returns

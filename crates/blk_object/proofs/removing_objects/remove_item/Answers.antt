@@ -1,46 +1,47 @@
-use Rattle.std.proofs.Common.{◌≡◌, ◌%◌, None, true}
-use Rattle.std.specs.Prelude.{◌^◌}
-use Rattle.blk_io.proofs.Carried.{carried, if_damaged_weaker}
-use Rattle.blk_kept.proofs.PartlyOut.{kept-begin}
-use Rattle.blk_model.specs.Items.{Item}
+use Rattle.std.proofs.Common.{◌≡◌, ◌∙◌, None, sym, subst}
+use Rattle.std.specs.Option.{ForSome}
+use Rattle.blk_image.specs.Told.{Told}
+use Rattle.blk_image.proofs.Runs.{passes_none, passes_stayed, some_inj}
+use Rattle.blk_io.specs.Faults.{IfDamaged}
+use Rattle.blk_io.proofs.Carried.{carried}
+use Rattle.blk_lru.proofs.Conditions.{told_now}
+use Rattle.blk_disk.specs.Open.{IsOpen}
 use Rattle.blk_volume.specs.Removal.{without_items}
 use Rattle.blk_object.specs.RemovingObjects.{FindsEither}
-use Rattle.blk_object.proofs.GoingNext.{behind-next}
-use Rattle.blk_object.proofs.RemovedObjects.{counting-removed, counting-stops, counting-told}
-use Rattle.blk_object.proofs.Sessions.{counted-then}
+use Rattle.blk_object.proofs.OwnedPlaces.{owned-by}
+use Rattle.blk_object.proofs.RemovedObjects.{item-found}
 use Rattle.blk_object.proofs.removing_objects.remove_item.Goals as goal
 
-pub returns-in_err-charge-clause-untold : goal.returns-in_err-charge-clause-untold
-returns-in_err-charge-clause-untold g c from there state layout unlinked objects keep item k p =
-    carried c.take_away.result c.from_residual.result c.in_err-charge.field-0.0 (λ _. (g.F.Folder.told c.args.f.now).files ≡ None) c.in_err-charge.was c.from_residual.ensures.1
-    (c.take_away.ensures.untold from there state layout unlinked objects keep item k p)
+pub returns-in_err-owned-clause-stops : goal.returns-in_err-owned-clause-stops
+returns-in_err-owned-clause-stops g c from there state layout unlinked objects keep item k p =
+    passes_none (FindsEither state (without_items state objects keep)) c.in_err-owned.ensures.stays
+    (λ image is. subst (FindsEither state (without_items state objects keep)) (some_inj (sym there ∙ is)) (item-found state layout unlinked objects keep item c.args.node c.args.found.now.entry c.args.found.now.before from k p))
 
-pub returns-in_err-count_less-clause-stops : goal.returns-in_err-count_less-clause-stops
-returns-in_err-count_less-clause-stops g c from there state layout unlinked objects keep item k p =
-    counting-stops (g.F.Folder.told c.args.f.now) (g.F.Folder.told c.take_away.new.f) (g.F.Folder.told c.count_less.new.f) state (without_items state objects keep) layout unlinked c.args.node c.args.found.now.entry c.in_ok-charge.charge from there
-    (c.in_ok-charge.ensures.stops from there state layout unlinked objects keep item k p) (c.in_ok-charge.ensures.gone from there state layout unlinked objects keep item k p) c.in_err-count_less.ensures.stops
+pub returns-in_err-owned-clause-is_open : goal.returns-in_err-owned-clause-is_open
+returns-in_err-owned-clause-is_open g c = subst (λ (t : Told). ForSome t.files (IsOpen c.args.files.now)) (sym c.in_err-owned.ensures.stays) c.requires.is_open
 
-pub returns-in_err-count_less-clause-untold : goal.returns-in_err-count_less-clause-untold
-returns-in_err-count_less-clause-untold g c from there state layout unlinked objects keep item k p =
-    carried c.count_less.result c.from_residual-in_err-count_less.result c.in_err-count_less.field-0.0 (λ _. (g.F.Folder.told c.args.f.now).files ≡ None) c.in_err-count_less.was c.from_residual-in_err-count_less.ensures.1
-    (if_damaged_weaker c.count_less.result _ _ (λ damage none.
-    counting-told (g.F.Folder.told c.args.f.now) (g.F.Folder.told c.take_away.new.f) (g.F.Folder.told c.count_less.new.f) state (without_items state objects keep) layout unlinked c.args.node c.args.found.now.entry c.in_ok-charge.charge from there
-    (c.in_ok-charge.ensures.stops from there state layout unlinked objects keep item k p) (c.in_ok-charge.ensures.gone from there state layout unlinked objects keep item k p) none)
-    c.count_less.ensures.untold)
+pub remove_read-requires-clause-is_open : goal.remove_read-requires-clause-is_open
+remove_read-requires-clause-is_open g c =
+    subst (λ (t : Told). ForSome t.files (IsOpen c.args.files.now)) (sym c.in_ok-owned.ensures.stays) c.requires.is_open
+
+pub returns-in_err-remove_read-clause-stops : goal.returns-in_err-remove_read-clause-stops
+returns-in_err-remove_read-clause-stops g c from there state layout unlinked objects keep item k p =
+    passes_stayed c.in_ok-owned.ensures.stays (c.in_err-remove_read.ensures.stops from (told_now from c.in_ok-owned.ensures.stays there) (owned-by (g.F.Folder.told c.args.f.now) c.args.found.now.entry c.in_ok-owned.owned c.in_ok-owned.ensures.words c.in_ok-owned.ensures.charge from there) state layout unlinked objects keep item k p)
+
+pub returns-in_err-remove_read-clause-untold : goal.returns-in_err-remove_read-clause-untold
+returns-in_err-remove_read-clause-untold g c from there state layout unlinked objects keep item k p =
+    subst (λ (t : Told). IfDamaged c.from_residual-in_err-remove_read.result (λ _. t.files ≡ None)) c.in_ok-owned.ensures.stays
+    (carried c.remove_read.result c.from_residual-in_err-remove_read.result c.in_err-remove_read.field-0.0 (λ _. (g.F.Folder.told c.read_owned.new.f).files ≡ None) c.in_err-remove_read.was c.from_residual-in_err-remove_read.ensures.1
+    (c.remove_read.ensures.untold from (told_now from c.in_ok-owned.ensures.stays there) (owned-by (g.F.Folder.told c.args.f.now) c.args.found.now.entry c.in_ok-owned.owned c.in_ok-owned.ensures.words c.in_ok-owned.ensures.charge from there) state layout unlinked objects keep item k p))
 
 pub returns-clause-removed : goal.returns-clause-removed
 returns-clause-removed g c from there state layout unlinked objects keep item k p =
-    counting-removed (g.F.Folder.told c.args.f.now) (g.F.Folder.told c.take_away.new.f) (g.F.Folder.told c.count_less.new.f) state (without_items state objects keep) layout unlinked c.args.node c.args.found.now.entry c.in_ok-charge.charge from there
-    (c.in_ok-charge.ensures.stops from there state layout unlinked objects keep item k p) (c.in_ok-charge.ensures.gone from there state layout unlinked objects keep item k p) c.in_ok-count_less.ensures.counted
+    c.in_ok-remove_read.ensures.removed from (told_now from c.in_ok-owned.ensures.stays there) (owned-by (g.F.Folder.told c.args.f.now) c.args.found.now.entry c.in_ok-owned.owned c.in_ok-owned.ensures.words c.in_ok-owned.ensures.charge from there) state layout unlinked objects keep item k p
 
 pub returns-clause-stops : goal.returns-clause-stops
 returns-clause-stops g c from there state layout unlinked objects keep item k p =
-    counting-stops (g.F.Folder.told c.args.f.now) (g.F.Folder.told c.take_away.new.f) (g.F.Folder.told c.count_less.new.f) state (without_items state objects keep) layout unlinked c.args.node c.args.found.now.entry c.in_ok-charge.charge from there
-    (c.in_ok-charge.ensures.stops from there state layout unlinked objects keep item k p) (c.in_ok-charge.ensures.gone from there state layout unlinked objects keep item k p) c.in_ok-count_less.ensures.stops
+    passes_stayed c.in_ok-owned.ensures.stays (c.in_ok-remove_read.ensures.stops from (told_now from c.in_ok-owned.ensures.stays there) (owned-by (g.F.Folder.told c.args.f.now) c.args.found.now.entry c.in_ok-owned.owned c.in_ok-owned.ensures.words c.in_ok-owned.ensures.charge from there) state layout unlinked objects keep item k p)
 
 pub returns-clause-session : goal.returns-clause-session
 returns-clause-session g c from there state layout unlinked objects keep item k p =
-    counted-then (g.F.Folder.told c.args.f.now) (g.F.Folder.told c.take_away.new.f) (g.F.Folder.told c.count_less.new.f) from (FindsEither state (without_items state objects keep)) (c.in_ok-charge.charge % 2 ^ 32) there (c.in_ok-charge.ensures.stops from there state layout unlinked objects keep item k p)
-    (λ image is. (c.in_ok-charge.ensures.out from there state layout (λ (other : Item). true) layout.chains unlinked item (kept-begin state layout unlinked from k.entries)
-    (behind-next state layout item p.was c.args.node c.args.found.now.entry c.args.found.now.before p.lies p.node_is p.entry_is) image is).session)
-    c.in_ok-count_less.ensures.counted
+    c.in_ok-remove_read.ensures.session from (told_now from c.in_ok-owned.ensures.stays there) (owned-by (g.F.Folder.told c.args.f.now) c.args.found.now.entry c.in_ok-owned.owned c.in_ok-owned.ensures.words c.in_ok-owned.ensures.charge from there) state layout unlinked objects keep item k p

@@ -1,108 +1,73 @@
-use Rattle.std.proofs.Common.{inl, ◌≡◌, ◌∙◌, None, Some, Option, ap, sym, subst}
+use Rattle.std.proofs.Common.{inl, ◌≡◌, ◌∙◌, None, sym, subst}
 use Rattle.std.specs.Option.{ForSome}
 use Rattle.blk_image.specs.Told.{Told}
-use Rattle.blk_image.proofs.Runs.{passes_none, some_inj}
-use Rattle.blk_io.proofs.Carried.{carried, if_damaged_weaker}
+use Rattle.blk_image.proofs.Runs.{passes_none, passes_stayed, some_inj}
+use Rattle.blk_io.specs.Faults.{IfDamaged}
+use Rattle.blk_io.proofs.Carried.{carried}
+use Rattle.blk_lru.proofs.Conditions.{told_now}
 use Rattle.blk_disk.specs.Open.{IsOpen}
-use Rattle.blk_object.specs.Freeing.{AreFreeable, words_at}
 use Rattle.blk_object.specs.Owning.{LoadsWith}
-use Rattle.blk_object.specs.Removing.{MayGoOut}
 use Rattle.blk_volume.specs.Removal.{without_items}
 use Rattle.blk_object.specs.RemovingObjects.{FindsEither}
 use Rattle.blk_object.specs.NextItems.{IsGoingNext}
-use Rattle.blk_object.proofs.GoingNext.{next-freeing, next-loads, next-may-go, next-on, next-out, next-taking, next-they-may}
-use Rattle.blk_object.proofs.RemovedObjects.{freed-gone, freeing-stops, item-found, item-loads, item-may-go, on, taking-stops, they-may}
+use Rattle.blk_object.proofs.GoingNext.{next-loads}
+use Rattle.blk_object.proofs.OwnedPlaces.{owned-by}
+use Rattle.blk_object.proofs.RemovedObjects.{item-found}
 use Rattle.blk_object.proofs.removing_objects.take_away.Goals as goal
 
-some-none : {A : Type 0} {x : A} → ◌≡◌ {A = Option A} (Some x) None → ⊥
-some-none e = cc
-
-pub returns-in_err-owned-clause-stops : goal.returns-in_err-owned-clause-stops
-returns-in_err-owned-clause-stops g c from there state layout unlinked objects keep item k p =
-    passes_none (FindsEither state (without_items state objects keep)) c.in_err-owned.ensures.stays
+pub returns-in_err-read-clause-stops : goal.returns-in_err-read-clause-stops
+returns-in_err-read-clause-stops g c from there state layout unlinked objects keep item k p =
+    passes_none (FindsEither state (without_items state objects keep)) c.in_err-read.ensures.stays
     (λ image is. subst (FindsEither state (without_items state objects keep)) (some_inj (sym there ∙ is)) (item-found state layout unlinked objects keep item c.args.node c.args.found.now.entry c.args.found.now.before from k p))
 
-pub returns-in_err-owned-clause-is_open : goal.returns-in_err-owned-clause-is_open
-returns-in_err-owned-clause-is_open g c = subst (λ (t : Told). ForSome t.files (IsOpen c.args.files.now)) (sym c.in_err-owned.ensures.stays) c.requires.is_open
+pub returns-in_err-read-clause-is_open : goal.returns-in_err-read-clause-is_open
+returns-in_err-read-clause-is_open g c = subst (λ (t : Told). ForSome t.files (IsOpen c.args.files.now)) (sym c.in_err-read.ensures.stays) c.requires.is_open
 
-pub take_out-requires-clause-is_open : goal.take_out-requires-clause-is_open
-take_out-requires-clause-is_open g c = subst (λ (t : Told). ForSome t.files (IsOpen c.args.files.now)) (sym c.in_ok-owned.ensures.stays) c.requires.is_open
+pub returns-in_err-read-clause-going : goal.returns-in_err-read-clause-going
+returns-in_err-read-clause-going g c from there state layout keep chains unlinked item k p =
+    passes_none (IsGoingNext state layout keep chains unlinked item c.args.node c.args.found.now.entry c.args.found.now.before from) c.in_err-read.ensures.stays (λ image is. inl (some_inj (sym is ∙ there)))
 
-pub returns-in_err-take_out-clause-stops : goal.returns-in_err-take_out-clause-stops
-returns-in_err-take_out-clause-stops g c from there state layout unlinked objects keep item k p =
-    taking-stops (g.F.Folder.told c.args.f.now) (g.F.Folder.told c.read_owned.new.f) (g.F.Folder.told c.take_out.new.f) c.in_ok-owned.ensures.stays state layout unlinked objects keep item c.args.node c.args.found.now.entry c.args.found.now.before from there k p c.in_err-take_out.ensures.stops
+pub returns-in_err-read-clause-untold_out : goal.returns-in_err-read-clause-untold_out
+returns-in_err-read-clause-untold_out g c from there state layout keep chains unlinked item k p =
+    carried c.read_owned.result c.from_residual.result c.in_err-read.field-0.0 (λ _. (g.F.Folder.told c.args.f.now).files ≡ None) c.in_err-read.was c.from_residual.ensures.1
+    (c.read_owned.ensures.untold (λ image is. (c.requires.is_open image is).agrees) (λ image is. (p.was, subst (LoadsWith c.args.found.now.entry p.was) (some_inj (sym there ∙ is)) (next-loads state layout keep chains unlinked item c.args.node c.args.found.now.entry c.args.found.now.before from k p))))
 
-pub returns-in_err-take_out-clause-untold : goal.returns-in_err-take_out-clause-untold
-returns-in_err-take_out-clause-untold g c from there state layout unlinked objects keep item k p =
-    carried c.take_out.result c.from_residual-in_err-take_out.result c.in_err-take_out.field-0.0 (λ _. (g.F.Folder.told c.args.f.now).files ≡ None) c.in_err-take_out.was c.from_residual-in_err-take_out.ensures.1
-    (if_damaged_weaker c.take_out.result _ _ (λ damage none. ap (λ (t : Told). t.files) (sym c.in_ok-owned.ensures.stays) ∙ none)
-    (c.take_out.ensures.untold (λ image is. subst (MayGoOut c.args.node c.args.found.now.entry c.args.found.now.before) (some_inj (sym there ∙ ap (λ (t : Told). t.files) (sym c.in_ok-owned.ensures.stays) ∙ is)) (item-may-go state layout unlinked objects keep item c.args.node c.args.found.now.entry c.args.found.now.before from k p))))
+pub take_read-requires-clause-is_open : goal.take_read-requires-clause-is_open
+take_read-requires-clause-is_open g c =
+    subst (λ (t : Told). ForSome t.files (IsOpen c.args.files.now)) (sym c.in_ok-read.ensures.stays) c.requires.is_open
 
-pub returns-in_err-free_owned-clause-stops : goal.returns-in_err-free_owned-clause-stops
-returns-in_err-free_owned-clause-stops g c from there state layout unlinked objects keep item k p =
-    freeing-stops (g.F.Folder.told c.args.f.now) (g.F.Folder.told c.read_owned.new.f) (g.F.Folder.told c.take_out.new.f) c.in_ok-owned.ensures.stays state layout unlinked objects keep item c.args.node c.args.found.now.entry c.args.found.now.before from there k p c.in_ok-take_out.ensures.stops
-    (g.F.Folder.told c.free_owned.new.f) (words_at c.in_ok-owned.owned.places) (c.in_ok-owned.ensures.words from there p.was (item-loads state layout unlinked objects keep item c.args.node c.args.found.now.entry c.args.found.now.before from k p)) c.in_ok-take_out.ensures.taken c.in_err-free_owned.ensures.stops
+pub returns-in_err-take_read-clause-stops : goal.returns-in_err-take_read-clause-stops
+returns-in_err-take_read-clause-stops g c from there state layout unlinked objects keep item k p =
+    passes_stayed c.in_ok-read.ensures.stays (c.in_err-take_read.ensures.stops from (told_now from c.in_ok-read.ensures.stays there) (owned-by (g.F.Folder.told c.args.f.now) c.args.found.now.entry c.in_ok-read.read c.in_ok-read.ensures.words c.in_ok-read.ensures.charge from there) state layout unlinked objects keep item k p)
 
-pub returns-in_err-free_owned-clause-untold : goal.returns-in_err-free_owned-clause-untold
-returns-in_err-free_owned-clause-untold g c from there state layout unlinked objects keep item k p =
-    let mid = on (g.F.Folder.told c.args.f.now) (g.F.Folder.told c.read_owned.new.f) (g.F.Folder.told c.take_out.new.f) c.in_ok-owned.ensures.stays state layout unlinked objects keep item c.args.node c.args.found.now.entry c.args.found.now.before from there k p c.in_ok-take_out.ensures.stops in
-    carried c.free_owned.result c.from_residual-in_err-free_owned.result c.in_err-free_owned.field-0.0 (λ _. (g.F.Folder.told c.args.f.now).files ≡ None) c.in_err-free_owned.was c.from_residual-in_err-free_owned.ensures.1
-    (if_damaged_weaker c.free_owned.result _ _ (λ damage none. absurd (some-none (sym mid.is ∙ none)))
-    (c.free_owned.ensures.untold (λ image is. subst (AreFreeable (words_at c.in_ok-owned.owned.places)) (some_inj (sym mid.is ∙ is))
-    (they-may (g.F.Folder.told c.args.f.now) (g.F.Folder.told c.read_owned.new.f) (g.F.Folder.told c.take_out.new.f) c.in_ok-owned.ensures.stays state layout unlinked objects keep item c.args.node c.args.found.now.entry c.args.found.now.before from there k p c.in_ok-take_out.ensures.stops
-    (g.F.Folder.told c.free_owned.new.f) (words_at c.in_ok-owned.owned.places) (c.in_ok-owned.ensures.words from there p.was (item-loads state layout unlinked objects keep item c.args.node c.args.found.now.entry c.args.found.now.before from k p)) c.in_ok-take_out.ensures.taken))))
+pub returns-in_err-take_read-clause-untold : goal.returns-in_err-take_read-clause-untold
+returns-in_err-take_read-clause-untold g c from there state layout unlinked objects keep item k p =
+    subst (λ (t : Told). IfDamaged c.from_residual-in_err-take_read.result (λ _. t.files ≡ None)) c.in_ok-read.ensures.stays
+    (carried c.take_read.result c.from_residual-in_err-take_read.result c.in_err-take_read.field-0.0 (λ _. (g.F.Folder.told c.read_owned.new.f).files ≡ None) c.in_err-take_read.was c.from_residual-in_err-take_read.ensures.1
+    (c.take_read.ensures.untold from (told_now from c.in_ok-read.ensures.stays there) (owned-by (g.F.Folder.told c.args.f.now) c.args.found.now.entry c.in_ok-read.read c.in_ok-read.ensures.words c.in_ok-read.ensures.charge from there) state layout unlinked objects keep item k p))
+
+pub returns-in_err-take_read-clause-going : goal.returns-in_err-take_read-clause-going
+returns-in_err-take_read-clause-going g c from there state layout keep chains unlinked item k p =
+    passes_stayed c.in_ok-read.ensures.stays (c.in_err-take_read.ensures.going from (told_now from c.in_ok-read.ensures.stays there) (owned-by (g.F.Folder.told c.args.f.now) c.args.found.now.entry c.in_ok-read.read c.in_ok-read.ensures.words c.in_ok-read.ensures.charge from there) state layout keep chains unlinked item k p)
+
+pub returns-in_err-take_read-clause-untold_out : goal.returns-in_err-take_read-clause-untold_out
+returns-in_err-take_read-clause-untold_out g c from there state layout keep chains unlinked item k p =
+    subst (λ (t : Told). IfDamaged c.from_residual-in_err-take_read.result (λ _. t.files ≡ None)) c.in_ok-read.ensures.stays
+    (carried c.take_read.result c.from_residual-in_err-take_read.result c.in_err-take_read.field-0.0 (λ _. (g.F.Folder.told c.read_owned.new.f).files ≡ None) c.in_err-take_read.was c.from_residual-in_err-take_read.ensures.1
+    (c.take_read.ensures.untold_out from (told_now from c.in_ok-read.ensures.stays there) (owned-by (g.F.Folder.told c.args.f.now) c.args.found.now.entry c.in_ok-read.read c.in_ok-read.ensures.words c.in_ok-read.ensures.charge from there) state layout keep chains unlinked item k p))
 
 pub returns-clause-gone : goal.returns-clause-gone
 returns-clause-gone g c from there state layout unlinked objects keep item k p =
-    freed-gone (g.F.Folder.told c.args.f.now) (g.F.Folder.told c.read_owned.new.f) (g.F.Folder.told c.take_out.new.f) c.in_ok-owned.ensures.stays state layout unlinked objects keep item c.args.node c.args.found.now.entry c.args.found.now.before from there k p c.in_ok-take_out.ensures.stops
-    (g.F.Folder.told c.free_owned.new.f) (words_at c.in_ok-owned.owned.places) (c.in_ok-owned.ensures.words from there p.was (item-loads state layout unlinked objects keep item c.args.node c.args.found.now.entry c.args.found.now.before from k p)) c.in_ok-take_out.ensures.taken
-    c.in_ok-free_owned.ensures.freed c.in_ok-owned.owned.charge (c.in_ok-owned.ensures.charge from there p.was (item-loads state layout unlinked objects keep item c.args.node c.args.found.now.entry c.args.found.now.before from k p))
+    c.in_ok-take_read.ensures.gone from (told_now from c.in_ok-read.ensures.stays there) (owned-by (g.F.Folder.told c.args.f.now) c.args.found.now.entry c.in_ok-read.read c.in_ok-read.ensures.words c.in_ok-read.ensures.charge from there) state layout unlinked objects keep item k p
 
 pub returns-clause-stops : goal.returns-clause-stops
 returns-clause-stops g c from there state layout unlinked objects keep item k p =
-    freeing-stops (g.F.Folder.told c.args.f.now) (g.F.Folder.told c.read_owned.new.f) (g.F.Folder.told c.take_out.new.f) c.in_ok-owned.ensures.stays state layout unlinked objects keep item c.args.node c.args.found.now.entry c.args.found.now.before from there k p c.in_ok-take_out.ensures.stops
-    (g.F.Folder.told c.free_owned.new.f) (words_at c.in_ok-owned.owned.places) (c.in_ok-owned.ensures.words from there p.was (item-loads state layout unlinked objects keep item c.args.node c.args.found.now.entry c.args.found.now.before from k p)) c.in_ok-take_out.ensures.taken c.in_ok-free_owned.ensures.stops
-
-pub returns-in_err-owned-clause-going : goal.returns-in_err-owned-clause-going
-returns-in_err-owned-clause-going g c from there state layout keep chains unlinked item k p =
-    passes_none (IsGoingNext state layout keep chains unlinked item c.args.node c.args.found.now.entry c.args.found.now.before from) c.in_err-owned.ensures.stays (λ image is. inl (some_inj (sym is ∙ there)))
-
-pub returns-in_err-take_out-clause-going : goal.returns-in_err-take_out-clause-going
-returns-in_err-take_out-clause-going g c from there state layout keep chains unlinked item k p =
-    next-taking (g.F.Folder.told c.args.f.now) (g.F.Folder.told c.read_owned.new.f) (g.F.Folder.told c.take_out.new.f) c.in_ok-owned.ensures.stays state layout keep chains unlinked item c.args.node c.args.found.now.entry c.args.found.now.before from there k p c.in_err-take_out.ensures.stops
-
-pub returns-in_err-take_out-clause-untold_out : goal.returns-in_err-take_out-clause-untold_out
-returns-in_err-take_out-clause-untold_out g c from there state layout keep chains unlinked item k p =
-    carried c.take_out.result c.from_residual-in_err-take_out.result c.in_err-take_out.field-0.0 (λ _. (g.F.Folder.told c.args.f.now).files ≡ None) c.in_err-take_out.was c.from_residual-in_err-take_out.ensures.1
-    (if_damaged_weaker c.take_out.result _ _ (λ damage none. ap (λ (t : Told). t.files) (sym c.in_ok-owned.ensures.stays) ∙ none)
-    (c.take_out.ensures.untold (λ image is. subst (MayGoOut c.args.node c.args.found.now.entry c.args.found.now.before) (some_inj (sym there ∙ ap (λ (t : Told). t.files) (sym c.in_ok-owned.ensures.stays) ∙ is)) (next-may-go state layout keep chains unlinked item c.args.node c.args.found.now.entry c.args.found.now.before from k p))))
-
-pub returns-in_err-free_owned-clause-going : goal.returns-in_err-free_owned-clause-going
-returns-in_err-free_owned-clause-going g c from there state layout keep chains unlinked item k p =
-    next-freeing (g.F.Folder.told c.args.f.now) (g.F.Folder.told c.read_owned.new.f) (g.F.Folder.told c.take_out.new.f) c.in_ok-owned.ensures.stays state layout keep chains unlinked item c.args.node c.args.found.now.entry c.args.found.now.before from there k p c.in_ok-take_out.ensures.stops
-    (g.F.Folder.told c.free_owned.new.f) (words_at c.in_ok-owned.owned.places) (c.in_ok-owned.ensures.words from there p.was (next-loads state layout keep chains unlinked item c.args.node c.args.found.now.entry c.args.found.now.before from k p)) c.in_ok-take_out.ensures.taken c.in_err-free_owned.ensures.stops
-
-pub returns-in_err-free_owned-clause-untold_out : goal.returns-in_err-free_owned-clause-untold_out
-returns-in_err-free_owned-clause-untold_out g c from there state layout keep chains unlinked item k p =
-    let mid = next-on (g.F.Folder.told c.args.f.now) (g.F.Folder.told c.read_owned.new.f) (g.F.Folder.told c.take_out.new.f) c.in_ok-owned.ensures.stays state layout keep chains unlinked item c.args.node c.args.found.now.entry c.args.found.now.before from there k p c.in_ok-take_out.ensures.stops in
-    carried c.free_owned.result c.from_residual-in_err-free_owned.result c.in_err-free_owned.field-0.0 (λ _. (g.F.Folder.told c.args.f.now).files ≡ None) c.in_err-free_owned.was c.from_residual-in_err-free_owned.ensures.1
-    (if_damaged_weaker c.free_owned.result _ _ (λ damage none. absurd (some-none (sym mid.is ∙ none)))
-    (c.free_owned.ensures.untold (λ image is. subst (AreFreeable (words_at c.in_ok-owned.owned.places)) (some_inj (sym mid.is ∙ is))
-    (next-they-may (g.F.Folder.told c.args.f.now) (g.F.Folder.told c.read_owned.new.f) (g.F.Folder.told c.take_out.new.f) c.in_ok-owned.ensures.stays state layout keep chains unlinked item c.args.node c.args.found.now.entry c.args.found.now.before from there k p c.in_ok-take_out.ensures.stops
-    (g.F.Folder.told c.free_owned.new.f) (words_at c.in_ok-owned.owned.places) (c.in_ok-owned.ensures.words from there p.was (next-loads state layout keep chains unlinked item c.args.node c.args.found.now.entry c.args.found.now.before from k p)) c.in_ok-take_out.ensures.taken))))
+    passes_stayed c.in_ok-read.ensures.stays (c.in_ok-take_read.ensures.stops from (told_now from c.in_ok-read.ensures.stays there) (owned-by (g.F.Folder.told c.args.f.now) c.args.found.now.entry c.in_ok-read.read c.in_ok-read.ensures.words c.in_ok-read.ensures.charge from there) state layout unlinked objects keep item k p)
 
 pub returns-clause-out : goal.returns-clause-out
 returns-clause-out g c from there state layout keep chains unlinked item k p =
-    next-out (g.F.Folder.told c.args.f.now) (g.F.Folder.told c.read_owned.new.f) (g.F.Folder.told c.take_out.new.f) c.in_ok-owned.ensures.stays state layout keep chains unlinked item c.args.node c.args.found.now.entry c.args.found.now.before from there k p c.in_ok-take_out.ensures.stops
-    (g.F.Folder.told c.free_owned.new.f) (words_at c.in_ok-owned.owned.places) (c.in_ok-owned.ensures.words from there p.was (next-loads state layout keep chains unlinked item c.args.node c.args.found.now.entry c.args.found.now.before from k p)) c.in_ok-take_out.ensures.taken
-    c.in_ok-free_owned.ensures.freed c.in_ok-owned.owned.charge (c.in_ok-owned.ensures.charge from there p.was (next-loads state layout keep chains unlinked item c.args.node c.args.found.now.entry c.args.found.now.before from k p))
+    c.in_ok-take_read.ensures.out from (told_now from c.in_ok-read.ensures.stays there) (owned-by (g.F.Folder.told c.args.f.now) c.args.found.now.entry c.in_ok-read.read c.in_ok-read.ensures.words c.in_ok-read.ensures.charge from there) state layout keep chains unlinked item k p
 
 pub returns-clause-going : goal.returns-clause-going
 returns-clause-going g c from there state layout keep chains unlinked item k p =
-    next-freeing (g.F.Folder.told c.args.f.now) (g.F.Folder.told c.read_owned.new.f) (g.F.Folder.told c.take_out.new.f) c.in_ok-owned.ensures.stays state layout keep chains unlinked item c.args.node c.args.found.now.entry c.args.found.now.before from there k p c.in_ok-take_out.ensures.stops
-    (g.F.Folder.told c.free_owned.new.f) (words_at c.in_ok-owned.owned.places) (c.in_ok-owned.ensures.words from there p.was (next-loads state layout keep chains unlinked item c.args.node c.args.found.now.entry c.args.found.now.before from k p)) c.in_ok-take_out.ensures.taken c.in_ok-free_owned.ensures.stops
-
-pub returns-in_err-owned-clause-untold_out : goal.returns-in_err-owned-clause-untold_out
-returns-in_err-owned-clause-untold_out g c from there state layout keep chains unlinked item k p =
-    carried c.read_owned.result c.from_residual.result c.in_err-owned.field-0.0 (λ _. (g.F.Folder.told c.args.f.now).files ≡ None) c.in_err-owned.was c.from_residual.ensures.1
-    (c.read_owned.ensures.untold (λ image is. (c.requires.is_open image is).agrees) (λ image is. (p.was, subst (LoadsWith c.args.found.now.entry p.was) (some_inj (sym there ∙ is)) (next-loads state layout keep chains unlinked item c.args.node c.args.found.now.entry c.args.found.now.before from k p))))
+    passes_stayed c.in_ok-read.ensures.stays (c.in_ok-take_read.ensures.going from (told_now from c.in_ok-read.ensures.stays there) (owned-by (g.F.Folder.told c.args.f.now) c.args.found.now.entry c.in_ok-read.read c.in_ok-read.ensures.words c.in_ok-read.ensures.charge from there) state layout keep chains unlinked item k p)

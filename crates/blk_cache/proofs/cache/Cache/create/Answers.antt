@@ -18,11 +18,11 @@ use Rattle.blk_cache.specs.declared.cache.Cache.{Cache}
 use Rattle.blk_cache.specs.Creating.{create_refusal}
 use Rattle.blk_cache.specs.Evicting.{IsEvicting}
 use Rattle.blk_cache.specs.MakingRoom.{says_full}
-use Rattle.blk_cache.specs.RoomPrinting.{Prints}
+use Rattle.blk_items.specs.RoomPrinting.{Prints}
 use Rattle.blk_cache.proofs.CreateWhole.{front-before, made-front, made-says, on-ok, only-done, if_ok_weaker, refused-full, refused-says, room-stops, whole-does, whole-stops, whole-untold}
 use Rattle.blk_cache.proofs.Refusing.{says-kept}
 use Rattle.blk_object.proofs.DamageChecks.{handed, moved}
-use Rattle.blk_cache.proofs.LookDamages.{look-checked}
+use Rattle.blk_items.proofs.LookDamages.{look-checked}
 use Rattle.blk_cache.proofs.cache.Cache.create.Goals as goal
 
 -- It isn't known whether it is refused.

@@ -3,16 +3,17 @@ use Rattle.std.specs.Prelude.{IfSome, IsTrue}
 use Rattle.std.specs.Option.{ForSome}
 use Rattle.blk_image.specs.Told.{Told}
 use Rattle.blk_volume.specs.Layout.{nodes_of}
-use Rattle.blk_volume.specs.View.{node_at}
+use Rattle.blk_volume.specs.Loads.{Loaded}
 use Rattle.blk_io.proofs.Carried.{carried}
 use Rattle.blk_io.specs.Faults.{IfDamaged}
 use Rattle.blk_disk.specs.Open.{IsOpen}
-use Rattle.blk_disk.specs.Tables.{Agrees, is_node_among, is_record_among}
+use Rattle.blk_disk.specs.Tables.{Agrees, is_node_among}
 use Rattle.blk_handles.specs.Bindings.{is_open}
 use Rattle.blk_lru.proofs.Conditions.{told_now}
-use Rattle.blk_cache.specs.RoomSearch.{IsPlaceInList}
+use Rattle.blk_object.specs.ListedParts.{LoadsAt}
+use Rattle.blk_items.specs.ListPlaces.{IsPlaceInList}
 use Rattle.blk_cache.proofs.Ends.{kept-open}
-use Rattle.blk_cache.proofs.RoomLast.{all-met, front-is, last-found, more-so-far, none-left, record-names}
+use Rattle.blk_cache.proofs.RoomLast.{all-met, front-is, last-found, more-so-far, none-left, node-loads}
 use Rattle.blk_cache.proofs.cache.Cache.last_unpinned.Goals as goal
 
 pub returns-in_err-node-clause-untold : goal.returns-in_err-node-clause-untold
@@ -35,13 +36,13 @@ returns-in_default-clause-last g c image there state kept pinned =
 pub returns-in_err-entry-clause-untold : goal.returns-in_err-entry-clause-untold
 returns-in_err-entry-clause-untold g c holds =
     let some : c.in_ok-node.field-0 ≡ Some c.in-Some.node = search rules in
-    carried c.record_of.result c.from_residual-in_err-entry.result c.in_err-entry.field-0.0 (λ _. (g.F.Folder.told c.args.f.now).files ≡ None) c.in_err-entry.was c.from_residual-in_err-entry.ensures.1
-    (subst (λ (t : Told). ForSome t.files (Agrees c.args.self.now.files) → ForSome t.files (λ image. is_record_among c.args.self.now.files (node_at image c.in-Some.node).contents ≡ true) → IfDamaged c.record_of.result (λ _. t.files ≡ None)) (c.in_ok-node.ensures.stays ∙ c.loop.invariant.told) c.record_of.ensures.untold
+    carried c.entry_named.result c.from_residual-in_err-entry.result c.in_err-entry.field-0.0 (λ _. (g.F.Folder.told c.args.f.now).files ≡ None) c.in_err-entry.was c.from_residual-in_err-entry.ensures.1
+    (subst (λ (t : Told). ForSome t.files (Agrees c.args.self.now.files) → ForSome t.files (λ image. (loaded : Loaded) × LoadsAt c.in-Some.node loaded image) → IfDamaged c.entry_named.result (λ _. t.files ≡ None)) (c.in_ok-node.ensures.stays ∙ c.loop.invariant.told) c.entry_named.ensures.untold
     (λ image there. let h = holds image there in h.kept.files)
     (λ image there.
     let h = holds image there in
     let p = c.loop.invariant.pinned image there h.state h.kept h.pinned in
-    record-names c.args.self.now h.state image h.kept c.loop.behind p.from c.in-Some.node
+    node-loads c.args.self.now h.state image h.kept c.loop.behind p.from c.in-Some.node
     (sym some ∙ c.in_ok-node.ensures.node image (told_now image c.loop.invariant.told there) h.kept.files (nodes_of h.kept.layout p.from.front) (front-is c.args.self.now h.state image h.kept c.loop.behind p.from))))
 
 pub returns-then-not-is_pinned-clause-last : goal.returns-then-not-is_pinned-clause-last
@@ -52,7 +53,7 @@ returns-then-not-is_pinned-clause-last g c image there state kept pinned =
     last-found c.args.self.now state image kept c.loop.behind p.from c.in-Some.node
     (sym some ∙ c.in_ok-node.ensures.node image (told_now image c.loop.invariant.told there) kept.files (nodes_of kept.layout p.from.front) (front-is c.args.self.now state image kept c.loop.behind p.from))
     (record { node = c.in-Some.node; entry = c.in_ok-entry.entry; behind = c.loop.behind }) refl
-    (c.in_ok-entry.ensures.record_is image (told_now image (c.in_ok-node.ensures.stays ∙ c.loop.invariant.told) there)) refl closed
+    (c.in_ok-entry.ensures.entry image (told_now image (c.in_ok-node.ensures.stays ∙ c.loop.invariant.told) there)) refl closed
 
 pub loop-preserved : goal.loop-preserved
 loop-preserved g c =
@@ -66,7 +67,7 @@ loop-preserved g c =
           let p = c.loop.invariant.pinned image there state kept pinned in
           more-so-far c.args.self.now state image kept c.loop.behind p.from c.in-Some.node
           (sym some ∙ c.in_ok-node.ensures.node image (told_now image c.loop.invariant.told there) kept.files (nodes_of kept.layout p.from.front) (front-is c.args.self.now state image kept c.loop.behind p.from))
-          c.loop.counter p.many c.in_ok-entry.entry (c.in_ok-entry.ensures.record_is image (told_now image (c.in_ok-node.ensures.stays ∙ c.loop.invariant.told) there)) open_ (Some c.in-Some.node) refl;
+          c.loop.counter p.many c.in_ok-entry.entry (c.in_ok-entry.ensures.entry image (told_now image (c.in_ok-node.ensures.stays ∙ c.loop.invariant.told) there)) open_ (Some c.in-Some.node) refl;
     }
 
 pub returns-clause-last : goal.returns-clause-last

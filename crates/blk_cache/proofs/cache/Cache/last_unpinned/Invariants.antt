@@ -4,7 +4,7 @@ use Rattle.std.specs.Option.{ForSome}
 use Rattle.blk_model.specs.State.{State}
 use Rattle.blk_disk.specs.Tables.{is_node_among}
 use Rattle.blk_cache.specs.CacheKeeping.{KeepsState}
-use Rattle.blk_cache.specs.RoomSearch.{IsPinnedFrom}
+use Rattle.blk_items.specs.ListPlaces.{IsPinnedFrom}
 use Rattle.blk_cache.proofs.RoomLast.{IsPinnedSoFar}
 use Rattle.blk_cache.proofs.cache.Cache.last_unpinned.Given as goal
 

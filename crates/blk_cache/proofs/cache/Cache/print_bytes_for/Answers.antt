@@ -3,13 +3,11 @@ use Rattle.std.specs.Prelude.{OnOk}
 use Rattle.std.proofs.lemmas.Result.{on_ok_weaker}
 use Rattle.blk_model.specs.Request.{request_of}
 use Rattle.blk_model.specs.declared.Command.{Command}
-use Rattle.blk_cache.specs.ReadPrinting.{PrintsInPart}
+use Rattle.blk_items.specs.RoomPrinting.{Prints, PrintsInPart}
 use Rattle.blk_cache.specs.Replying.{ForBytes, IsAfter}
 use Rattle.blk_model.specs.declared.Answer.TheVariants as answer
-use Rattle.blk_cache.specs.RoomPrinting.{Prints}
-use Rattle.blk_cache.proofs.PrintedReads.{part-none}
+use Rattle.blk_items.proofs.RoomTexts.{none-printed, part-none}
 use Rattle.blk_cache.proofs.Replies.{no-bytes, read-bytes, to-read}
-use Rattle.blk_cache.proofs.RoomTexts.{none-printed}
 use Rattle.blk_cache.proofs.cache.Cache.print_bytes_for.Goals as goal
 
 pub returns-in-Read-clause-printed : goal.returns-in-Read-clause-printed

@@ -1,6 +1,5 @@
-use Rattle.blk_cache.proofs.PrintedReads.{part-whole}
+use Rattle.blk_items.proofs.RoomTexts.{faults-on, part-whole}
 use Rattle.blk_cache.proofs.Replies.{part-longer, rows-and-end}
-use Rattle.blk_cache.proofs.RoomTexts.{faults-on}
 use Rattle.blk_cache.proofs.cache.Cache.print_list.Goals as goal
 
 pub returns-in_err-print_rows-clause-part : goal.returns-in_err-print_rows-clause-part

@@ -1,0 +1,33 @@
+-- What is pinned where no part is covered, and how a cache tells from what it keeps where there is room.
+use Rattle.std.specs.Prelude.{◌≡◌, ℕ, ◌+◌, Bool, false, not, ◌&&◌, ◌||◌, ◌==◌, nat_lt, [], length, sum_by, if◌then◌else◌}
+use Rattle.blk_image.specs.Image.{Image}
+use Rattle.blk_model.specs.Bounds.{bounds_of}
+use Rattle.blk_model.specs.Refusals.{evicted_for, is_full}
+use Rattle.blk_model.specs.Room.{count_of, evicted_until, fits, items, low, own_charge, pinned, room, total_of}
+use Rattle.blk_model.specs.State.{Bounds, IsValidState, State}
+use Rattle.blk_handles.specs.Bindings.{open_count}
+use Rattle.blk_cache.specs.declared.cache.Cache.{Cache}
+use Rattle.blk_cache.specs.CacheKeeping.{KeepsState, named_objects}
+
+-- what is pinned where no part is covered are the objects that handles name, each as its main item
+pub record ArePinned (state : State) : Type 0 where
+  pub bytes : total_of (pinned state []) ≡ sum_by own_charge (named_objects state)
+  pub items : count_of (pinned state []) ≡ length (named_objects state)
+
+-- they are so in each valid state
+abbrev pub NamedObjectsArePinned : Type 0
+NamedObjectsArePinned = (state : State) → IsValidState state → ArePinned state
+
+-- whether the open objects and what is added exceed a limit
+abbrev pub is_over : Bounds → ℕ → ℕ → ℕ → ℕ → Bool
+is_over limits open_bytes open_objects bytes more = nat_lt limits.max_bytes (open_bytes + bytes) || nat_lt limits.max_items (open_objects + more)
+
+-- so where there is room is told by what a cache keeps
+abbrev pub RoomIsTold : Type 0
+RoomIsTold = (cache : Cache) (state : State) (image : Image) (bytes more : ℕ) → KeepsState cache state image
+    → is_full (room state [] bytes more) ≡ not (bytes == 0 && more == 0) && is_over (bounds_of cache.limits) cache.open_bytes (open_count cache.handles) bytes more
+
+-- where there is room, nothing is evicted for what fits, or for nothing; else as much as leaves no more than the low-water mark
+abbrev pub RoomIsMade : Type 0
+RoomIsMade = (state : State) (bytes more : ℕ) → is_full (room state [] bytes more) ≡ false
+    → evicted_for (room state [] bytes more) ≡ (if (bytes == 0 && more == 0) || fits state.limits.max_bytes bytes more state then [] else evicted_until (fits (low state) bytes more) state [])

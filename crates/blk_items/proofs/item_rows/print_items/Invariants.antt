@@ -1,0 +1,20 @@
+use Rattle.std.proofs.Common.{◌≤◌, IfSome, IsTrue, length}
+use Rattle.std.specs.Option.{ForSome}
+use Rattle.blk_image.specs.Told.{Stays}
+use Rattle.blk_disk.specs.Tables.{is_node_among}
+use Rattle.blk_entry.specs.Keys.{most_key}
+use Rattle.blk_items.specs.ItemRows.{HasState}
+use Rattle.blk_items.specs.RoomPrinting.{FailsWhereItRose}
+use Rattle.blk_items.proofs.ListedLines.{IsListedTo}
+use Rattle.blk_items.proofs.item_rows.print_items.Given as goal
+
+abbrev pub invariant-loop : goal.invariant-loop
+invariant-loop g l = record {
+  walks : ForSome (g.F.Folder.told l.fn.f).files (λ image. (p : HasState l.files image) → IsListedTo p.state p.layout l.next l.counter l.fn.failed l.failed (g.K.Sink.written l.fn.out) (g.K.Sink.written l.out));
+  stands : IfSome l.next (λ n. IsTrue (is_node_among l.files n));
+  room : most_key ≤ length l.name;
+  fails : FailsWhereItRose l.fn.failed l.failed (g.K.Sink.faults l.fn.out) (g.K.Sink.faults l.out);
+  stays : Stays (g.F.Folder.told l.fn.f) (g.F.Folder.told l.f);
+  later : g.F.Folder.faults l.fn.f ≤ g.F.Folder.faults l.f;
+  later_out : g.K.Sink.faults l.fn.out ≤ g.K.Sink.faults l.out;
+}

@@ -1,0 +1,9 @@
+pub mod NameRoom
+pub mod Looking
+pub mod RoomLaws
+pub mod RoomPrinting
+pub mod EvictingGroups
+pub mod DoomingObjects
+pub mod ItemRows
+pub mod ListPlaces
+pub mod RangePrinting

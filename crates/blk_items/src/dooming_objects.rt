@@ -1,0 +1,229 @@
+// A live object is doomed in a folder.
+ghost use Rattle.std.specs.Prelude.{◌≡◌, ◌≤◌, ℕ, IfOk, IfSome, IsTrue, List, None, Some, false, length, true};
+ghost use Rattle.std.specs.Option.{ForSome};
+ghost use Rattle.blk_image.specs.Told.{Passes, Rises, Stays};
+ghost use Rattle.blk_io.specs.Faults.{IfDamaged, IfDevice};
+ghost use Rattle.blk_model.specs.Effects.{doomed};
+ghost use Rattle.blk_model.specs.Sizes.{longest_key};
+ghost use Rattle.blk_model.specs.State.{State};
+ghost use Rattle.blk_format.specs.Address.{blocks_256, kind_of};
+ghost use Rattle.blk_format.specs.Names.{longest_name};
+ghost use Rattle.blk_volume.specs.Layout.{Layout};
+ghost use Rattle.blk_disk.specs.Open.{IsOpen};
+ghost use Rattle.blk_disk.specs.Tables.{is_node_among, is_record_among, stands_among};
+ghost use Rattle.blk_kept.specs.Keeping.{KeepsUncounted};
+ghost use Rattle.blk_object.specs.FailedChecks.{IsFailedCheck};
+ghost use Rattle.blk_object.specs.RemovingObjects.{FindsEither};
+ghost use Rattle.blk_items.specs.DoomingObjects.{ForEachOpenAt, ForEachTarget, ForEachWithKey, IsDoomed, IsTarget, has_index};
+ghost use Rattle.blk_items.specs.Looking.{IsLookDamage, KeepsSomeState};
+ghost use Rattle.blk_items.specs.NameRoom.{name_room};
+
+use crate::evicting_groups::{find_listed, is_no_key};
+use crate::item_names::{EntryKind, read_name};
+use crate::looking::read_said;
+use blk_addr::Addr;
+use blk_chain::{Found, find};
+use blk_disk::BlockFiles;
+use blk_entry::record_damage;
+use blk_io::{Fault, Folder};
+use blk_object::{doom_plain, remove_item};
+use blk_record::EntryView;
+use blk_sparse::{Gone, doom_parent, remove_parent_with};
+
+/// A live object that is to be doomed: its record and the one before it in its chain, its node, what kind of entry it
+/// has, and what it is charged as a main item.
+#[derive(Clone, Copy, Debug)]
+pub struct Target {
+    pub found: Found,
+    pub node: Addr,
+    pub kind: EntryKind,
+    pub charge: u64,
+}
+
+/// Finds the live object with a key, by one folder call more than `find`. Nothing is written.
+///
+/// A damage is one of `find`, or of the record that is found.
+pub fn find_target<F: Folder>(
+    f: &mut F,
+    files: &BlockFiles,
+    key: &[u8],
+) -> Result<Option<Target>, Fault>
+    ensures target { IfOk result (λ answer. ForSome (F.told f.old).files (λ image. (state : State) (layout : Layout) (unlinked : List ℕ) → KeepsUncounted state layout unlinked image → IsTarget state layout key.now answer)) }
+    ensures node { IfOk result (λ answer. IfSome answer (λ target. IsTrue (is_node_among files.now target.node))) }
+    ensures kind { IfOk result (λ answer. IfSome answer (λ target. kind_of target.found.entry ≡ blocks_256)) }
+    ensures stands { IfOk result (λ answer. IfSome answer (λ target. IsTrue (stands_among files.now target.found.entry))) }
+    ensures kind_before { IfOk result (λ answer. IfSome answer (λ target. IfSome target.found.before (λ before. kind_of before ≡ blocks_256))) }
+    ensures stands_before { IfOk result (λ answer. IfSome answer (λ target. IfSome target.found.before (λ before. IsTrue (stands_among files.now before)))) }
+    ensures stays { Stays (F.told f.old) (F.told f.new) }
+    ensures damaged { IfDamaged result (IsLookDamage files.now (F.told f.old) key.now) }
+    ensures untold { ForSome (F.told f.old).files (IsOpen files.now) → ForSome (F.told f.old).files KeepsSomeState → IfDamaged result (λ _. (F.told f.old).files ≡ None) }
+    ensures later { F.faults f.old ≤ F.faults f.new }
+    ensures device { IfDevice result (Rises (F.faults f.old) (F.faults f.new)) }
+{
+    let Some(found) = find(f, files, key, false)? else {
+        return Ok(None);
+    };
+    let said = read_said(f, files, found.entry)?;
+    Ok(Some(Target {
+        found,
+        node: said.node,
+        kind: said.kind,
+        charge: said.charge,
+    }))
+}
+
+/// Dooms a live object that a handle names, by its record and its node. Its key is read into `name`, and the names of its
+/// parts are made behind that. What is counted no longer is given: its parts.
+///
+/// A damage is one of `read_name`, `find_listed` or `doom_target`, or a key that is none.
+pub fn doom_named<F: Folder>(
+    f: &mut F,
+    files: &BlockFiles,
+    name: &mut [u8],
+    entry: Addr,
+    node: Addr,
+) -> Result<Gone, Fault>
+    requires room { length name.old ≡ name_room }
+    requires names { IsTrue (is_record_among files.now entry) }
+    requires node { IsTrue (is_node_among files.now node) }
+    requires is_open { ForSome (F.told f.old).files (IsOpen files.now) }
+    ensures doomed { IfOk result (λ gone. ForSome (F.told f.old).files (λ from. ForEachOpenAt node entry from (λ state layout number object. ForSome (F.told f.new).files (IsDoomed state layout number object gone from)))) }
+    ensures stops { ForSome (F.told f.old).files (λ from. ForEachOpenAt node entry from (λ state layout number object. Passes (F.told f.old) (F.told f.new) (FindsEither state (doomed number state (Some object))))) }
+    ensures is_open { ForSome (F.told f.new).files (IsOpen files.now) }
+    ensures damaged { IfDamaged result (IsFailedCheck files.now (F.told f.new)) }
+    ensures untold { ForSome (F.told f.old).files (λ from. ForEachOpenAt node entry from (λ state layout number object. IfDamaged result (λ _. (F.told f.old).files ≡ None))) }
+    ensures silent { (F.told f.old).files ≡ None → (F.told f.new).files ≡ None }
+    ensures later { F.faults f.old ≤ F.faults f.new }
+    ensures device { IfDevice result (Rises (F.faults f.old) (F.faults f.new)) }
+{
+    let named = read_name(f, files, entry, name)?;
+    let (key, room) = name.split_at_mut(named.len);
+    if is_no_key(key) {
+        let len = key.len() as u32;
+        return Err(record_damage(entry, EntryView::KEY_LEN, len));
+    }
+    let found = find_listed(f, files, key, false, entry)?;
+    let target = Target {
+        found,
+        node,
+        kind: named.kind,
+        charge: named.owned.charge,
+    };
+    doom_target(f, files, &target, key, room, true)
+}
+
+/// Dooms a live object with a key, the names of whose parts are made in `room`. An open one, which a handle names, goes out
+/// with its parts, these are freed, and its record gets the state of a doomed one; of another all goes. What is counted no
+/// longer is given: the parts of an open object, and else all its items.
+///
+/// A damage is one of the calls below.
+pub fn doom_target<F: Folder>(
+    f: &mut F,
+    files: &BlockFiles,
+    target: &Target,
+    key: &[u8],
+    room: &mut [u8],
+    is_held: bool,
+) -> Result<Gone, Fault>
+    requires some { 1 ≤ length key.now }
+    requires short { length key.now ≤ longest_key }
+    requires room { longest_name ≤ length room.old }
+    requires node { IsTrue (is_node_among files.now target.now.node) }
+    requires kind { kind_of target.now.found.entry ≡ blocks_256 }
+    requires stands { IsTrue (stands_among files.now target.now.found.entry) }
+    requires kind_before { IfSome target.now.found.before (λ before. kind_of before ≡ blocks_256) }
+    requires stands_before { IfSome target.now.found.before (λ before. IsTrue (stands_among files.now before)) }
+    requires is_open { ForSome (F.told f.old).files (IsOpen files.now) }
+    ensures doomed { IfOk result (λ gone. ForSome (F.told f.old).files (λ from. ForEachWithKey is_held key.now target.now from (λ state layout number object. ForSome (F.told f.new).files (IsDoomed state layout number object gone from)))) }
+
+    // At each word what was at rest is found, or what is at rest with the object doomed.
+    ensures stops { ForSome (F.told f.old).files (λ from. ForEachWithKey is_held key.now target.now from (λ state layout number object. Passes (F.told f.old) (F.told f.new) (FindsEither state (doomed number state (Some object))))) }
+
+    ensures is_open { ForSome (F.told f.new).files (IsOpen files.now) }
+    ensures damaged { IfDamaged result (IsFailedCheck files.now (F.told f.new)) }
+    ensures untold { ForSome (F.told f.old).files (λ from. ForEachWithKey is_held key.now target.now from (λ state layout number object. IfDamaged result (λ _. (F.told f.old).files ≡ None))) }
+    ensures silent { (F.told f.old).files ≡ None → (F.told f.new).files ≡ None }
+    ensures later { F.faults f.old ≤ F.faults f.new }
+    ensures device { IfDevice result (Rises (F.faults f.old) (F.faults f.new)) }
+{
+    if has_index(target.kind) {
+        doom_with_index(f, files, target, key, room, is_held)
+    } else {
+        doom_without_index(f, files, target, is_held)
+    }
+}
+
+// Whether an entry has an index of parts.
+fn has_index(kind: EntryKind) -> bool
+    ensures { result ≡ has_index kind }
+{
+    matches!(kind, EntryKind::Parent)
+}
+
+// Dooms a live object without an index, which has no parts.
+fn doom_without_index<F: Folder>(
+    f: &mut F,
+    files: &BlockFiles,
+    target: &Target,
+    is_held: bool,
+) -> Result<Gone, Fault>
+    requires plain { has_index target.now.kind ≡ false }
+    requires node { IsTrue (is_node_among files.now target.now.node) }
+    requires kind { kind_of target.now.found.entry ≡ blocks_256 }
+    requires stands { IsTrue (stands_among files.now target.now.found.entry) }
+    requires kind_before { IfSome target.now.found.before (λ before. kind_of before ≡ blocks_256) }
+    requires stands_before { IfSome target.now.found.before (λ before. IsTrue (stands_among files.now before)) }
+    requires is_open { ForSome (F.told f.old).files (IsOpen files.now) }
+    ensures doomed { IfOk result (λ gone. ForSome (F.told f.old).files (λ from. ForEachTarget is_held target.now from (λ state layout number object. ForSome (F.told f.new).files (IsDoomed state layout number object gone from)))) }
+    ensures stops { ForSome (F.told f.old).files (λ from. ForEachTarget is_held target.now from (λ state layout number object. Passes (F.told f.old) (F.told f.new) (FindsEither state (doomed number state (Some object))))) }
+    ensures is_open { ForSome (F.told f.new).files (IsOpen files.now) }
+    ensures damaged { IfDamaged result (IsFailedCheck files.now (F.told f.new)) }
+    ensures untold { ForSome (F.told f.old).files (λ from. ForEachTarget is_held target.now from (λ state layout number object. IfDamaged result (λ _. (F.told f.old).files ≡ None))) }
+    ensures silent { (F.told f.old).files ≡ None → (F.told f.new).files ≡ None }
+    ensures later { F.faults f.old ≤ F.faults f.new }
+    ensures device { IfDevice result (Rises (F.faults f.old) (F.faults f.new)) }
+{
+    if is_held {
+        doom_plain(f, files, &target.found, target.node, target.charge)?;
+        Ok(Gone { items: 0, bytes: 0 })
+    } else {
+        let bytes = remove_item(f, files, &target.found, target.node)?;
+        Ok(Gone { items: 1, bytes })
+    }
+}
+
+// Dooms a live object with an index and a key, the names of whose parts are made in `room`.
+fn doom_with_index<F: Folder>(
+    f: &mut F,
+    files: &BlockFiles,
+    target: &Target,
+    key: &[u8],
+    room: &mut [u8],
+    is_held: bool,
+) -> Result<Gone, Fault>
+    requires parent { has_index target.now.kind ≡ true }
+    requires some { 1 ≤ length key.now }
+    requires short { length key.now ≤ longest_key }
+    requires room { longest_name ≤ length room.old }
+    requires node { IsTrue (is_node_among files.now target.now.node) }
+    requires kind { kind_of target.now.found.entry ≡ blocks_256 }
+    requires stands { IsTrue (stands_among files.now target.now.found.entry) }
+    requires kind_before { IfSome target.now.found.before (λ before. kind_of before ≡ blocks_256) }
+    requires stands_before { IfSome target.now.found.before (λ before. IsTrue (stands_among files.now before)) }
+    requires is_open { ForSome (F.told f.old).files (IsOpen files.now) }
+    ensures doomed { IfOk result (λ gone. ForSome (F.told f.old).files (λ from. ForEachWithKey is_held key.now target.now from (λ state layout number object. ForSome (F.told f.new).files (IsDoomed state layout number object gone from)))) }
+    ensures stops { ForSome (F.told f.old).files (λ from. ForEachWithKey is_held key.now target.now from (λ state layout number object. Passes (F.told f.old) (F.told f.new) (FindsEither state (doomed number state (Some object))))) }
+    ensures is_open { ForSome (F.told f.new).files (IsOpen files.now) }
+    ensures damaged { IfDamaged result (IsFailedCheck files.now (F.told f.new)) }
+    ensures untold { ForSome (F.told f.old).files (λ from. ForEachWithKey is_held key.now target.now from (λ state layout number object. IfDamaged result (λ _. (F.told f.old).files ≡ None))) }
+    ensures silent { (F.told f.old).files ≡ None → (F.told f.new).files ≡ None }
+    ensures later { F.faults f.old ≤ F.faults f.new }
+    ensures device { IfDevice result (Rises (F.faults f.old) (F.faults f.new)) }
+{
+    if is_held {
+        let charge = target.charge;
+        doom_parent(f, files, &target.found, target.node, key, charge, room)
+    } else {
+        remove_parent_with(f, files, &target.found, target.node, key, room, &mut |_| ())
+    }
+}

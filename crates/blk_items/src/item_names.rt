@@ -1,0 +1,89 @@
+// What an item is, by its record: its kind, and its key or name.
+ghost use Rattle.std.specs.Prelude.{◌≡◌, ◌≤◌, All, IfOk, IsTrue, None, length, take};
+ghost use Rattle.std.specs.Option.{ForSome};
+ghost use Rattle.blk_image.specs.Told.{Rises, Stays};
+ghost use Rattle.blk_io.specs.Faults.{IfDamaged, IfDevice};
+ghost use Rattle.blk_volume.specs.Loads.{Loaded};
+ghost use Rattle.blk_disk.specs.Tables.{Agrees, is_record_among};
+ghost use Rattle.blk_entry.specs.Keys.{most_key};
+ghost use Rattle.blk_object.specs.FailedChecks.{IsFailedCheck};
+ghost use Rattle.blk_object.specs.Freeing.{IsPlaceAmong};
+ghost use Rattle.blk_object.specs.Owning.{LoadsWith};
+ghost use Rattle.blk_object.specs.RemovingObjects.{IsOwnedBy};
+ghost use Rattle.blk_items.specs.EvictingGroups.{IsNameOf, IsNamedAs, kind_said};
+
+use blk_addr::Addr;
+use blk_disk::BlockFiles;
+use blk_entry::key_piece;
+use blk_io::{Fault, Folder};
+use blk_object::{Owned, read_owned};
+
+// The flags of the record of an entry with an index of parts.
+const PARENT: u32 = 1;
+
+// The flags of the record of a part.
+const CHILD: u32 = 2;
+
+/// What kind of entry an item is.
+#[derive(Clone, Copy, Debug, PartialEq, Eq)]
+pub enum EntryKind {
+    /// An entry without an index.
+    Plain,
+    /// An entry with an index of parts.
+    Parent,
+    /// A part.
+    Part,
+}
+
+/// What the record of an item says: the kind of its entry, how many bytes its key or name has, and its places with what
+/// it is charged.
+#[derive(Clone, Copy, Debug)]
+pub(crate) struct Named {
+    pub(crate) kind: EntryKind,
+    pub(crate) len: usize,
+    pub(crate) owned: Owned,
+}
+
+// Reads what an item is and what it has, and its key or name into the front of `room`: three folder calls.
+//
+// A damage is one of `read_owned` or `key_piece`.
+pub(crate) fn read_name<F: Folder>(
+    f: &mut F,
+    files: &BlockFiles,
+    entry: Addr,
+    room: &mut [u8],
+) -> Result<Named, Fault>
+    requires stands { IsTrue (is_record_among files.now entry) }
+    requires room { most_key ≤ length room.old }
+    ensures named { IfOk result (λ named. ForSome (F.told f.old).files (λ image. (loaded : Loaded) → LoadsWith entry loaded image → IsNamedAs loaded named room.new)) }
+    ensures read { IfOk result (λ named. ForSome (F.told f.old).files (IsNameOf entry (take named.len room.new))) }
+    ensures owned { IfOk result (λ named. ForSome (F.told f.old).files (IsOwnedBy entry named.owned)) }
+    ensures places { IfOk result (λ named. All (IsPlaceAmong files.now) named.owned.places) }
+    ensures within { IfOk result (λ named. named.len ≤ length room.old) }
+    ensures stays { Stays (F.told f.old) (F.told f.new) }
+    ensures damaged { IfDamaged result (IsFailedCheck files.now (F.told f.new)) }
+    ensures untold { ForSome (F.told f.old).files (Agrees files.now) → ForSome (F.told f.old).files (λ image. (loaded : Loaded) × LoadsWith entry loaded image) → IfDamaged result (λ _. (F.told f.old).files ≡ None) }
+    ensures later { F.faults f.old ≤ F.faults f.new }
+    ensures device { IfDevice result (Rises (F.faults f.old) (F.faults f.new)) }
+{
+    let owned = read_owned(f, files, entry)?;
+    let len = key_piece(f, files, entry, 0, room)?;
+    Ok(Named {
+        kind: kind_said(owned.flags),
+        len,
+        owned,
+    })
+}
+
+// What kind of entry the flags of a record say.
+pub(crate) fn kind_said(flags: u32) -> EntryKind
+    ensures { result ≡ kind_said flags }
+{
+    if flags == PARENT {
+        EntryKind::Parent
+    } else if flags == CHILD {
+        EntryKind::Part
+    } else {
+        EntryKind::Plain
+    }
+}

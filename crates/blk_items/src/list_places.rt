@@ -1,0 +1,44 @@
+// Places of the use list: the node in front of one, and an item that may go.
+ghost use Rattle.std.specs.Prelude.{◌≡◌, ◌≤◌, ℕ, IfOk, IfSome, IsTrue, List, None};
+ghost use Rattle.std.specs.Option.{ForSome};
+ghost use Rattle.blk_image.specs.Told.{Rises, Stays};
+ghost use Rattle.blk_io.specs.Faults.{IfDamaged, IfDevice};
+ghost use Rattle.blk_lru.specs.Lists.{last_node_of};
+ghost use Rattle.blk_disk.specs.Open.{IsOpen};
+ghost use Rattle.blk_disk.specs.Tables.{Agrees, is_node_among};
+ghost use Rattle.blk_object.specs.FailedChecks.{IsFailedCheck};
+ghost use Rattle.blk_items.specs.ListPlaces.{AreInFront, IsPlaceInList};
+
+use blk_addr::Addr;
+use blk_disk::BlockFiles;
+use blk_io::{Fault, Folder};
+use blk_lru::{before, last};
+
+/// An item that isn't pinned: its node and its record, and the node next behind it in the use list.
+#[derive(Clone, Copy, Debug)]
+pub struct Unpinned {
+    pub node: Addr,
+    pub entry: Addr,
+    pub behind: Option<Addr>,
+}
+
+/// The node in front of one in the use list, or the last one, by one folder call. Nothing is written.
+pub fn in_front<F: Folder>(
+    f: &mut F,
+    files: &BlockFiles,
+    behind: &Option<Addr>,
+) -> Result<Option<Addr>, Fault>
+    requires stands { IfSome behind.now (λ node. IsTrue (is_node_among files.now node)) }
+    ensures node { IfOk result (λ node. ForSome (F.told f.old).files (λ image. Agrees files.now image → (front : List ℕ) → AreInFront front behind.now image → node ≡ last_node_of front)) }
+    ensures stands { IfOk result (λ node. IfSome node (λ n. IsTrue (is_node_among files.now n))) }
+    ensures stays { Stays (F.told f.old) (F.told f.new) }
+    ensures damaged { IfDamaged result (IsFailedCheck files.now (F.told f.new)) }
+    ensures untold { ForSome (F.told f.old).files (IsOpen files.now) → ForSome (F.told f.old).files (IsPlaceInList behind.now) → IfDamaged result (λ _. (F.told f.old).files ≡ None) }
+    ensures later { F.faults f.old ≤ F.faults f.new }
+    ensures device { IfDevice result (Rises (F.faults f.old) (F.faults f.new)) }
+{
+    match *behind {
+        Some(node) => before(f, files, node),
+        None => last(f, files),
+    }
+}

@@ -1,0 +1,25 @@
+//! The laws of groups that go and of texts that are printed, each the contract of a function with an empty body.
+ghost use Rattle.blk_items.specs.RoomLaws.{GroupsAreCountedLess, ItemsThatStayArePinnedAsBefore, NothingMoreGoes, PartsAreInFront, TheLastUnpinnedGoesNext, TheOthersGoFromWhatIsLeft};
+ghost use Rattle.blk_items.specs.RoomPrinting.{FaultsGoOn, NothingIsPrinted, PrintsGoOn};
+
+/// Groups are evicted one after another: each is that of the last item that isn't pinned, in the use list as it is then,
+/// until there is enough or each item is pinned.
+pub fn groups_go_one_after_another()
+    ensures done { NothingMoreGoes }
+    ensures next { TheLastUnpinnedGoesNext }
+    ensures others { TheOthersGoFromWhatIsLeft }
+    ensures pinned { ItemsThatStayArePinnedAsBefore }
+    ensures parts { PartsAreInFront }
+{}
+
+/// Texts are printed one after another, unless the sink failed.
+pub fn prints_go_on()
+    ensures nothing { NothingIsPrinted }
+    ensures on { PrintsGoOn }
+    ensures faults { FaultsGoOn }
+{}
+
+/// Without the group of the last item that isn't pinned there are fewer items, and fewer bytes by what these are charged.
+pub fn groups_are_counted_less()
+    ensures { GroupsAreCountedLess }
+{}
