@@ -218,3 +218,9 @@ any_claimed claims (w ∷ words) = ap (λ (t : Bool). list_any (contains_claim c
 pub free_by : (claims : Claims) (words : List ℕ) (meet any : Bool) → meet ≡ repeats (claims_of_all words) → any ≡ list_any (is_claimed claims) words → not (meet || any) ≡ are_free claims words
 unfolding are_free
 free_by claims words meet any once none = ap₂ (λ (a b : Bool). not (a || b)) once (none ∙ any_claimed claims words)
+
+-- addresses that repeat nothing behind the added ones are free
+pub free-behind : (owned : Claims) (words addrs : List ℕ) → IsClaimsOf owned words → repeats (claims_of_all (words ++ addrs)) ≡ false → are_free owned addrs ≡ true
+free-behind owned words addrs is once =
+    let parts = once_parts (claims_of_all words) (claims_of_all addrs) (sym (ap repeats (flat_map-append claims_of words addrs)) ∙ once) in
+    from_parts owned addrs parts.0 (list_any-same (contains_claim owned) (has_claim (claims_of_all words)) is.claims (claims_of_all addrs) ∙ apart_back (claims_of_all addrs) (claims_of_all words) parts.1)
