@@ -29,7 +29,7 @@ or_comm false true = refl
 or_comm false false = refl
 
 -- where an or fails both sides do
-or_parts : (a b : Bool) → (a || b) ≡ false → (a ≡ false) × (b ≡ false)
+pub or_parts : (a b : Bool) → (a || b) ≡ false → (a ≡ false) × (b ≡ false)
 or_parts true b fails = absurd cc
 or_parts false b fails = (refl, fails)
 
@@ -181,7 +181,7 @@ list_any-same p q same [] = refl
 list_any-same p q same (x ∷ xs) = ap (λ t. t || list_any p xs) (same x) ∙ ap (λ t. q x || t) (list_any-same p q same xs)
 
 -- where none of some claims is in a list, its first claim isn't among them
-first_apart : (c : Claim) (claims others : List Claim) → list_any (has_claim (c ∷ claims)) others ≡ false → has_claim others c ≡ false
+pub first_apart : (c : Claim) (claims others : List Claim) → list_any (has_claim (c ∷ claims)) others ≡ false → has_claim others c ≡ false
 unfolding has_claim
 first_apart c claims [] apart = refl
 first_apart c claims (d ∷ others) apart =
@@ -190,7 +190,7 @@ first_apart c claims (d ∷ others) apart =
     ap (λ t. t || list_any (same_claim c) others) (same_claim-comm c d ∙ first.0) ∙ first_apart c claims others parts.1
 
 -- nor are the others of the list
-rest_apart : (c : Claim) (claims others : List Claim) → list_any (has_claim (c ∷ claims)) others ≡ false → list_any (has_claim claims) others ≡ false
+pub rest_apart : (c : Claim) (claims others : List Claim) → list_any (has_claim (c ∷ claims)) others ≡ false → list_any (has_claim claims) others ≡ false
 unfolding has_claim
 rest_apart c claims [] apart = refl
 rest_apart c claims (d ∷ others) apart =

@@ -126,3 +126,8 @@ first_absent claims w address kind absent =
 pub after_err : {T E P : Type 0} (r : Result T E) → P → OnErr r P
 after_err (Ok x) p = tt
 after_err (Err e) p = p
+
+-- what is claimed stays so where the set stays
+pub same_claimed : (old new : Claims) (w : ℕ) → IsUnchanged old new → is_claimed new w ≡ is_claimed old w
+unfolding is_claimed
+same_claimed old new w same = list_any-same (contains_claim new) (contains_claim old) same.claims (claims_of w)

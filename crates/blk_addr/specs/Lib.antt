@@ -2,3 +2,4 @@ pub mod Kind
 pub mod FileId
 pub mod Bits
 pub mod Claims
+pub mod ClaimGroups

@@ -46,6 +46,7 @@ impl Bitmap {
     pub fn reserve(&mut self, limit: u32) -> Result<(), NoMemory>
         ensures same { (n : ℕ) → has_bit self.new.bytes.items n ≡ has_bit self.old.bytes.items n }
         ensures room { OnOk result (limit ≤ 8 * vec_len self.new.bytes) }
+        ensures longer { vec_len self.old.bytes ≤ vec_len self.new.bytes }
     {
         let wanted = limit.div_ceil(BITS_OF_BYTE) as usize;
         let present = self.bytes.len();
@@ -70,7 +71,8 @@ impl Bitmap {
     pub fn insert_all(&mut self, first: u32, count: u32)
         requires fits { first + count < 2 ^ 32 }
         requires room { first + count ≤ 8 * vec_len self.old.bytes }
-        ensures { (m : ℕ) → has_bit self.new.bytes.items m ≡ (is_between first (first + count) m || has_bit self.old.bytes.items m) }
+        ensures length { vec_len self.new.bytes ≡ vec_len self.old.bytes }
+        ensures added { (m : ℕ) → has_bit self.new.bytes.items m ≡ (is_between first (first + count) m || has_bit self.old.bytes.items m) }
     {
         for n in first..first + count {
             self.insert(n);

@@ -1,6 +1,8 @@
 // Claims: the blocks and external files that have an owner.
-ghost use Rattle.std.specs.Prelude.{◌≡◌, ◌≢◌, ℕ, ◌≤◌, ◌++◌, List, [], ◌∷◌, true, false, not, slice_index, count_by, IsTrue, IfOk, OnOk, OnErr, if◌then◌else◌};
-ghost use Rattle.blk_format.specs.Address.{is_address, kind_of, external};
+ghost use Rattle.std.specs.Prelude.{◌≡◌, ◌≢◌, ℕ, ◌+◌, ◌*◌, ◌≤◌, ◌++◌, ◌&&◌, ◌==◌, List, [], ◌∷◌, true, false, not, slice_index, vec_len, count_by, IsTrue, IfOk, OnOk, OnErr, if◌then◌else◌};
+ghost use Rattle.std.specs.BTreeSet.{contains};
+ghost use Rattle.std.specs.Ordering.{nat_cmp};
+ghost use Rattle.blk_format.specs.Address.{is_address, kind_of, external, external_number, file_selector};
 ghost use Rattle.blk_format.specs.Claims.{BlockOf, claims_of, claims_of_all, has_claim, overlap, is_in_file};
 ghost use Rattle.blk_addr.specs.Bits.{bits_of_files};
 
@@ -95,16 +97,29 @@ impl Claims {
         self.allocations[file as usize]
     }
 
-    fn add_external(&mut self, addr: Addr) -> Result<(), NoMemory>
+    // Adds an external number.
+    pub(crate) fn add_external(&mut self, addr: Addr) -> Result<(), NoMemory>
         requires address { IsTrue (is_address addr) }
         requires kind { kind_of addr ≡ external }
         ensures ok { OnOk result (Adds self.old self.new addr) }
         ensures err { OnErr result (IsUnchanged self.old self.new) }
+        ensures blocks { self.new.blocks ≡ self.old.blocks }
     {
         self.externals.insert(addr.external_number())?;
         Ok(())
     }
 
+    // Takes an external number away, which counts as an address of no block file.
+    pub(crate) fn remove_external(&mut self, addr: Addr)
+        requires kind { kind_of addr ≡ external }
+        ensures numbers { (m : ℕ) → contains nat_cmp self.new.externals m ≡ (contains nat_cmp self.old.externals m && not (m == external_number addr)) }
+        ensures blocks { self.new.blocks ≡ self.old.blocks }
+        ensures counts { self.new.allocations ≡ self.old.allocations }
+    {
+        self.externals.remove(&addr.external_number());
+    }
+
+    // Adds the blocks of an address.
     fn add_blocks(&mut self, addr: Addr) -> Result<(), NoMemory>
         requires address { IsTrue (is_address addr) }
         requires kind { kind_of addr ≢ external }
@@ -112,12 +127,35 @@ impl Claims {
         ensures ok { OnOk result (Adds self.old self.new addr) }
         ensures err { OnErr result (IsUnchanged self.old self.new) }
     {
+        self.reserve_blocks(addr)?;
+        self.insert_blocks(addr);
+        Ok(())
+    }
+
+    // Makes room for the blocks of the file of an address.
+    pub(crate) fn reserve_blocks(&mut self, addr: Addr) -> Result<(), NoMemory>
+        ensures same { IsUnchanged self.old self.new }
+        ensures room { OnOk result (file_selector addr * 65536 + 65536 ≤ 8 * vec_len self.new.blocks.bytes) }
+        ensures longer { vec_len self.old.blocks.bytes ≤ vec_len self.new.blocks.bytes }
+    {
         let file = addr.file_selector();
         self.blocks
             .reserve((file as u32 + 1) * fields::BLOCKS_OF_FILE)?;
+        Ok(())
+    }
+
+    // Adds an address of blocks, for which there is room.
+    pub(crate) fn insert_blocks(&mut self, addr: Addr)
+        requires address { IsTrue (is_address addr) }
+        requires kind { kind_of addr ≢ external }
+        requires absent { is_claimed self.old addr ≡ false }
+        requires room { file_selector addr * 65536 + 65536 ≤ 8 * vec_len self.old.blocks.bytes }
+        ensures added { Adds self.old self.new addr }
+        ensures longer { vec_len self.old.blocks.bytes ≤ vec_len self.new.blocks.bytes }
+    {
+        let file = addr.file_selector();
         self.blocks.insert_all(addr.first_number(), addr.blocks());
         self.allocations[file as usize] += 1;
-        Ok(())
     }
 }
 

@@ -3,11 +3,13 @@
 
 mod address;
 mod bitmap;
+mod claim_groups;
 mod claim_set;
 mod fields;
 mod file_id;
 mod kinds;
 pub mod laws;
+mod meeting;
 mod no_memory;
 mod storage;
 

@@ -29,14 +29,14 @@ use Rattle.blk_audit.proofs.Truths.{both_or_neither}
 use Rattle.blk_audit.proofs.MetNodes.{node_word}
 use Rattle.blk_audit.proofs.Steps.{node_unnamed}
 
-same_fields : (a b : Node) → a.checks ≡ b.checks → a.next ≡ b.next → a.prev ≡ b.prev → a.contents ≡ b.contents → a.dirty ≡ b.dirty → a.seal ≡ b.seal → a ≡ b
+same_fields : (a b : Node) → a.checks ≡ b.checks → a.next ≡ b.next → a.prev ≡ b.prev → a.contents ≡ b.contents → a.dirty ≡ b.dirty → a.bare ≡ b.bare → a ≡ b
 same_fields a b c n p x d s =
     ap (λ (v : Bool). record a { checks = v }) c
     ∙ ap (λ (v : ℕ). record a { checks = b.checks; next = v }) n
     ∙ ap (λ (v : ℕ). record a { checks = b.checks; next = b.next; prev = v }) p
     ∙ ap (λ (v : ℕ). record a { checks = b.checks; next = b.next; prev = b.prev; contents = v }) x
     ∙ ap (λ (v : ℕ). record a { checks = b.checks; next = b.next; prev = b.prev; contents = b.contents; dirty = v }) d
-    ∙ ap (λ (v : ℕ). record a { checks = b.checks; next = b.next; prev = b.prev; contents = b.contents; dirty = b.dirty; seal = v }) s
+    ∙ ap (λ (v : Bool). record a { checks = b.checks; next = b.next; prev = b.prev; contents = b.contents; dirty = b.dirty; bare = v }) s
 
 module _ (image : Image) (w : ℕ) (small : AreBytes image) (kind : kind_of w ≡ rankings) where
   bytes : List ℕ
@@ -59,7 +59,7 @@ module _ (image : Image) (w : ℕ) (small : AreBytes image) (kind : kind_of w �
   said_is =
       same_fields (node_said bytes) (said_at image w)
       (sym (checks_bytes image w small kind ∙ ap (checks 32) (sym bytes_are)))
-      (word_is 16 (omega arith)) (word_is 20 (omega arith)) (word_is 24 (omega arith)) (word_is 28 (omega arith)) (word_is 32 (omega arith))
+      (word_is 16 (omega arith)) (word_is 20 (omega arith)) (word_is 24 (omega arith)) (word_is 28 (omega arith)) (ap (λ (n : ℕ). n == 0) (word_is 32 (omega arith)))
 
 -- a node's word is an address
 address_of : (files : BlockFiles) (w : ℕ) → is_node_among files w ≡ true → is_address w ≡ true

@@ -1,10 +1,11 @@
 -- Records that are read in pieces.
 use Rattle.std.proofs.Common.{◌≡◌, ℕ, ◌+◌, ◌-◌, ◌*◌, ◌<◌, ◌≤◌, Bool, true, false, ◌&&◌, List, length, take, drop, None, Some, if◌then◌else◌, refl, sym, ap, ap₂, subst, ◌∙◌, arith}
-use Rattle.std.specs.Prelude.{◌==◌, IfSome, nat_le, slice_get}
+use Rattle.std.specs.Prelude.{◌==◌, nat_le, slice_get}
 use Rattle.std.specs.Option.{option_map}
+use Rattle.std.proofs.lemmas.Bool.{and_parts, eqb-true}
 use Rattle.std.proofs.lemmas.Bool.Decides.{nat_tests}
 use Rattle.std.proofs.lemmas.List.{length-drop}
-use Rattle.std.proofs.lemmas.Option.{IfSome_then, get_or_from_slice_get, slice_get_within}
+use Rattle.std.proofs.lemmas.Option.{get_or_from_slice_get, slice_get_within}
 use Rattle.blk_image.specs.Bytes.{range_at}
 use Rattle.blk_image.specs.Image.{Block, Image, AreBytes, HasRange, byte, length_of}
 use Rattle.blk_format.specs.Address.{kind_of, file_selector, first_block, block_word, blocks_256, byte_size, place, block_place, block_size}
@@ -19,7 +20,7 @@ use Rattle.blk_disk.specs.Tables.{Agrees, stands_among}
 use Rattle.blk_disk.proofs.Ranges.{stands_range}
 use Rattle.blk_entry.proofs.KeyPlaces.{take-range, drop-range}
 use Rattle.blk_audit.specs.Chaining.{first_block_of}
-use Rattle.blk_audit.specs.Records.{AreRecordsOf, IsHashOfKey, IsSaidBy, fields_said, hash_in, record_in, record_words_in}
+use Rattle.blk_audit.specs.Records.{AreRecordsOf, IsHashOfKey, IsSaidBy, fields_said, is_hash_in, record_in, record_words_in}
 use Rattle.blk_audit.specs.declared.records.ReadRecord.{ReadRecord}
 use Rattle.blk_audit.specs.declared.record_words.RecordWords.{RecordWords}
 use Rattle.blk_audit.specs.declared.record_files.Placed.{Placed}
@@ -83,8 +84,8 @@ pub of_first : (image : Image) (w : ℕ) (said : ReadRecord) → kind_of w ≡ b
 of_first image w said kind is =
     let same = same_entry image w kind in
     record {
-      words = record { fields = is.words.fields ∙ ap fields_of same; next = is.words.next ∙ ap (λ (e : formats.Entry). e.next) same; seal = is.words.seal ∙ ap (λ (e : formats.Entry). e.self_hash) same };
-      key_hash = IfSome_then said.key_hash is.key_hash (λ sum h key stored. h key (same_key image w (fields_said said.words) kind ∙ stored));
+      words = record { fields = is.words.fields ∙ ap fields_of same; next = is.words.next ∙ ap (λ (e : formats.Entry). e.next) same; bare = is.words.bare ∙ ap (λ (e : formats.Entry). e.self_hash == 0) same };
+      hash = λ right key stored. is.hash right key (same_key image w (fields_said said.words) kind ∙ stored);
       there = first_there image w kind is.there;
     }
 
@@ -108,17 +109,15 @@ stored_short image w fields key short is =
 
 -- its hash is taken where it lies in these bytes
 hash_is : (image : Image) (w : ℕ) (words : RecordWords) (f : ℕ → ℕ) (p m : ℕ) (bytes : List ℕ) → bytes ≡ range_at f p m → length bytes ≡ m → ((n : ℕ) → range_at (block_bytes image w) (place w + 96) n ≡ range_at f p n)
-    → IfSome (hash_in words.key_len bytes) (IsHashOfKey image w words)
-hash_is image w words f p m bytes are size here = by (nat_le words.key_len 927) (nat_le words.key_len (length bytes)) refl refl
+    → is_hash_in words.hash words.key_len bytes ≡ true → IsHashOfKey image w words words.hash
+hash_is image w words f p m bytes are size here right key stored =
+    let parts = and_parts (nat_le words.key_len 927 && nat_le words.key_len (length bytes)) (hash (take words.key_len bytes) == words.hash) right in
+    let lengths = and_parts (nat_le words.key_len 927) (nat_le words.key_len (length bytes)) parts.0 in
+    sym (eqb-true (hash (take words.key_len bytes)) words.hash parts.1)
+    ∙ ap hash (ap (take words.key_len) are ∙ take-range words.key_len m p f (inside lengths.1) ∙ sym (here words.key_len) ∙ sym (stored_short image w (fields_said words) key lengths.0 stored))
   where
     inside : nat_le words.key_len (length bytes) ≡ true → words.key_len ≤ m
     inside e = grind (arith, nat_tests)
-
-    by : (s t : Bool) → nat_le words.key_len 927 ≡ s → nat_le words.key_len (length bytes) ≡ t → IfSome (if s && t then Some (hash (take words.key_len bytes)) else None) (IsHashOfKey image w words)
-    by false t e h = tt
-    by true false e h = tt
-    by true true e h = λ key stored.
-        ap hash (ap (take words.key_len) are ∙ take-range words.key_len m p f (inside h) ∙ sym (here words.key_len) ∙ sym (stored_short image w (fields_said words) key e stored))
 
 pub said_block : (image : Image) (n b at : ℕ) (bytes : List ℕ) → n < 256 → b < 65536 → at ≡ 8192 + b * 256 → 96 ≤ length bytes → AreBytes image → HasRange image (Block n) at (length bytes) → bytes ≡ range_at (byte image (Block n)) at (length bytes) → IsSaidBy image (block_word 2 n b 1) (record_in bytes)
 said_block image n b at bytes file block there long small inside is =
@@ -137,7 +136,7 @@ said_block image n b at bytes file block there long small inside is =
     let behind : (k : ℕ) → range_at (block_bytes image w) (place w + 96) k ≡ range_at (byte image (Block n)) (at + 96) k = λ k. ap₂ (λ (f p : ℕ). range_at (byte image (Block f)) (p + 96) k) sel (sym at_place) in
     record {
       words = are_words image w (take 96 bytes) small kind front;
-      key_hash = hash_is image w (record_words_in (take 96 bytes)) (byte image (Block n)) (at + 96) (length bytes - 96) (drop 96 bytes) rest (length-drop 96 bytes) behind;
+      hash = hash_is image w (record_words_in (take 96 bytes)) (byte image (Block n)) (at + 96) (length bytes - 96) (drop 96 bytes) rest (length-drop 96 bytes) behind;
       there = subst (λ (f : ℕ). HasRange image (Block f) (place w) 96) (sym sel) (subst (λ (p : ℕ). HasRange image (Block n) p 96) at_place (omega (arith, inside, long)));
     }
 

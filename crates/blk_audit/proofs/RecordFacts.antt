@@ -1,5 +1,6 @@
 -- The words of a record by its bytes.
-use Rattle.std.proofs.Common.{◌≡◌, ◌+◌, ℕ, List, refl, arith}
+use Rattle.std.proofs.Common.{◌≡◌, ◌+◌, ℕ, List, refl, ap, arith}
+use Rattle.std.specs.Prelude.{◌==◌}
 use Rattle.blk_image.specs.Bytes.{content, range_at, word_at}
 use Rattle.blk_image.specs.Image.{AreBytes, Block, Image, byte}
 use Rattle.blk_format.specs.Address.{blocks_256, file_selector, kind_of, place}
@@ -39,5 +40,5 @@ are_words image w window small kind is =
         flags = head.flags i;
       };
       next = head.next;
-      seal = head_word image w 92 window kind (omega arith) is;
+      bare = ap (λ (n : ℕ). n == 0) (head_word image w 92 window kind (omega arith) is);
     }

@@ -84,7 +84,7 @@ pub record IsWalkedNode (image : Image) (walked : Walked) (i : ℕ) (said : Walk
   pub fields : IsSaidAt image said
   pub kind : kind_of said.addr ≡ rankings
   pub checks : node_checks (node_at image said.addr) ≡ true
-  pub seal : said.seal ≡ (node_at image said.addr).self_hash
+  pub bare : said.bare ≡ ((node_at image said.addr).self_hash == 0)
 
 -- whether a node of an image is walked and names a record
 abbrev pub is_named_by : Image → ℕ → ℕ → Bool

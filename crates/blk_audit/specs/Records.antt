@@ -1,7 +1,6 @@
 -- What is read of a record.
-use Rattle.std.specs.Prelude.{ℕ, ◌≡◌, List, All, IfSome, take, drop, length, nat_le, ◌&&◌, if◌then◌else◌}
-use Rattle.std.specs.declared.option.Option.{Option}
-use Rattle.std.specs.declared.option.Option.TheVariants.{None, Some}
+use Rattle.std.specs.Prelude.{ℕ, ◌≡◌, Bool, true, List, All, take, drop, length, nat_le, ◌&&◌, ◌==◌}
+use Rattle.std.specs.declared.option.Option.TheVariants.{Some}
 use Rattle.blk_image.specs.Bytes.{content, word_at, words_at}
 use Rattle.blk_image.specs.Image.{Block, HasRange, Image}
 use Rattle.blk_format.specs.Address.{file_selector, place}
@@ -18,6 +17,7 @@ use Rattle.blk_audit.specs.declared.record_files.Records.{Records}
 abbrev pub record_words_in : List ℕ → RecordWords
 record_words_in bytes = record {
   checks = checks 92 bytes;
+  bare = word_at (content bytes) entry_seal_place == 0;
   hash = word_at (content bytes) 0;
   next = word_at (content bytes) 4;
   node = word_at (content bytes) 8;
@@ -27,7 +27,6 @@ record_words_in bytes = record {
   sizes = words_at (content bytes) 40 4;
   addrs = words_at (content bytes) 56 4;
   flags = word_at (content bytes) 72;
-  seal = word_at (content bytes) entry_seal_place;
 }
 
 -- what the words say of their record
@@ -48,24 +47,28 @@ fields_said words = record {
 pub record AreWordsOf (image : Image) (entry : ℕ) (words : RecordWords) : Type 0 where
   pub fields : fields_said words ≡ fields_of (entry_at image entry)
   pub next : words.next ≡ (entry_at image entry).next
-  pub seal : words.seal ≡ (entry_at image entry).self_hash
+  pub bare : words.bare ≡ ((entry_at image entry).self_hash == 0)
 
--- the hash of a short key that lies in front of these bytes
-abbrev pub hash_in : ℕ → List ℕ → Option ℕ
-hash_in key_len bytes = if nat_le key_len longest_short_key && nat_le key_len (length bytes) then Some (hash (take key_len bytes)) else None
+-- a hash is that of a short key of a length, which lies in front of these bytes
+abbrev pub is_hash_in : ℕ → ℕ → List ℕ → Bool
+is_hash_in sum key_len bytes = (nat_le key_len longest_short_key && nat_le key_len (length bytes)) && (hash (take key_len bytes) == sum)
 
 -- what a record says whose bytes are these, or the first of these
 abbrev pub record_in : List ℕ → ReadRecord
-record_in bytes = record { words = record_words_in (take entry_size bytes); key_hash = hash_in (record_words_in (take entry_size bytes)).key_len (drop entry_size bytes) }
+record_in bytes = record { words = record_words_in (take entry_size bytes); hash_is_right = is_hash_in (record_words_in (take entry_size bytes)).hash (record_words_in (take entry_size bytes)).key_len (drop entry_size bytes) }
 
 -- this is the hash of the key of a record with these words, where the key is stored
 abbrev pub IsHashOfKey : Image → ℕ → RecordWords → ℕ → Type 0
 IsHashOfKey image entry words sum = (key : List ℕ) → stored_key (store_of image) entry (fields_said words) ≡ Some key → sum ≡ hash key
 
+-- where the hash of a record is said to be right, it is that of its key
+abbrev pub IsRightWhereSaid : Image → ℕ → ReadRecord → Type 0
+IsRightWhereSaid image entry said = said.hash_is_right ≡ true → IsHashOfKey image entry said.words said.words.hash
+
 -- that is what the record says that lies at the place that a word of an image names, and its bytes are there
 pub record IsSaidBy (image : Image) (w : ℕ) (said : ReadRecord) : Type 0 where
   pub words : AreWordsOf image w said.words
-  pub key_hash : IfSome said.key_hash (IsHashOfKey image w said.words)
+  pub hash : IsRightWhereSaid image w said
   pub there : HasRange image (Block (file_selector w)) (place w) entry_size
 
 -- the records that were read in pieces are those of an image

@@ -28,11 +28,11 @@ fn said(window: &[u8]) -> Node
     };
     Node {
         checks: view.checks(),
+        bare: view.word(NodeView::SEAL) == 0,
         next: view.word(NodeView::NEXT as usize),
         prev: view.word(NodeView::PREV as usize),
         contents: view.word(NodeView::CONTENTS as usize),
         dirty: view.word(NodeView::DIRTY as usize),
-        seal: view.word(NodeView::SEAL),
     }
 }
 

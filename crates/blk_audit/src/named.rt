@@ -31,8 +31,8 @@ pub struct WalkedNode {
     pub contents: u32,
     /// 0 where no session has its record open.
     pub dirty: u32,
-    /// Its seal, 0 where it has none.
-    pub seal: u32,
+    /// Whether its seal is 0.
+    pub bare: bool,
 }
 
 impl Lists {
@@ -50,7 +50,7 @@ impl Lists {
             addr,
             contents: node.contents,
             dirty: node.dirty,
-            seal: node.seal,
+            bare: node.bare,
         })
     }
 

@@ -15,16 +15,18 @@ use blk_disk::BlockFiles;
 use blk_io::Folder;
 use std::alloc::Global;
 
-// What a node says, and whether it checks.
+// What a node says, whether it checks and whether its seal is 0: 20 bytes.
 #[derive(Clone, Copy, Debug)]
 pub(crate) struct Node {
     pub(crate) checks: bool,
+    pub(crate) bare: bool,
     pub(crate) next: u32,
     pub(crate) prev: u32,
     pub(crate) contents: u32,
     pub(crate) dirty: u32,
-    pub(crate) seal: u32,
 }
+
+const _: () = prove!(size_of::<Node>() == 20);
 
 // The nodes of the linked files, file after file: where those of each file begin, and how many there are.
 #[derive(Drop)]

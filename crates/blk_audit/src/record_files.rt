@@ -34,12 +34,14 @@ const BLOCK: usize = RECORD_BLOCK as usize;
 
 const PIECE: usize = BLOCK * BLOCKS_OF_PIECE as usize;
 
-// A record that was read, with the address of its first block.
+// A record that was read, with the address of its first block: 72 bytes.
 #[derive(Clone, Copy, Debug)]
 pub(crate) struct Placed {
     pub(crate) first: Addr,
     pub(crate) said: ReadRecord,
 }
+
+const _: () = prove!(size_of::<Placed>() == 72);
 
 // The records that were read in pieces, by rising first block.
 #[derive(Drop)]
@@ -240,6 +242,6 @@ fn read_record<F: Folder>(f: &mut F, files: &BlockFiles, addr: Addr) -> Result<R
     let words = read_words(f, files, addr)?;
     Ok(ReadRecord {
         words,
-        key_hash: None,
+        hash_is_right: false,
     })
 }

@@ -24,6 +24,8 @@ const STATE: usize = 20;
 pub struct RecordWords {
     /// Whether its seal is 0 or the hash of the bytes before it.
     pub checks: bool,
+    /// Whether its seal is 0.
+    pub bare: bool,
     /// The hash of the key.
     pub hash: u32,
     /// The word of the next record in the chain, or 0.
@@ -42,8 +44,6 @@ pub struct RecordWords {
     pub addrs: [u32; 4],
     /// 1 where the record is of a sparse entry, 2 where it is of a part of one.
     pub flags: u32,
-    /// Its seal, 0 where it has none.
-    pub seal: u32,
 }
 
 /// Reads the words of a record that stands, by one folder call.
@@ -77,6 +77,7 @@ pub(crate) fn words_of(window: &[u8]) -> RecordWords
     let view = EntryView::new(window);
     RecordWords {
         checks: view.checks(),
+        bare: view.word(EntryView::SEAL) == 0,
         hash: view.word(EntryView::HASH as usize),
         next: view.word(EntryView::NEXT as usize),
         node: view.word(EntryView::NODE as usize),
@@ -86,6 +87,5 @@ pub(crate) fn words_of(window: &[u8]) -> RecordWords
         sizes: four_words(&view, EntryView::DATA_SIZE as usize),
         addrs: four_words(&view, EntryView::DATA_ADDR as usize),
         flags: view.word(EntryView::FLAGS as usize),
-        seal: view.word(EntryView::SEAL),
     }
 }

@@ -1,7 +1,7 @@
 // Entry records, as they are read.
 ghost use Rattle.std.specs.Prelude.{◌≡◌, ◌≤◌, length};
 ghost use Rattle.blk_format.specs.Address.{blocks_256, kind_of};
-ghost use Rattle.blk_audit.specs.Records.{hash_in, record_in};
+ghost use Rattle.blk_audit.specs.Records.{is_hash_in, record_in};
 ghost use Rattle.blk_audit.specs.Chaining.{first_block_of};
 
 use crate::record_words::{RecordWords, words_of};
@@ -13,8 +13,9 @@ use blk_record::{EntryView, Record, super_fast_hash};
 pub struct ReadRecord {
     /// Its words.
     pub words: RecordWords,
-    /// The hash of the bytes of its key, where these were read with it: no long key is.
-    pub key_hash: Option<u32>,
+    /// Whether its hash is known to be that of its key: the bytes of the key were read with it, and have this hash. No
+    /// long key is read with it.
+    pub hash_is_right: bool,
 }
 
 // The record that begins with the first of these bytes, which may go on behind it.
@@ -23,23 +24,26 @@ pub(crate) fn record_of_bytes(bytes: &[u8]) -> ReadRecord
     ensures { result ≡ record_in bytes.now }
 {
     let words = words_of(&bytes[..EntryView::SIZE]);
-    let key_hash = hash_of_key(words.key_len, &bytes[EntryView::SIZE..]);
-    ReadRecord { words, key_hash }
+    let hash_is_right = is_hash_of_key(words.hash, words.key_len, &bytes[EntryView::SIZE..]);
+    ReadRecord {
+        words,
+        hash_is_right,
+    }
 }
 
-// The hash of a short key, where these bytes begin with it.
+// Whether a hash is that of a short key of this length, where these bytes begin with it.
 #[tactic(auto, using(std::proofs::lemmas::Bool::Decides::nat_tests))]
-fn hash_of_key(key_len: u32, bytes: &[u8]) -> Option<u32>
-    ensures { result ≡ hash_in key_len bytes.now }
+fn is_hash_of_key(sum: u32, key_len: u32, bytes: &[u8]) -> bool
+    ensures { result ≡ is_hash_in sum key_len bytes.now }
 {
     if key_len > LONGEST_SHORT_KEY {
-        return None;
+        return false;
     }
     let key_len = key_len as usize;
     if key_len > bytes.len() {
-        return None;
+        return false;
     }
-    Some(super_fast_hash(&bytes[..key_len]))
+    super_fast_hash(&bytes[..key_len]) == sum
 }
 
 // The address of the first block of a record.

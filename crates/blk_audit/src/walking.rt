@@ -23,7 +23,7 @@ use std::alloc::Global;
 
 /// Walks the use list of a folder as it is once its operation in flight is completed. Nothing is written.
 ///
-/// One call reads 1024 nodes of a file, of which each takes five words and a bool in memory, one the head, and at most
+/// One call reads 1024 nodes of a file, of which each takes 20 bytes of memory, one the head, and at most
 /// seven the operation in flight and its nodes. A damage is a read that gave too few bytes; a folder whose files are
 /// those of `files` gives none. `Device` comes only where the folder failed in this call.
 pub fn walk<F: Folder>(alloc: Global, f: &mut F, files: &BlockFiles) -> Result<Walked, ScanFault>

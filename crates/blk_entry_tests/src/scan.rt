@@ -45,7 +45,7 @@ fn node_0(contents: u32, dirty: u32) -> WalkedNode {
         addr: Addr::of_blocks(Kind::Rankings, 0, 0, 1),
         contents,
         dirty,
-        seal: 0,
+        bare: true,
     }
 }
 

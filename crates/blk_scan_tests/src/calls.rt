@@ -1,5 +1,5 @@
 // The folder calls of an audit of many entries, of a repair, and of an eviction.
-use crate::folders::{Entry, Mem, add, audited, give_blocks, put_index, put_words};
+use crate::folders::{Entry, Mem, add, give_blocks, put_index, put_words};
 use crate::repairs::mend;
 use crate::sessions::{LIMITS, Session, empty};
 use blk_audit::ScanFault;
@@ -8,7 +8,7 @@ use blk_index::make;
 use blk_io::{Fault, FileId, Folder, MemFolder, SilentFolder};
 use blk_record::IndexHead;
 use blk_repair::repair;
-use blk_scan::scan_files;
+use blk_scan::{scan_files, scan_folder};
 use std::alloc::Global;
 use std::test::Fail;
 
@@ -112,11 +112,11 @@ pub(crate) fn many(alloc: Global, sort: Sort, entries: u32) -> Result<Mem, Fail>
     Ok(f)
 }
 
-// How many entries are kept, and the folder calls of the audit.
-fn counts(alloc: Global, sort: Sort) -> Result<(u64, u64), Fail> {
-    let mut f = many(alloc, sort, ENTRIES)?;
+// How many of so many entries are kept, and all the folder calls of the audit.
+fn counts(alloc: Global, sort: Sort, entries: u32) -> Result<(u64, u64), Fail> {
+    let mut f = many(alloc, sort, entries)?;
     let start = f.calls();
-    let scan = audited(alloc, &mut f)?;
+    let scan = scan_folder(alloc, &mut f)?;
     Ok((scan.items(), f.calls().wrapping_sub(start)))
 }
 
@@ -129,9 +129,26 @@ fn an_audit_of_4000_entries_takes_few_calls(rt: HostRuntime) -> Result<(), Fail>
         (Sort::Long, 1),
         (Sort::Parents, 1 + 1 + 3),
     ] {
-        let (items, calls) = counts(rt.alloc(), sort)?;
+        let (items, calls) = counts(rt.alloc(), sort, ENTRIES)?;
         assert_eq!(rt; items, 4000);
         assert!(rt; calls <= 120 + 100 * each, "{calls} calls, {each}");
+    }
+    Ok(())
+}
+
+#[test]
+fn twice_the_entries_take_at_most_twice_the_calls(rt: HostRuntime) -> Result<(), Fail> {
+    // Of the last three sorts all entries are of that sort: below `OTHERS` no other is added.
+    for (sort, entries) in [
+        (Sort::Plain, ENTRIES / 2),
+        (Sort::External, OTHERS / 2),
+        (Sort::Long, OTHERS / 2),
+        (Sort::Parents, OTHERS / 2),
+    ] {
+        let (items, calls) = counts(rt.alloc(), sort, entries)?;
+        let (twice, more) = counts(rt.alloc(), sort, entries.wrapping_mul(2))?;
+        assert_eq!(rt; twice, items.wrapping_mul(2));
+        assert!(rt; more <= calls.wrapping_mul(2), "{calls} calls, then {more}");
     }
     Ok(())
 }

@@ -101,8 +101,8 @@ const STREAM_CASES: [Case; 16] = [
     ),
 ];
 
-// A parent and its part, where the parent isn't right, or isn't that of the part.
-const PARENTS: [Case; 14] = [
+// A parent and its part, where the parent isn't right, isn't that of the part, or isn't there: no parent has the key j.
+const PARENTS: [Case; 15] = [
     (
         &[Word(PARENT, SIZES + 4, 5), Word(PARENT, ADDRS + 4, UNOWNED)],
         10,
@@ -129,6 +129,15 @@ const PARENTS: [Case; 14] = [
     (&[Word(PARENT_INDEX, 0, 2)], 11, &[(N[5], 15)]),
     (&[Word(PARENT, FLAGS, 0)], 11, &[(N[5], 15)]),
     (&[Word(N[6], DIRTY, 1)], 10, &[(N[5], 15), (N[6], 6)]),
+    (
+        &[
+            Word(PART, KEY + 4, 0x3A6A_5F65),
+            Word(PART, 0, 0xA7D9_D14E),
+            Bucket(0xD14E, PART),
+        ],
+        11,
+        &[(N[5], 15)],
+    ),
 ];
 
 // Parts that aren't right, one that is, and two of one name.
@@ -333,8 +342,8 @@ const SHAPES: [Case; 15] = [
     ),
 ];
 
-// Operations in flight: those that count, and seven that don't.
-const OPERATIONS: [Case; 15] = [
+// Operations in flight: those that count, and nine that don't, two of them by their head alone.
+const OPERATIONS: [Case; 17] = [
     (
         &[Index(TRANSACTION, N[0]), Index(OPERATION, 2)],
         11,
@@ -445,6 +454,50 @@ const OPERATIONS: [Case; 15] = [
         ],
         11,
         &[(OUTSIDE, 16)],
+    ),
+    (
+        &[
+            Index(TRANSACTION, N[11]),
+            Index(OPERATION, 1),
+            Index(HEAD, 0x9000_0400),
+        ],
+        0,
+        &[
+            (BLOCKS, 16),
+            (STREAMS, 16),
+            (ZRTI, 16),
+            (LNIW, 16),
+            (PARENT, 16),
+            (TWIN, 16),
+            (PART, 16),
+            (NAB, 16),
+            (JIO, 16),
+            (IEV, 16),
+            (OUTSIDE, 16),
+            (TWO, 16),
+        ],
+    ),
+    (
+        &[
+            Index(TRANSACTION, N[7]),
+            Index(OPERATION, 3),
+            Word(N[0], NODE_SEAL, 1),
+        ],
+        0,
+        &[
+            (BLOCKS, 16),
+            (STREAMS, 16),
+            (ZRTI, 16),
+            (LNIW, 16),
+            (PARENT, 16),
+            (TWIN, 16),
+            (PART, 16),
+            (NAB, 16),
+            (JIO, 16),
+            (IEV, 16),
+            (OUTSIDE, 16),
+            (TWO, 16),
+        ],
     ),
 ];
 

@@ -186,6 +186,48 @@ fn claims_are_found(rt: HostRuntime) {
     }
 }
 
+// Adds the addresses of three words, all or none, and says whether they were added.
+fn add_three(claims: &mut Claims, words: [u32; 3]) -> Option<bool> {
+    let addrs = [
+        Addr::from_word(words[0])?,
+        Addr::from_word(words[1])?,
+        Addr::from_word(words[2])?,
+    ];
+    let are_free = claims.are_free(&addrs);
+    let added = claims.add_all(&addrs).ok()?;
+    (are_free == added).then_some(added)
+}
+
+#[test]
+fn addresses_are_added_all_or_none(rt: HostRuntime) {
+    let mut claims = Claims::new(rt.alloc());
+    // Of data_1 blocks 4 and 5, of data_2 block 4, and f_000001; then the same with one thing claimed, with two of one
+    // block and of one number, and with nothing shared.
+    for (words, answer, allocations) in [
+        ([0xA101_0004, 0xB002_0004, 0x8000_0001], true, 1),
+        ([0xA001_0008, 0xB002_0005, 0x8000_0001], false, 1),
+        ([0xA001_0008, 0xB202_0004, 0x8000_0002], false, 1),
+        ([0xA301_0008, 0x8000_0002, 0xA001_000B], false, 1),
+        ([0x8000_0002, 0xA001_0008, 0x8000_0002], false, 1),
+        ([0xA001_0008, 0x8000_0002, 0xA001_0009], true, 3),
+        ([0xA001_000A, 0x8000_0003, 0xA001_0009], false, 3),
+    ] {
+        let added = add_three(&mut claims, words);
+        assert!(rt; added == Some(answer), "{}", words[0]);
+        assert_eq!(rt; claims.allocations(1), allocations);
+    }
+    for (word, claimed) in [
+        (0xA101_0008, true),
+        (0xA101_000A, false),
+        (0xB002_0005, false),
+        (0x8000_0002, true),
+        (0x8000_0003, false),
+    ] {
+        assert!(rt; has(&claims, word) == Some(claimed), "{word}");
+    }
+    assert!(rt; claims.add_all(&[]).ok() == Some(true));
+}
+
 // Adds the block of a number of data_0 and of data_4, and says whether both are new.
 fn add_both(claims: &mut Claims, start: u32) -> Option<bool> {
     let first = add(claims, 0x9000_0000 | start)?;

@@ -1,6 +1,6 @@
 use Rattle.blk_io.proofs.Carried.{carried, if_damaged_weaker}
 use Rattle.blk_image.specs.Told.{Told}
-use Rattle.std.proofs.Common.{◌∙◌, ap, sym}
+use Rattle.std.proofs.Common.{◌≡◌, ◌∙◌, ap, sym, true, false}
 use Rattle.blk_disk.specs.Tables.{Agrees}
 use Rattle.blk_lru.proofs.Conditions.{told_stays}
 use Rattle.blk_audit.proofs.Shown.{short_record}
@@ -18,4 +18,7 @@ returns-in_err-words-clause-untold g c agrees =
     (c.read_words.ensures.untold (told_stays (Agrees c.args.files.now) (sym c.read_words.ensures.stays) agrees)))
 
 pub returns-clause-said : goal.returns-clause-said
-returns-clause-said g c image there = record { words = c.in_ok-words.ensures.words image there; key_hash = tt; there = c.in_ok-words.ensures.checked image there }
+returns-clause-said g c image there = record { words = c.in_ok-words.ensures.words image there; hash = λ right. absurd (unsaid right); there = c.in_ok-words.ensures.checked image there }
+  where
+    unsaid : false ≡ true → ⊥
+    unsaid e = cc

@@ -17,5 +17,5 @@ returns c image are =
       fields = walked_node image c.args.self.now are c.args.i c.in-Some.addr c.in-Some-get.node (sym c.at.ensures ∙ c.in-Some.is) (sym c.get.ensures ∙ c.in-Some-get.is);
       kind = walked_kind image c.args.self.now are c.args.i c.in-Some.addr (sym c.at.ensures ∙ c.in-Some.is);
       checks = walked_checks_there image c.args.self.now are c.args.i c.in-Some.addr (sym c.at.ensures ∙ c.in-Some.is);
-      seal = ap (λ (node : Node). node.seal) (walked_said image c.args.self.now are c.args.i c.in-Some.addr c.in-Some-get.node (sym c.at.ensures ∙ c.in-Some.is) (sym c.get.ensures ∙ c.in-Some-get.is));
+      bare = ap (λ (node : Node). node.bare) (walked_said image c.args.self.now are c.args.i c.in-Some.addr c.in-Some-get.node (sym c.at.ensures ∙ c.in-Some.is) (sym c.get.ensures ∙ c.in-Some-get.is));
     }

@@ -1,0 +1,75 @@
+// Addresses that join the claims together, all or none.
+ghost use Rattle.std.specs.Prelude.{◌≡◌, ℕ, ◌≤◌, ◌++◌, ◌||◌, List, [], true, false, not, vec_len, IfOk, OnOk, OnErr, if◌then◌else◌};
+ghost use Rattle.std.specs.List.{list_any};
+ghost use Rattle.blk_format.specs.Claims.{claims_of_all, overlap, repeats};
+
+use crate::meeting::any_meet;
+use crate::no_memory::NoMemory;
+use crate::{Addr, Claims};
+
+impl Claims {
+    ghost use Rattle.blk_addr.specs.ClaimGroups.{AddsAll, are_free};
+    ghost use Rattle.blk_addr.specs.Claims.{IsClaimsOf, IsUnchanged, is_added, is_claimed};
+
+    /// Whether none of these addresses has a block or a number that is claimed, and no two of them share one. Each two
+    /// of them are compared.
+    pub fn are_free(&self, addrs: &[Addr]) -> bool
+        ensures test { result ≡ are_free self.now addrs.now }
+        ensures listed { (words : List ℕ) → IsClaimsOf self.now words → result ≡ not (repeats (claims_of_all addrs.now) || overlap (claims_of_all words) (claims_of_all addrs.now)) }
+    {
+        !any_meet(addrs) && !self.has_any(addrs)
+    }
+
+    // Whether one of these addresses has a block or a number that is claimed.
+    fn has_any(&self, addrs: &[Addr]) -> bool
+        ensures { result ≡ list_any (is_claimed self.now) addrs.now }
+    {
+        addrs.iter().any(|addr| self.has(*addr))
+    }
+
+    /// Adds these addresses and their claims, all or none: where one of their blocks or numbers is claimed already, or
+    /// two of them share one, nothing changes. Gives whether they were added.
+    pub fn add_all(&mut self, addrs: &[Addr]) -> Result<bool, NoMemory>
+        ensures told { IfOk result (λ added. added ≡ are_free self.old addrs.now) }
+        ensures added { result ≡ Ok true → AddsAll self.old self.new addrs.now }
+        ensures kept { result ≡ Ok false → self.new ≡ self.old }
+
+        // Only free addresses take memory.
+        ensures failed { OnErr result (IsUnchanged self.old self.new) }
+        ensures free { OnErr result (are_free self.old addrs.now ≡ true) }
+
+        // Added addresses join the list of added addresses.
+        ensures listed { (words : List ℕ) → IsClaimsOf self.old words → IsClaimsOf self.new (words ++ (if is_added result then addrs.now else [])) }
+    {
+        if !self.are_free(addrs) {
+            return Ok(false);
+        }
+        self.add_each(addrs)?;
+        Ok(true)
+    }
+
+    // Adds free addresses, or none of them where memory is wanting: an external number is taken back then, and blocks
+    // join only behind all that takes memory.
+    fn add_each(&mut self, addrs: &[Addr]) -> Result<(), NoMemory>
+        requires free { are_free self.old addrs.now ≡ true }
+        ensures ok { OnOk result (AddsAll self.old self.new addrs.now) }
+        ensures err { OnErr result (IsUnchanged self.old self.new) }
+        ensures longer { vec_len self.old.blocks.bytes ≤ vec_len self.new.blocks.bytes }
+    {
+        let [addr, others @ ..] = addrs else {
+            return Ok(());
+        };
+        if !addr.is_external() {
+            self.reserve_blocks(*addr)?;
+            self.add_each(others)?;
+            self.insert_blocks(*addr);
+            return Ok(());
+        }
+        self.add_external(*addr)?;
+        if let Err(fault) = self.add_each(others) {
+            self.remove_external(*addr);
+            return Err(fault);
+        }
+        Ok(())
+    }
+}
