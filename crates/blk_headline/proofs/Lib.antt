@@ -8,3 +8,4 @@ pub mod LinesCut
 pub mod Closing
 pub mod Examples
 pub mod WorkedRun
+pub mod SettledEntries

@@ -1,22 +1,27 @@
 -- The laws by which a run composes: an opening, commands one after another, the closing, and the turns of a script.
 use Rattle.std.specs.Prelude.{◌≡◌, ◌<◌, ◌≤◌, ◌+◌, ◌*◌, ◌^◌, ℕ, Bool, true, false, List, [], ◌∷◌, ◌++◌, length, Some, None, is_some, slice_set}
+use Rattle.std.specs.List.{Contains}
 use Rattle.std.specs.Option.{ForSome}
 use Rattle.blk_image.specs.Image.{Image}
 use Rattle.blk_image.specs.Steps.{TrailStep}
+use Rattle.blk_image.specs.Notes.{notes_in}
 use Rattle.blk_image.specs.Told.{Told, Trail, Applies, Passes}
 use Rattle.blk_model.specs.Sizes.{handle_names}
-use Rattle.blk_model.specs.Items.{Row, IsValidHolding}
+use Rattle.blk_model.specs.Items.{Item, Row, IsValidHolding}
 use Rattle.blk_model.specs.State.{State, Bounds, IsValidState, named_by}
-use Rattle.blk_model.specs.Holding.{open_state}
+use Rattle.blk_model.specs.Holding.{open_state, owner, rest, row_of}
 use Rattle.blk_model.specs.Request.{Request, to_close}
+use Rattle.blk_model.specs.ListSteps.{list_after, list_steps}
 use Rattle.blk_model.specs.Step.{Outcome}
+use Rattle.blk_model.specs.Stops.{is_safe}
 use Rattle.blk_io.specs.Streams.{Readings, later_of}
 use Rattle.blk_kept.specs.Commands.{IsNoted, IsStepped, note_number}
 use Rattle.blk_volume.specs.Found.{found}
 use Rattle.blk_volume.specs.StandsFor.{StandsFor}
 use Rattle.blk_headline.specs.Lines.{Cut, with_bytes, lines, whole_lines}
 use Rattle.blk_headline.specs.Script.{Script, LineError, ended, errs, says, asks, error_text, session_script}
-use Rattle.blk_headline.specs.Run.{Stamped, Turn, error_turn, text_turn, command_turn, stamped_by, outcome_in, state_then, state_after, clock_after, turns, commands_of, bound_names, closings, run_of, cut_after, commands}
+use Rattle.blk_headline.specs.Run.{Stamped, Turn, error_turn, text_turn, command_turn, stamped_by, outcome_in, state_then, state_after, clock_after, turns, commands_of, bound_names, closings, run_of, cut_after, commands, command_after, state_at}
+use Rattle.blk_headline.specs.Moments.{IsStopped}
 use Rattle.blk_headline.specs.Opening.{IsUsable, HoldsStill, Opens, has_opened, open_mark}
 use Rattle.blk_headline.specs.Progress.{Progress, Stops, StopsUnopened, IsWholeRun, AreNoted}
 use Rattle.blk_headline.specs.Playing.{IsPlayed}
@@ -172,3 +177,23 @@ ClosesFreeTheirName = (state : State) (moment name : ℕ) → IsValidState state
 -- no more names are bound than there are
 abbrev pub BoundNamesAreFew : Type 0
 BoundNamesAreFew = (state : State) → IsValidState state → length (bound_names state) ≤ handle_names
+
+-- What the next opening finds.
+
+-- an entry that a command leaves as it is: it is safe, and its item is listed at each step of the command on the use list
+pub record IsLeftAlone (state : State) (command : Stamped) (item : Item) (row : Row) : Type 0 where
+  pub number : ℕ
+  pub owned : owner state item ≡ Some number
+  pub safe : is_safe state (state_then state command) number ≡ true
+  pub row_is : row_of state item ≡ Some row
+  pub listed : (count : ℕ) → count ≤ length (list_steps state command.moment command.request) → Contains (list_after state command.moment command.request count) item
+
+-- wherever a run is stopped once its folder is opened, each settled entry that the next command leaves as it is is found with its exact bytes
+abbrev pub SettledEntriesAreFound : Type 0
+SettledEntriesAreFound = (from : Image) (opened : State) (commands : List Stamped) (steps : List TrailStep) (image : Image) (command : Stamped) (item : Item) (row : Row) → IsStopped from opened commands steps image → has_opened steps ≡ true
+    → command_after commands (notes_in steps) ≡ Some command → IsLeftAlone (state_at opened commands (notes_in steps)) command item row → Contains (found image) row
+
+-- and where no command is left just what is at rest is found
+abbrev pub RestsAreFound : Type 0
+RestsAreFound = (from : Image) (opened : State) (commands : List Stamped) (steps : List TrailStep) (image : Image) → IsStopped from opened commands steps image → has_opened steps ≡ true
+    → command_after commands (notes_in steps) ≡ None → found image ≡ rest (state_at opened commands (notes_in steps))

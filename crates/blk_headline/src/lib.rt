@@ -4,7 +4,7 @@
 //! run composes, each the contract of a function with an empty body.
 #![tactic(auto)]
 
-ghost use Rattle.blk_headline.specs.Laws.{AskedCommandsAreNext, BoundNamesAreFew, ClosesFreeTheirName, CommandsAreFew, CommandsArePlayed, ErrorsArePlayed, LeastNamesAreClosedFirst, LinesArePlayedInTurn, LinesGoOn, NoneIsClosedWhereNoneIsBound, NoteNumbersAreExact, NotedCommandsFollow, NothingIsPlayed, OpeningsOfATrailAreOne, PlayedCommandsComeFirst, PlayedRunsAreCut, PlayedRunsAreWhole, PlayingGoesOn, RunsBegin, RunsEnd, RunsGoOn, RunsGoOnInTurn, RunsMayStopBetween, RunsMayStopInACommand, TextsArePlayed, UnopenedRunsMayStop, WholeLinesComeFirst};
+ghost use Rattle.blk_headline.specs.Laws.{AskedCommandsAreNext, BoundNamesAreFew, ClosesFreeTheirName, CommandsAreFew, CommandsArePlayed, ErrorsArePlayed, LeastNamesAreClosedFirst, LinesArePlayedInTurn, LinesGoOn, NoneIsClosedWhereNoneIsBound, NoteNumbersAreExact, NotedCommandsFollow, NothingIsPlayed, OpeningsOfATrailAreOne, PlayedCommandsComeFirst, PlayedRunsAreCut, PlayedRunsAreWhole, PlayingGoesOn, RestsAreFound, RunsBegin, RunsEnd, RunsGoOn, RunsGoOnInTurn, RunsMayStopBetween, RunsMayStopInACommand, SettledEntriesAreFound, TextsArePlayed, UnopenedRunsMayStop, WholeLinesComeFirst};
 
 /// A run begins with an opening. Where the opening failed the folder holds at each word what it held, which a stop in any
 /// run may leave. Where the trail is told, what is said of each word and of the last step is said of the same steps.
@@ -57,4 +57,11 @@ pub fn least_names_are_closed_first()
     ensures none { NoneIsClosedWhereNoneIsBound }
     ensures frees { ClosesFreeTheirName }
     ensures few { BoundNamesAreFew }
+{}
+
+/// Wherever a run is stopped once its folder is opened, each settled entry that the command in progress leaves as it is is
+/// found with its exact bytes; with no command in progress just what is at rest is found.
+pub fn settled_entries_are_found()
+    ensures settled { SettledEntriesAreFound }
+    ensures rests { RestsAreFound }
 {}
