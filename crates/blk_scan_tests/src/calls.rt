@@ -153,6 +153,41 @@ fn twice_the_entries_take_at_most_twice_the_calls(rt: HostRuntime) -> Result<(),
     Ok(())
 }
 
+// Eight keys of one length that have one hash.
+const ALIKE: [&[u8]; 8] = [
+    b"kYv9SgEgJeuhnvR1HiU8fOA6",
+    b"kYv9SgEgJeuhnvR1th6GWwaw",
+    b"kYv9SgEgyr25Zbp0HiU8fOA6",
+    b"kYv9SgEgyr25Zbp0th6GWwaw",
+    b"lkpSrZcHJeuhnvR1HiU8fOA6",
+    b"lkpSrZcHJeuhnvR1th6GWwaw",
+    b"lkpSrZcHyr25Zbp0HiU8fOA6",
+    b"lkpSrZcHyr25Zbp0th6GWwaw",
+];
+
+// How many entries with these keys are kept, and the folder calls of the audit.
+fn counts_alike(alloc: Global) -> Result<(u64, u64), Fail> {
+    let mut f = many(alloc, Sort::Plain, 0)?;
+    let mut i: u32 = 0;
+    for key in ALIKE {
+        add(&mut f, i, &plain(i, key))?;
+        i = i.wrapping_add(1);
+    }
+    let start = f.calls();
+    let scan = scan_folder(alloc, &mut f)?;
+    Ok((scan.items(), f.calls().wrapping_sub(start)))
+}
+
+#[test]
+fn keys_of_one_hash_are_compared_with_one_another(rt: HostRuntime) -> Result<(), Fail> {
+    // Each but the first is read, and those that were kept before it.
+    let (others, calls) = counts(rt.alloc(), Sort::Plain, 8)?;
+    let (alike, more) = counts_alike(rt.alloc())?;
+    assert_eq!(rt; (others, alike), (8, 8));
+    assert_eq!(rt; more, calls.wrapping_add(7 + 28));
+    Ok(())
+}
+
 // The folder calls of a repair.
 fn calls_of_repair(alloc: Global, f: &mut Mem) -> Result<u64, ScanFault> {
     let mut files = BlockFiles::load(f)?;

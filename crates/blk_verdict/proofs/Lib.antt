@@ -10,7 +10,6 @@ pub mod KeyOf
 pub mod KeptKeysFound
 pub mod ListedFacts
 pub mod JudgedFacts
-pub mod OwnedClaims
 pub mod PlacesOfHashes
 pub mod Searched
 pub mod ShownClaims

@@ -12,6 +12,7 @@ use Rattle.blk_format.specs.Claims.{Claim, BlockOf, claims_of, claims_of_all, ha
 use Rattle.blk_format.specs.Records.{entry_in}
 use Rattle.blk_format.specs.Storage.{is_storage, kind_for}
 use Rattle.blk_addr.proofs.ClaimLemmas.{claims_of-blocks, has_claim-append, repeats-claims_of}
+use Rattle.blk_addr.proofs.MeetLemmas.{repeats-both}
 use Rattle.blk_volume.specs.Audit.{collides}
 use Rattle.blk_volume.specs.Entries.{stored_key, stored_streams}
 use Rattle.blk_volume.specs.Loads as shown
@@ -26,7 +27,6 @@ use Rattle.blk_laws.proofs.claims.NodeWords.{IsNode, is-node, node_apart}
 use Rattle.blk_laws.proofs.walks.Loads.{load-then}
 use Rattle.blk_verdict.specs.Kept.{AreShown, IsLoadedFrom, addresses_of, addresses_of_all}
 use Rattle.blk_verdict.specs.declared.loading.Loaded.{Loaded}
-use Rattle.blk_verdict.proofs.OwnedClaims.{repeats-both}
 use Rattle.blk_verdict.proofs.StreamFacts.{are_stored, no_fourth_addr}
 
 -- No word of a record but its node's is of the kind of nodes.

@@ -11,6 +11,7 @@ use Rattle.blk_audit.specs.declared.record_words.RecordWords.{RecordWords}
 abbrev pub words_kept : Loaded → RecordWords
 words_kept loaded = record {
   checks = true;
+  bare = true;
   hash = loaded.hash;
   next = 0;
   node = loaded.node;
@@ -20,7 +21,6 @@ words_kept loaded = record {
   sizes = loaded.sizes;
   addrs = loaded.addrs;
   flags = 0;
-  seal = 0;
 }
 
 -- an image has this key where a record with the same length of the key and the same word of a long key has it

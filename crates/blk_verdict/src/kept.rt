@@ -22,7 +22,7 @@ ghost use Rattle.blk_verdict.specs.Reads.{IsCutRead};
 use crate::by_hash::ByHash;
 use crate::fitting::{Sought, fits};
 use crate::loading::Loaded;
-use crate::owning::{claim_all, is_claimed, owned_words, share_any};
+use crate::owning::Owned;
 use crate::reason::Reason;
 use crate::roles::Role;
 use crate::same_keys::read_key_of;
@@ -154,8 +154,8 @@ impl KeptSoFar {
     fn collides(&self, loaded: &Loaded) -> bool
         ensures { IsClaimsOf self.now.claims (addresses_of_all self.now.kept.items) → result ≡ (repeats (claims_of_all (addresses_of loaded.now)) || overlap (claims_of_all (addresses_of_all self.now.kept.items)) (claims_of_all (addresses_of loaded.now))) }
     {
-        let words = owned_words(loaded);
-        share_any(&words) || is_claimed(&self.claims, &words)
+        let owned = Owned::of(loaded);
+        !self.claims.are_free(owned.as_slice())
     }
 
     // Whether a kept record with the same child flag has the key of a record, which is looked at only where one may have
@@ -337,7 +337,8 @@ impl KeptSoFar {
         ensures kept { OnOk result (self.new.kept.items ≡ self.old.kept.items ++ loaded ∷ []) }
         ensures indexed { OnOk result (IsIndexed self.old → repeats (claims_of_all (addresses_of_all self.old.kept.items ++ addresses_of loaded)) ≡ false → IsIndexed self.new) }
     {
-        claim_all(&mut self.claims, &owned_words(&loaded))?;
+        let owned = Owned::of(&loaded);
+        self.claims.add_all(owned.as_slice())?;
         self.by_hash.add(loaded.hash)?;
         self.kept.push(loaded)?;
         Ok(())

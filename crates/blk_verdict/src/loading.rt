@@ -21,7 +21,7 @@ ghost use Rattle.blk_audit.specs.ReadLists.{IsSaidAt};
 ghost use Rattle.blk_verdict.specs.PartNames.{IsKeyInFront, IsNameInFront};
 ghost use Rattle.blk_verdict.specs.Readable.{IsReadableIf};
 ghost use Rattle.blk_verdict.specs.Reads.{IsCutRead};
-ghost use Rattle.blk_audit.specs.Records.{AreWordsOf, IsHashOfKey, fields_said};
+ghost use Rattle.blk_audit.specs.Records.{AreWordsOf, IsHashOfKey, IsRightWhereSaid, fields_said};
 ghost use Rattle.blk_verdict.specs.Verdicts.{IsVerdict, loaded_with};
 
 use crate::keys::{has_key, read_key};
@@ -90,7 +90,7 @@ pub fn load<F: Folder>(
     let words = read_words(f, files, entry)?;
     let said = ReadRecord {
         words,
-        key_hash: None,
+        hash_is_right: false,
     };
     let mut name = [0u8; LONGEST_NAME as usize];
     load_words(f, files, node, entry, &said, reached, &mut name)
@@ -110,7 +110,7 @@ pub(crate) fn load_words<F: Folder>(
     requires kind { kind_of entry ≡ blocks_256 }
     requires stands { IsTrue (stands_among files.now entry) }
     requires room { length name.old ≡ most_key }
-    ensures verdict { IfOk result (λ verdict. ForSome (F.told f.old).files (λ image. Agrees files.now image → AreWordsOf image entry said.now.words → IfSome said.now.key_hash (IsHashOfKey image entry said.now.words) → (store_of image).node_fields node.now.addr ≡ Some (record { contents = entry; dirty = node.now.dirty }) → reached ≡ is_among (reached_by (store_of image) table_length) entry → IsVerdict (shown.load (store_of image) held_rule node.now.addr) verdict)) }
+    ensures verdict { IfOk result (λ verdict. ForSome (F.told f.old).files (λ image. Agrees files.now image → AreWordsOf image entry said.now.words → IsRightWhereSaid image entry said.now → (store_of image).node_fields node.now.addr ≡ Some (record { contents = entry; dirty = node.now.dirty }) → reached ≡ is_among (reached_by (store_of image) table_length) entry → IsVerdict (shown.load (store_of image) held_rule node.now.addr) verdict)) }
     ensures named { IfOk result (λ verdict. ForSome (F.told f.old).files (λ image. Agrees files.now image → IsNameInFront image verdict name.new)) }
     ensures readable { IfOk result (IsReadableIf files.now) }
     ensures stays { Stays (F.told f.old) (F.told f.new) }
@@ -140,7 +140,7 @@ fn load_data<F: Folder>(
     requires stands { IsTrue (stands_among files.now entry) }
     requires has { may_have entry said.now.words.key_len ≡ true }
     requires room { length name.old ≡ most_key }
-    ensures verdict { IfOk result (λ verdict. ForSome (F.told f.old).files (λ image. (dirty : ℕ) → Agrees files.now image → IfSome said.now.key_hash (IsHashOfKey image entry said.now.words) → reached ≡ is_among (chain (store_of image) (bucket_of_hash said.now.words.hash)).reached entry → IsVerdict (loading.load_data (store_of image) node entry dirty (fields_said said.now.words)) verdict)) }
+    ensures verdict { IfOk result (λ verdict. ForSome (F.told f.old).files (λ image. (dirty : ℕ) → Agrees files.now image → IsRightWhereSaid image entry said.now → reached ≡ is_among (chain (store_of image) (bucket_of_hash said.now.words.hash)).reached entry → IsVerdict (loading.load_data (store_of image) node entry dirty (fields_said said.now.words)) verdict)) }
     ensures named { IfOk result (λ verdict. ForSome (F.told f.old).files (λ image. Agrees files.now image → IsNameInFront image verdict name.new)) }
     ensures readable { IfOk result (IsReadableIf files.now) }
     ensures stays { Stays (F.told f.old) (F.told f.new) }
@@ -171,7 +171,7 @@ fn load_key<F: Folder>(
     requires placed { IsPlaced files.now entry said.now.words.key_len said.now.words.long_key }
     requires short { said.now.words.key_len ≤ most_key }
     requires room { length name.old ≡ most_key }
-    ensures verdict { IfOk result (λ verdict. ForSome (F.told f.old).files (λ image. (dirty : ℕ) → Agrees files.now image → is_some (stored_key (store_of image) entry (fields_said said.now.words)) ≡ true → IfSome said.now.key_hash (IsHashOfKey image entry said.now.words) → reached ≡ is_among (chain (store_of image) (bucket_of_hash said.now.words.hash)).reached entry → IsVerdict (loading.load_data (store_of image) node entry dirty (fields_said said.now.words)) verdict)) }
+    ensures verdict { IfOk result (λ verdict. ForSome (F.told f.old).files (λ image. (dirty : ℕ) → Agrees files.now image → is_some (stored_key (store_of image) entry (fields_said said.now.words)) ≡ true → IsRightWhereSaid image entry said.now → reached ≡ is_among (chain (store_of image) (bucket_of_hash said.now.words.hash)).reached entry → IsVerdict (loading.load_data (store_of image) node entry dirty (fields_said said.now.words)) verdict)) }
     ensures named { IfOk result (λ verdict. ForSome (F.told f.old).files (λ image. Agrees files.now image → IsNameInFront image verdict name.new)) }
     ensures readable { IfOk result (IsReadableIf files.now) }
     ensures stays { Stays (F.told f.old) (F.told f.new) }
@@ -190,7 +190,7 @@ fn load_key<F: Folder>(
     load_streams(f, files, node, entry, &said.words, name)
 }
 
-// The hash of the key of a record. Where it is not known, or the key is the name of a part, one folder call reads the
+// The hash of the key of a record. Where it is not known to be right, or the key is the name of a part, one folder call reads the
 // key into the front of `name`.
 fn key_sum<F: Folder>(
     f: &mut F,
@@ -204,7 +204,7 @@ fn key_sum<F: Folder>(
     requires placed { IsPlaced files.now entry said.now.words.key_len said.now.words.long_key }
     requires short { said.now.words.key_len ≤ most_key }
     requires room { length name.old ≡ most_key }
-    ensures sum { IfOk result (λ sum. ForSome (F.told f.old).files (λ image. IfSome said.now.key_hash (IsHashOfKey image entry said.now.words) → IsHashOfKey image entry said.now.words sum)) }
+    ensures sum { IfOk result (λ sum. ForSome (F.told f.old).files (λ image. IsRightWhereSaid image entry said.now → IsHashOfKey image entry said.now.words sum)) }
     ensures key { OnOk result (ForSome (F.told f.old).files (λ image. said.now.words.flags ≡ child → IsKeyInFront image entry said.now.words name.new)) }
     ensures stays { Stays (F.told f.old) (F.told f.new) }
     ensures short { IfDamaged result (IsCutRead files.now (F.told f.old)) }
@@ -218,15 +218,18 @@ fn key_sum<F: Folder>(
     }
 }
 
-// The hash of the key of a record, where it is known and the key is no name, which has to be read.
+// The hash of the key of a record, where it is known to be right and the key is no name, which has to be read.
 fn known_hash(said: &ReadRecord) -> Option<u32>
-    ensures { IfSome result (λ sum. (said.now.key_hash ≡ Some sum) × (said.now.words.flags ≢ child)) }
+    ensures known { IfSome result (λ sum. (sum ≡ said.now.words.hash) × (said.now.hash_is_right ≡ true)) }
+    ensures read { IfSome result (λ _. said.now.words.flags ≢ child) }
 {
     if said.words.flags == CHILD {
-        None
-    } else {
-        said.key_hash
+        return None;
     }
+    if !said.hash_is_right {
+        return None;
+    }
+    Some(said.words.hash)
 }
 
 // Reads the key of a record into the front of `name`, by one folder call, for its hash.

@@ -93,6 +93,7 @@ fn words_of(loaded: &Loaded) -> RecordWords
 {
     RecordWords {
         checks: true,
+        bare: true,
         hash: loaded.hash,
         next: 0,
         node: loaded.node.word(),
@@ -102,6 +103,5 @@ fn words_of(loaded: &Loaded) -> RecordWords
         sizes: loaded.sizes,
         addrs: loaded.addrs,
         flags: 0,
-        seal: 0,
     }
 }

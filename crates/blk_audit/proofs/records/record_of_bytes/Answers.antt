@@ -1,4 +1,4 @@
-use Rattle.std.proofs.Common.{◌≡◌, ℕ, ◌-◌, List, Bool, drop, take, length, ap, ap₂, ◌∙◌, arith}
+use Rattle.std.proofs.Common.{◌≡◌, ℕ, ◌-◌, List, Bool, drop, take, length, ap₂, ◌∙◌, arith}
 use Rattle.std.proofs.lemmas.List.{length-drop, take_all}
 use Rattle.blk_audit.specs.Records.{is_hash_in}
 use Rattle.blk_audit.specs.declared.record_words.RecordWords.{RecordWords}

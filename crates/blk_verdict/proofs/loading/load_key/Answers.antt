@@ -1,5 +1,5 @@
 use Rattle.std.proofs.Common.{◌≡◌, ℕ, true, false, List, Result, refl, sym, ◌∙◌, ap, subst}
-use Rattle.std.specs.Prelude.{◌==◌, IfSome, is_some}
+use Rattle.std.specs.Prelude.{◌==◌, is_some}
 use Rattle.std.specs.Option.{ForSome}
 use Rattle.std.proofs.lemmas.Bool.{eq-eqb}
 use Rattle.blk_format.specs.BlockFiles.{is_among}
@@ -14,7 +14,7 @@ use Rattle.blk_entry.proofs.KeyPlaces.{ok_weaker}
 use Rattle.blk_image.specs.Told.{Told}
 use Rattle.blk_io.proofs.Carried.{if_damaged_weaker}
 use Rattle.blk_lru.proofs.Conditions.{told_now, told_stays}
-use Rattle.blk_audit.specs.Records.{IsHashOfKey, fields_said}
+use Rattle.blk_audit.specs.Records.{IsRightWhereSaid, fields_said}
 use Rattle.blk_verdict.specs.Loading as loading
 use Rattle.blk_verdict.specs.PartNames.{IsNameInFront}
 use Rattle.blk_verdict.specs.Verdicts.{IsVerdict}
@@ -39,7 +39,7 @@ returns-then-not-reached-clause-verdict g c image there dirty agrees stored sums
 pub returns-clause-verdict : goal.returns-clause-verdict
 returns-clause-verdict g c =
     ok_weaker c.load_streams.result _
-    (λ verdict. ForSome (g.F.Folder.told c.args.f.now).files (λ image. (dirty : ℕ) → Agrees c.args.files.now image → is_some (stored_key (store_of image) c.args.entry (fields_said c.args.said.now.words)) ≡ true → IfSome c.args.said.now.key_hash (IsHashOfKey image c.args.entry c.args.said.now.words)
+    (λ verdict. ForSome (g.F.Folder.told c.args.f.now).files (λ image. (dirty : ℕ) → Agrees c.args.files.now image → is_some (stored_key (store_of image) c.args.entry (fields_said c.args.said.now.words)) ≡ true → IsRightWhereSaid image c.args.entry c.args.said.now
     → c.args.reached ≡ is_among (chain (store_of image) (bucket_of_hash c.args.said.now.words.hash)).reached c.args.entry → IsVerdict (loading.load_data (store_of image) c.args.node c.args.entry dirty (fields_said c.args.said.now.words)) verdict))
     (λ verdict is image there dirty agrees stored sums reached.
     let key = has_value (List ℕ) (stored_key (store_of image) c.args.entry (fields_said c.args.said.now.words)) stored in

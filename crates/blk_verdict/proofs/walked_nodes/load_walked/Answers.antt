@@ -44,7 +44,7 @@ returns-clause-verdict g c =
     (λ verdict is image there agrees are fields.
     let named : c.in-Some.entry ≡ c.args.node.now.contents = value_by (is_record_among c.args.files.now c.args.node.now.contents) c.args.node.now.contents c.in-Some.entry (sym c.in-Some.is ∙ c.entry.ensures.entry) in
     let said = c.in_ok-said.ensures.said image there are in
-    is image (told_now image c.in_ok-said.ensures.stays there) agrees said.words said.key_hash
+    is image (told_now image c.in_ok-said.ensures.stays there) agrees said.words said.hash
     (subst (λ (w : ℕ). (store_of image).node_fields c.args.node.now.addr ≡ Some (record { contents = w; dirty = c.args.node.now.dirty })) (sym named) fields)
     (c.contains-reached.ensures are.known ∙ ap (λ (words : List ℕ). is_among words c.word.result) are.reached ∙ ap (is_among (reached_by (store_of image) table_length)) c.word.ensures.word))
     c.load_words.ensures.verdict

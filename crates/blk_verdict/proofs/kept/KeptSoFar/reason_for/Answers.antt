@@ -4,13 +4,13 @@ use Rattle.std.proofs.lemmas.List.Concat.{flat_map-append}
 use Rattle.blk_image.specs.Image.{Image}
 use Rattle.blk_image.specs.Told.{Told}
 use Rattle.blk_format.specs.Claims.{claims_of, claims_of_all, overlap, repeats}
+use Rattle.blk_addr.proofs.ClaimLemmas.{repeats-append}
 use Rattle.blk_io.proofs.Carried.{carried, if_damaged_weaker}
 use Rattle.blk_disk.specs.Tables.{Agrees}
 use Rattle.blk_lru.proofs.Conditions.{told_now, told_stays}
 use Rattle.blk_verdict.specs.Keyed.{HasItsKey}
 use Rattle.blk_verdict.specs.Kept.{HaveKeys, addresses_of, addresses_of_all}
 use Rattle.blk_verdict.proofs.AdmitFacts.{answer_claimed, answer_name, answer_none, answer_parent}
-use Rattle.blk_verdict.proofs.OwnedClaims.{both_once}
 use Rattle.blk_verdict.proofs.Searched.{all_others}
 use Rattle.blk_verdict.proofs.ShownClaims.{collides_is}
 use Rattle.blk_verdict.proofs.kept.KeptSoFar.reason_for.Goals as goal
@@ -45,9 +45,10 @@ returns-clause-answer g c image there agrees kept given are known named =
 
 -- two lists of addresses that repeat nothing and share nothing
 apart_by : (owned words : List ℕ) (t : Bool) → repeats (claims_of_all owned) ≡ false → t ≡ (repeats (claims_of_all words) || overlap (claims_of_all owned) (claims_of_all words)) → t ≡ false → repeats (claims_of_all (owned ++ words)) ≡ false
+unfolding overlap
 apart_by owned words t once is none =
     let parts = or_parts (repeats (claims_of_all words)) (overlap (claims_of_all owned) (claims_of_all words)) (sym is ∙ none) in
-    ap repeats (flat_map-append claims_of owned words) ∙ both_once (claims_of_all owned) (claims_of_all words) once parts.0 parts.1
+    ap repeats (flat_map-append claims_of owned words) ∙ repeats-append (claims_of_all owned) (claims_of_all words) once parts.0 parts.1
 
 pub returns-clause-apart : goal.returns-clause-apart
 returns-clause-apart g c same =
