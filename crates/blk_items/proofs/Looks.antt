@@ -1,6 +1,5 @@
 -- What a search for a key finds where a state is kept.
-use Rattle.std.proofs.Common.{◌≡◌, ℕ, ◌+◌, List, [], refl, sym, ◌∙◌, ap, subst, true, false, arith, Option, Some, None}
-use Rattle.std.specs.Prelude.{slice_index}
+use Rattle.std.proofs.Common.{◌≡◌, ℕ, List, [], refl, sym, ◌∙◌, ap, subst, true, false, Option, Some, None}
 use Rattle.std.specs.Option.{option_and_then}
 use Rattle.blk_image.specs.Image.{Image}
 use Rattle.blk_image.proofs.Runs.{some_inj}
@@ -10,7 +9,6 @@ use Rattle.blk_model.specs.Holding as model
 use Rattle.blk_model.specs.Room.{own_charge}
 use Rattle.blk_model.specs.State.{Object, State, live_with, object_at}
 use Rattle.blk_format.specs.BlockFiles.{is_among}
-use Rattle.blk_volume.specs.Entries.{stream}
 use Rattle.blk_volume.specs.Found.{charge_of, row_of_loaded}
 use Rattle.blk_volume.specs.Layout.{IsPlacedAt, Layout, Represents, is_listed, rule_of}
 use Rattle.blk_volume.specs.Loads.{Loaded}
@@ -18,6 +16,7 @@ use Rattle.blk_volume.specs.Searches.{HasCheckedKey, IsOfLive, chained_for}
 use Rattle.blk_volume.specs.View.{RecordFields, entry_at, stands_as, store_of, view_of}
 use Rattle.blk_format.specs.Address.{rankings}
 use Rattle.blk_object.specs.Owning.{LoadsWith}
+use Rattle.blk_object.proofs.OwnedCharges.{record-charge}
 use Rattle.blk_object.proofs.OwnedPlaces.{kept-load}
 use Rattle.blk_laws.specs.SearchLaws.{IsSearchable}
 use Rattle.blk_laws.proofs.chains.ChainWords.{shown-fields}
@@ -25,7 +24,6 @@ use Rattle.blk_laws.proofs.chains.Searches.{found-live, searchable}
 use Rattle.blk_laws.proofs.claims.Owner.{IsOwned, its-key, owned}
 use Rattle.blk_laws.proofs.commands.Opening.{first-some}
 use Rattle.blk_laws.proofs.states.Charges.{items-charged}
-use Rattle.blk_laws.proofs.walks.Loads.{load-then}
 use Rattle.blk_laws.proofs.walks.Shown.{node-is}
 use Rattle.blk_disk.specs.declared.tables.BlockFiles.{BlockFiles}
 use Rattle.blk_disk.specs.Tables.{Agrees, is_node_among}
@@ -34,8 +32,6 @@ use Rattle.blk_entry.specs.Keys.{HasReadableKey, key_at}
 use Rattle.blk_chain.specs.Finding.{CanBeSearched, IsFound}
 use Rattle.blk_chain.specs.Unlinking.{StandsBehind}
 use Rattle.blk_chain.proofs.Apart.{behind-there, middle-there}
-use Rattle.blk_verdict.proofs.KeyFacts.{key_length}
-use Rattle.blk_verdict.proofs.StreamFacts.{are_stored, stored_length}
 use Rattle.blk_kept.specs.Keeping.{KeepsUncounted}
 use Rattle.blk_kept.proofs.Free.{standing-at}
 use Rattle.blk_items.specs.declared.looking.Live.{Live}
@@ -57,19 +53,7 @@ chained-there image key entry before found = chained (chained_for (store_of imag
 
 -- the record of what loads says what that is charged
 pub loaded-charge : (image : Image) (entry : ℕ) (loaded : Loaded) → LoadsWith entry loaded image → charge_at image entry ≡ charge_of loaded
-loaded-charge image entry loaded w =
-    load-then {P = charge_at image entry ≡ charge_of loaded} (store_of image) w.rule w.node loaded w.loads
-    (λ n e facts.
-    let stored = are_stored image e loaded.streams facts.facts.streams in
-    let three = stored.three in
-    let first = stored_length image _ _ (stream 0 loaded.streams) stored.first in
-    let second = stored_length image _ _ (stream 1 loaded.streams) stored.second in
-    let third = stored_length image _ _ (stream 2 loaded.streams) stored.third in
-    let len = key_length image n.contents e loaded.key facts.facts.keyed.key in
-    let fields = shown-fields image n.contents e facts.entry in
-    let at : (e.key_len + slice_index e.data_size 0 + slice_index e.data_size 1 + slice_index e.data_size 2) ≡ charge_of loaded = omega (arith, three, first, second, third, len) in
-    let same : charge_at image n.contents ≡ (e.key_len + slice_index e.data_size 0 + slice_index e.data_size 1 + slice_index e.data_size 2) = ap (λ (z : RecordFields). z.key_len + slice_index z.data_size 0 + slice_index z.data_size 1 + slice_index z.data_size 2) fields in
-    ap (charge_at image) (sym w.contents ∙ facts.facts.contents_is) ∙ same ∙ at)
+loaded-charge image entry loaded w = record-charge image entry loaded w
 
 -- so that of a node of a state that is shown
 pub said-charge : (image : Image) (state : State) (layout : Layout) → Represents (view_of image) state layout → (node : ℕ) (loaded : Loaded) → layout.at node ≡ Some loaded → charge_at image loaded.contents ≡ charge_of loaded

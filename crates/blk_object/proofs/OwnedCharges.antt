@@ -1,5 +1,5 @@
 -- What an entry is charged, by the words of its record.
-use Rattle.std.proofs.Common.{◌≡◌, ℕ, ◌+◌, List, [], ◌∷◌, length, length-take, take, refl, ap, sym, ◌∙◌, arith, Bool, true, false, Option, None, Some}
+use Rattle.std.proofs.Common.{◌≡◌, ℕ, ◌+◌, List, [], ◌∷◌, length, length-take, take, refl, ap, ap₂, sym, ◌∙◌, arith, Bool, true, false, Option, None, Some}
 use Rattle.std.specs.Prelude.{◌==◌, ◌&&◌, nat_le, not, slice_index, if◌then◌else◌}
 use Rattle.std.specs.List.{sum_by}
 use Rattle.std.specs.Option.{option_and_then, option_map}
@@ -10,7 +10,7 @@ use Rattle.blk_image.proofs.Words.{length-range}
 use Rattle.blk_format.specs.Address.{external, external_number, kind_of, place}
 use Rattle.blk_format.specs.BlockFiles.{stands_in}
 use Rattle.blk_format.specs.Storage.{is_storage}
-use Rattle.blk_volume.specs.Entries.{stored_key, stored_stream, stored_streams}
+use Rattle.blk_volume.specs.Entries.{stored_key, stored_stream, stored_streams, stream}
 use Rattle.blk_volume.specs.Found.{charge_of}
 use Rattle.blk_volume.specs.Loads.{Loaded}
 use Rattle.blk_volume.specs.View.{RecordFields, address_of, block_bytes, data_size_of, entry_at, fields_of, key_place_at, store_of, stored_at}
@@ -64,29 +64,46 @@ stream-length image e i bytes is = go (nat_le (data_size_of e i) 2147483647) is 
   go true h = stored-length image (data_size_of e i) (address_of e i) bytes h
   go false h = absurd (none-some h)
 
-streams-length : (image : Image) (e : RecordFields) (streams : List (List ℕ)) → stored_streams (store_of image) e ≡ Some streams → sum_by length streams ≡ data_size_of e 0 + data_size_of e 1 + data_size_of e 2
+-- so each of the three streams of a record has the length that it says
+pub record HaveLengths (e : RecordFields) (streams : List (List ℕ)) : Type 0 where
+  pub first : length (stream 0 streams) ≡ data_size_of e 0
+  pub second : length (stream 1 streams) ≡ data_size_of e 1
+  pub third : length (stream 2 streams) ≡ data_size_of e 2
+  pub all : sum_by length streams ≡ data_size_of e 0 + data_size_of e 1 + data_size_of e 2
+
+pub streams-length : (image : Image) (e : RecordFields) (streams : List (List ℕ)) → stored_streams (store_of image) e ≡ Some streams → HaveLengths e streams
 unfolding stored_streams
 streams-length image e streams is = go ((data_size_of e 3 == 0) && (address_of e 3 == 0)) (stored_stream (store_of image) e 0) (stored_stream (store_of image) e 1) (stored_stream (store_of image) e 2) refl refl refl is where
   go : (b : Bool) (s0 s1 s2 : Option (List ℕ)) → stored_stream (store_of image) e 0 ≡ s0 → stored_stream (store_of image) e 1 ≡ s1 → stored_stream (store_of image) e 2 ≡ s2
-      → (if not b then None else option_and_then (λ first. option_and_then (λ second. option_map (λ third. first ∷ second ∷ third ∷ []) s2) s1) s0) ≡ Some streams → sum_by length streams ≡ data_size_of e 0 + data_size_of e 1 + data_size_of e 2
+      → (if not b then None else option_and_then (λ first. option_and_then (λ second. option_map (λ third. first ∷ second ∷ third ∷ []) s2) s1) s0) ≡ Some streams → HaveLengths e streams
   go false s0 s1 s2 e0 e1 e2 h = absurd (none-some h)
   go true None s1 s2 e0 e1 e2 h = absurd (none-some h)
   go true (Some a) None s2 e0 e1 e2 h = absurd (none-some h)
   go true (Some a) (Some b) None e0 e1 e2 h = absurd (none-some h)
   go true (Some a) (Some b) (Some c) e0 e1 e2 h =
       let same : a ∷ b ∷ c ∷ [] ≡ streams = cc in
-      let first = stream-length image e 0 a e0 in
-      let second = stream-length image e 1 b e1 in
-      let third = stream-length image e 2 c e2 in
-      sym (ap (sum_by length) same) ∙ (let sum : sum_by length (a ∷ b ∷ c ∷ []) ≡ data_size_of e 0 + data_size_of e 1 + data_size_of e 2 = omega (arith, first, second, third) in sum)
+      let first : length a ≡ data_size_of e 0 = stream-length image e 0 a e0 in
+      let second : length b ≡ data_size_of e 1 = stream-length image e 1 b e1 in
+      let third : length c ≡ data_size_of e 2 = stream-length image e 2 c e2 in
+      record {
+        first = sym (ap (λ (l : List (List ℕ)). length (stream 0 l)) same) ∙ first;
+        second = sym (ap (λ (l : List (List ℕ)). length (stream 1 l)) same) ∙ second;
+        third = sym (ap (λ (l : List (List ℕ)). length (stream 2 l)) same) ∙ third;
+        all = sym (ap (sum_by length) same) ∙ (let sum : sum_by length (a ∷ b ∷ c ∷ []) ≡ data_size_of e 0 + data_size_of e 1 + data_size_of e 2 = omega (arith, first, second, third) in sum);
+      }
 
--- the sum of the lengths that the record says
-pub owned-charge : (image : Image) (entry : ℕ) (head : Head) (loaded : Loaded) → IsRecordHead image entry head → LoadsWith entry loaded image
-    → head.key_len + slice_index head.sizes 0 + slice_index head.sizes 1 + slice_index head.sizes 2 ≡ charge_of loaded
-owned-charge image entry head loaded is with_record = load-then (store_of image) with_record.rule with_record.node loaded with_record.loads (λ n e f.
+-- what loads is charged the sum of the lengths that its record says
+pub record-charge : (image : Image) (entry : ℕ) (loaded : Loaded) → LoadsWith entry loaded image
+    → (entry_at image entry).key_len + slice_index (entry_at image entry).data_size 0 + slice_index (entry_at image entry).data_size 1 + slice_index (entry_at image entry).data_size 2 ≡ charge_of loaded
+record-charge image entry loaded with_record = load-then (store_of image) with_record.rule with_record.node loaded with_record.loads (λ n e f.
     let here : (store_of image).entry entry ≡ Some e = ap (store_of image).entry (sym with_record.contents ∙ f.facts.contents_is) ∙ f.entry in
     let shown : fields_of (entry_at image entry) ≡ e = shown-fields image entry e here in
-    let key : length loaded.key ≡ head.key_len = key-length image n.contents e loaded.key f.facts.keyed.key ∙ sym (ap (λ (x : RecordFields). x.key_len) shown) ∙ sym is.key_len in
-    let sizes : e.data_size ≡ head.sizes = sym (ap (λ (x : RecordFields). x.data_size) shown) ∙ sym is.sizes in
-    let streams : sum_by length loaded.streams ≡ slice_index head.sizes 0 + slice_index head.sizes 1 + slice_index head.sizes 2 = streams-length image e loaded.streams f.facts.streams ∙ ap (λ (ws : List ℕ). slice_index ws 0 + slice_index ws 1 + slice_index ws 2) sizes in
+    let key : length loaded.key ≡ (entry_at image entry).key_len = key-length image n.contents e loaded.key f.facts.keyed.key ∙ sym (ap (λ (x : RecordFields). x.key_len) shown) in
+    let streams : sum_by length loaded.streams ≡ slice_index (entry_at image entry).data_size 0 + slice_index (entry_at image entry).data_size 1 + slice_index (entry_at image entry).data_size 2 =
+    (streams-length image e loaded.streams f.facts.streams).all ∙ sym (ap (λ (x : RecordFields). slice_index x.data_size 0 + slice_index x.data_size 1 + slice_index x.data_size 2) shown) in
     omega (arith, key, streams))
+
+-- and so those of what was read of it
+pub owned-charge : (image : Image) (entry : ℕ) (head : Head) (loaded : Loaded) → IsRecordHead image entry head → LoadsWith entry loaded image
+    → head.key_len + slice_index head.sizes 0 + slice_index head.sizes 1 + slice_index head.sizes 2 ≡ charge_of loaded
+owned-charge image entry head loaded is with_record = ap₂ (λ (n : ℕ) (sizes : List ℕ). n + slice_index sizes 0 + slice_index sizes 1 + slice_index sizes 2) is.key_len is.sizes ∙ record-charge image entry loaded with_record
