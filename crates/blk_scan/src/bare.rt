@@ -83,7 +83,7 @@ fn add_node(
     let Some(here) = lists.node(i) else {
         return Ok(());
     };
-    if kept.contains(&node.word()) && here.seal == 0 {
+    if kept.contains(&node.word()) && here.bare {
         bare.push(node)?;
     }
     Ok(())
@@ -131,7 +131,7 @@ fn add_record<F: Folder>(
         return Ok(());
     };
     let said = lists.record_at(f, files, standing)?;
-    if said.words.seal == 0 {
+    if said.words.bare {
         push(bare, standing)?;
     }
     Ok(())
