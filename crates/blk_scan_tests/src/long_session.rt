@@ -156,6 +156,26 @@ fn failing_next(session: Session) -> Result<Session, Fail> {
     })
 }
 
+// Whether a session lists all entries but the last one, and reads the second stream of the one before.
+fn shows_first(alloc: Global, session: &mut Session, bytes: &[u8]) -> Result<bool, Fail> {
+    session.out = MemSink::new(alloc);
+    session.step(&Command::List)?;
+    let lists = session.out.written() == list_of_first(alloc, 399)?.as_slice();
+    session.out = MemSink::new(alloc);
+    session.step(&Command::Open {
+        handle: 0,
+        key: &key_of(398),
+    })?;
+    session.step(&Command::Read {
+        handle: 0,
+        stream: 1,
+        offset: 0,
+        count: u64::MAX,
+    })?;
+    let text = text_of_stream(alloc, front(bytes, size_of(398)))?;
+    Ok(lists && session.out.written() == text.as_slice())
+}
+
 #[test]
 fn all_but_the_entry_whose_close_failed_are_held(rt: HostRuntime) -> Result<(), Fail> {
     let bytes = all_bytes(rt.alloc())?;
@@ -181,22 +201,7 @@ fn all_but_the_entry_whose_close_failed_are_held(rt: HostRuntime) -> Result<(), 
         bytes: 43_840_524,
     };
     assert_eq!(rt; totals, first);
-    next.out = MemSink::new(rt.alloc());
-    next.step(&Command::List)?;
-    assert!(rt; next.out.written() == list_of_first(rt.alloc(), 399)?.as_slice());
-    next.out = MemSink::new(rt.alloc());
-    next.step(&Command::Open {
-        handle: 0,
-        key: &key_of(398),
-    })?;
-    next.step(&Command::Read {
-        handle: 0,
-        stream: 1,
-        offset: 0,
-        count: u64::MAX,
-    })?;
-    let stream = front(&bytes, size_of(398));
-    assert!(rt; next.out.written() == text_of_stream(rt.alloc(), stream)?.as_slice());
+    assert!(rt; shows_first(rt.alloc(), &mut next, &bytes)?);
     assert_eq!(rt;
         held(rt.alloc(), next.f)?,
         (399, 43_840_524, hash_of_first(399, &bytes))
