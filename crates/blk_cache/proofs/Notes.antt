@@ -6,6 +6,7 @@ use Rattle.blk_image.specs.Steps.{Note, after}
 use Rattle.blk_image.specs.Told.{Applies, Passes, Stays, Told}
 use Rattle.blk_image.proofs.Runs.{grows_then}
 use Rattle.blk_model.specs.Bounds.{bounds_of}
+use Rattle.blk_model.specs.Reply.{answer_of}
 use Rattle.blk_model.specs.Request.{Request}
 use Rattle.blk_model.specs.State.{State, named_by}
 use Rattle.blk_model.specs.Step.{step}
@@ -18,7 +19,7 @@ use Rattle.blk_kept.specs.Commands.{Does, ForKept, IsDone, IsNoted, IsStepped, M
 use Rattle.blk_kept.proofs.Keeping.{kept-stands}
 use Rattle.blk_cache.specs.declared.cache.Cache.{Cache}
 use Rattle.blk_cache.specs.CacheKeeping.{IsBoundAs, KeepsState}
-use Rattle.blk_cache.specs.CommandClauses.{OnlyNotesChange}
+use Rattle.blk_cache.specs.CommandClauses.{IsRefused, OnlyNotesChange}
 
 -- a note changes no file
 note-nothing : (number : ℕ) (files : Option Image) → option_map (after (Note number ∷ [])) files ≡ files
@@ -69,6 +70,12 @@ module _ (old new last : Cache) (told mid now : Told) (moment : ℕ) (request : 
 
     pub noted-steps : ForKept (KeepsState old) told (IsStepped told now moment request number)
     noted-steps image there state k = inr (noted-ends image there state k)
+
+    -- a refusal makes the note alone
+    pub refused-notes : (IsRefused answer → Stays told mid) → ForKept (KeepsState old) told (λ state. IsRefused (answer_of (step state moment request).reply) → Applies told now (Note number ∷ []))
+    refused-notes quiet image there state k refused =
+        let d : IsDone (KeepsState new) mid moment request answer state = does image there state k in
+        subst (λ (t : Told). Applies t now (Note number ∷ [])) (quiet (subst (λ (a : Answer). IsRefused a) (sym d.answered) refused)) note
 
 -- the folder is open still
 pub open-on : (new last : Cache) (mid now : Told) → now.files ≡ mid.files → OnlyNotesChange new last → ForSome mid.files (IsOpen new.files) → ForSome now.files (IsOpen last.files)

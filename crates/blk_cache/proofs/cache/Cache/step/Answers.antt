@@ -2,13 +2,15 @@ use Rattle.std.proofs.Common.{◌≡◌, ℕ, ◌+◌, None, [], ◌∷◌, refl
 use Rattle.blk_image.specs.Steps.{Note}
 use Rattle.blk_image.specs.Told.{Applies, Told}
 use Rattle.blk_io.proofs.Carried.{if_damaged_weaker}
+use Rattle.blk_model.specs.Reply.{answer_of}
 use Rattle.blk_model.specs.Request.{request_of}
 use Rattle.blk_model.specs.Step.{step}
 use Rattle.blk_kept.specs.Commands.{ForKept, IsNoted, IsStepped, note_number}
 use Rattle.blk_object.specs.FailedChecks.{IsFailedCheck}
 use Rattle.blk_cache.specs.CacheKeeping.{KeepsState}
+use Rattle.blk_cache.specs.CommandClauses.{IsRefused}
 use Rattle.blk_cache.specs.Stepping.{IfStepDamaged}
-use Rattle.blk_cache.proofs.Notes.{not-noted, noted-does, noted-ends, noted-steps, open-on, same-files}
+use Rattle.blk_cache.proofs.Notes.{not-noted, noted-does, noted-ends, noted-steps, open-on, refused-notes, same-files}
 use Rattle.blk_cache.proofs.StepEnds.{any-damaged, by-files, damaged-on, failed-before, failed-behind, kept-behind, open-behind}
 use Rattle.blk_cache.proofs.StepTexts.{any-after, front-of-whole, front-printed, none-before, whole-printed}
 use Rattle.blk_cache.proofs.cache.Cache.step.Goals as goal
@@ -106,6 +108,12 @@ returns-then-failed-clause-noted g c =
     (noted-ends c.args.self.now c.perform.new.self c.note.new.self (g.F.Folder.told c.args.f.now) (g.F.Folder.told c.perform.new.f) (g.F.Folder.told c.note.new.f) c.args.moment (request_of c.args.command.now) (note_number (c.args.self.now.notes + 1)) c.in_ok-answer.ensures.stops c.in_ok-answer.answer c.in_ok-answer.ensures.does
     (made c.args.self.now.notes c.perform.new.self.notes (g.F.Folder.told c.perform.new.f) (g.F.Folder.told c.note.new.f) c.in_ok-answer.ensures.notes c.in_ok-note.ensures.done) c.in_ok-note.ensures.others)
 
+pub returns-then-failed-clause-refused : goal.returns-then-failed-clause-refused
+returns-then-failed-clause-refused g c =
+    subst (λ (t : Told). ForKept (KeepsState c.args.self.now) (g.F.Folder.told c.args.f.now) (λ state. IsRefused (answer_of (step state c.args.moment (request_of c.args.command.now)).reply) → Applies (g.F.Folder.told c.args.f.now) t (Note (note_number (c.args.self.now.notes + 1)) ∷ []))) (sym c.in_ok-reply.ensures.stays)
+    (refused-notes c.args.self.now c.perform.new.self c.note.new.self (g.F.Folder.told c.args.f.now) (g.F.Folder.told c.perform.new.f) (g.F.Folder.told c.note.new.f) c.args.moment (request_of c.args.command.now) (note_number (c.args.self.now.notes + 1)) c.in_ok-answer.ensures.stops c.in_ok-answer.answer c.in_ok-answer.ensures.does
+    (made c.args.self.now.notes c.perform.new.self.notes (g.F.Folder.told c.perform.new.f) (g.F.Folder.told c.note.new.f) c.in_ok-answer.ensures.notes c.in_ok-note.ensures.done) c.in_ok-note.ensures.others c.in_ok-answer.ensures.quiet)
+
 pub returns-then-failed-clause-is_open : goal.returns-then-failed-clause-is_open
 returns-then-failed-clause-is_open g c =
     open-behind c.note.new.self c.reply.new.self (g.F.Folder.told c.note.new.f) (g.F.Folder.told c.reply.new.f) c.in_ok-reply.ensures.others c.in_ok-reply.ensures.stays
@@ -148,6 +156,12 @@ returns-else-failed-clause-printed g c =
     (same-files (g.F.Folder.told c.perform.new.f) (g.F.Folder.told c.note.new.f) _ c.in_ok-note.ensures.done) c.requires.plain c.in_ok-answer.answer (noted-does c.args.self.now c.perform.new.self c.note.new.self (g.F.Folder.told c.args.f.now) (g.F.Folder.told c.perform.new.f) (g.F.Folder.told c.note.new.f) c.args.moment (request_of c.args.command.now) (note_number (c.args.self.now.notes + 1)) c.in_ok-answer.ensures.stops c.in_ok-answer.answer c.in_ok-answer.ensures.does
     (made c.args.self.now.notes c.perform.new.self.notes (g.F.Folder.told c.perform.new.f) (g.F.Folder.told c.note.new.f) c.in_ok-answer.ensures.notes c.in_ok-note.ensures.done) c.in_ok-note.ensures.others)
     c.perform.new.failed c.reply.new.failed (g.K.Sink.written c.args.out.now) (g.K.Sink.written c.perform.new.out) (g.K.Sink.written c.reply.new.out) c.in_ok-answer.ensures.says c.in_ok-reply.ensures.printed c.if-failed.false
+
+pub returns-else-failed-clause-refused : goal.returns-else-failed-clause-refused
+returns-else-failed-clause-refused g c =
+    subst (λ (t : Told). ForKept (KeepsState c.args.self.now) (g.F.Folder.told c.args.f.now) (λ state. IsRefused (answer_of (step state c.args.moment (request_of c.args.command.now)).reply) → Applies (g.F.Folder.told c.args.f.now) t (Note (note_number (c.args.self.now.notes + 1)) ∷ []))) (sym c.in_ok-reply.ensures.stays)
+    (refused-notes c.args.self.now c.perform.new.self c.note.new.self (g.F.Folder.told c.args.f.now) (g.F.Folder.told c.perform.new.f) (g.F.Folder.told c.note.new.f) c.args.moment (request_of c.args.command.now) (note_number (c.args.self.now.notes + 1)) c.in_ok-answer.ensures.stops c.in_ok-answer.answer c.in_ok-answer.ensures.does
+    (made c.args.self.now.notes c.perform.new.self.notes (g.F.Folder.told c.perform.new.f) (g.F.Folder.told c.note.new.f) c.in_ok-answer.ensures.notes c.in_ok-note.ensures.done) c.in_ok-note.ensures.others c.in_ok-answer.ensures.quiet)
 
 pub returns-else-failed-clause-is_open : goal.returns-else-failed-clause-is_open
 returns-else-failed-clause-is_open g c =

@@ -1,0 +1,94 @@
+// The command Doom.
+ghost use Rattle.std.specs.Prelude.{◌≡◌, ◌≤◌, ℕ, IfOk, IfSome, IsTrue, None, Ok, OnOk, Some};
+ghost use Rattle.std.specs.Option.{ForSome};
+ghost use Rattle.blk_image.specs.Told.{Passes, Rises, Stays};
+ghost use Rattle.blk_io.specs.Faults.{IfDamaged, IfDevice};
+ghost use Rattle.blk_model.specs.Effects.{doomed};
+ghost use Rattle.blk_model.specs.Request.{to_doom};
+ghost use Rattle.blk_model.specs.declared.Answer.TheVariants as answer;
+ghost use Rattle.blk_disk.specs.Open.{IsOpen};
+ghost use Rattle.blk_disk.specs.Tables.{is_node_among, is_record_among};
+ghost use Rattle.blk_kept.specs.Commands.{Does, MayStopAtEach};
+ghost use Rattle.blk_object.specs.FailedChecks.{IsFailedCheck};
+ghost use Rattle.blk_object.specs.RemovingObjects.{FindsEither};
+ghost use Rattle.blk_cache.specs.CacheKeeping.{KeepsState};
+ghost use Rattle.blk_cache.specs.CommandClauses.{IsRefused, KeepsAny};
+ghost use Rattle.blk_cache.specs.Dooming.{CountsDoomed, ForEachOpen, doom_refusal};
+
+use crate::cache::Cache;
+use blk_addr::Addr;
+use blk_io::{Fault, Folder};
+use blk_items::doom_named;
+use blk_model::{Answer, Refusal};
+use blk_sparse::Gone;
+
+impl Cache {
+    /// Dooms the object that a handle names: its items leave the list and their chains, its parts are freed, and its record
+    /// and its places stay until its last handle is closed.
+    ///
+    /// It is refused with `BadHandle` where the name is free, or 4096 or more, and `Doomed` where its object is doomed.
+    /// An object without parts takes at most 39 folder calls where the search passes one record of its chain or none, and one
+    /// more for each further one. After a fault nothing is promised of the cache but that it may be let go.
+    pub(crate) fn doom<F: Folder>(&mut self, f: &mut F, handle: u16) -> Result<Answer, Fault>
+        requires is_open { ForSome (F.told f.old).files (IsOpen self.old.files) }
+        ensures does { (moment : ℕ) → IfOk result (λ answer. Does (KeepsState self.old) (KeepsState self.new) (F.told f.old) (F.told f.new) moment (to_doom handle) answer) }
+        ensures stops { (moment : ℕ) → MayStopAtEach (KeepsState self.old) (F.told f.old) (F.told f.new) moment (to_doom handle) }
+
+        // What the name is bound to is refused on every folder, and a refusal does nothing.
+        ensures refuses { IfSome (doom_refusal self.old.handles handle) (λ why. result ≡ Ok (answer.Refused why)) }
+        ensures quiet { IfOk result (λ answer. IsRefused answer → Stays (F.told f.old) (F.told f.new)) }
+        ensures unchanged { IfOk result (λ answer. IsRefused answer → self.new ≡ self.old) }
+
+        ensures is_open { ForSome (F.told f.new).files (IsOpen self.new.files) }
+        ensures notes { self.new.notes ≡ self.old.notes }
+        ensures mark { self.new.mark ≡ self.old.mark }
+
+        // A damage is a check that fails on what is read here; nothing is written after it.
+        ensures damaged { IfDamaged result (IsFailedCheck self.new.files (F.told f.new)) }
+
+        // A folder that tells its files gives no damage where the cache keeps a state.
+        ensures untold { ForSome (F.told f.old).files (KeepsAny self.old) → IfDamaged result (λ _. (F.told f.old).files ≡ None) }
+        ensures silent { (F.told f.old).files ≡ None → (F.told f.new).files ≡ None }
+        ensures later { F.faults f.old ≤ F.faults f.new }
+        ensures device { IfDevice result (Rises (F.faults f.old) (F.faults f.new)) }
+    {
+        let Some(object) = self.handles.object(handle) else {
+            return Ok(Answer::Refused(Refusal::BadHandle));
+        };
+        if object.doomed {
+            return Ok(Answer::Refused(Refusal::Doomed));
+        }
+        self.doom_open(f, object.entry, object.node)?;
+        Ok(Answer::Done)
+    }
+
+    // Dooms a live object that a handle names, by its record and its node.
+    fn doom_open<F: Folder>(&mut self, f: &mut F, entry: Addr, node: Addr) -> Result<(), Fault>
+        requires names { IsTrue (is_record_among self.old.files entry) }
+        requires node { IsTrue (is_node_among self.old.files node) }
+        requires is_open { ForSome (F.told f.old).files (IsOpen self.old.files) }
+        ensures dooms { OnOk result (ForSome (F.told f.old).files (λ from. ForEachOpen self.old node entry from (λ state number object. ForSome (F.told f.new).files (KeepsState self.new (doomed number state (Some object)))))) }
+        ensures stops { ForSome (F.told f.old).files (λ from. ForEachOpen self.old node entry from (λ state number object. Passes (F.told f.old) (F.told f.new) (FindsEither state (doomed number state (Some object))))) }
+        ensures is_open { ForSome (F.told f.new).files (IsOpen self.new.files) }
+        ensures notes { self.new.notes ≡ self.old.notes }
+        ensures mark { self.new.mark ≡ self.old.mark }
+        ensures damaged { IfDamaged result (IsFailedCheck self.new.files (F.told f.new)) }
+        ensures untold { ForSome (F.told f.old).files (λ from. ForEachOpen self.old node entry from (λ state number object. IfDamaged result (λ _. (F.told f.old).files ≡ None))) }
+        ensures silent { (F.told f.old).files ≡ None → (F.told f.new).files ≡ None }
+        ensures later { F.faults f.old ≤ F.faults f.new }
+        ensures device { IfDevice result (Rises (F.faults f.old) (F.faults f.new)) }
+    {
+        let gone = doom_named(f, &self.files, &mut self.name, entry, node)?;
+        self.count_doomed(entry, &gone);
+        Ok(())
+    }
+
+    /// Counts what went of a doomed object no longer, and marks the object as doomed where it is open.
+    pub(crate) fn count_doomed(&mut self, entry: Addr, gone: &Gone)
+        ensures counts { CountsDoomed self.old self.new entry gone.now }
+    {
+        self.handles.doom_entry(entry);
+        self.items = self.items.saturating_sub(gone.items);
+        self.bytes = self.bytes.saturating_sub(gone.bytes);
+    }
+}
