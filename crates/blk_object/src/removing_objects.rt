@@ -84,7 +84,6 @@ pub fn remove_read<F: Folder>(
     requires kind_before { IfSome found.now.before (λ before. kind_of before ≡ blocks_256) }
     requires stands_before { IfSome found.now.before (λ before. IsTrue (stands_among files.now before)) }
     requires places { All (IsPlaceAmong files.now) owned.now.places }
-    requires small { owned.now.charge < 2 ^ 34 }
     requires is_open { ForSome (F.told f.old).files (IsOpen files.now) }
 
     // Where these are its places and its charge, and such an item lies there in a state that is kept and counted, the state without it is so in the end. At each word what was at rest is found, or what is at rest without it.

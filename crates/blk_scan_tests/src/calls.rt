@@ -1,7 +1,6 @@
-// The folder calls of an audit of many entries, of a repair, and of an eviction.
+// The folder calls of an audit of many entries, and of a repair.
 use crate::folders::{Entry, Mem, add, give_blocks, put_index, put_words};
 use crate::repairs::mend;
-use crate::sessions::{LIMITS, Session, empty};
 use blk_audit::ScanFault;
 use blk_disk::BlockFiles;
 use blk_index::make;
@@ -239,14 +238,5 @@ fn a_repair_of_what_is_repaired_takes_few_calls(rt: HostRuntime) -> Result<(), F
 fn the_table_is_read_in_pieces(rt: HostRuntime) -> Result<(), Fail> {
     let calls = table_calls(rt.alloc())?;
     assert!(rt; calls <= 60 + 4, "{calls} calls");
-    Ok(())
-}
-
-#[test]
-fn an_eviction_of_a_plain_object_takes_few_calls(rt: HostRuntime) -> Result<(), Fail> {
-    let mut session = Session::over(rt.alloc(), empty(rt.alloc()), LIMITS)?;
-    session.run(&[b"create 0 a", b"write 0 0 0 6162", b"close 0"])?;
-    let calls = session.line(b"trim 0")?;
-    assert!(rt; calls == 0, "{calls} calls");
     Ok(())
 }
