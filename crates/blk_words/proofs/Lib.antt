@@ -1,3 +1,4 @@
 pub mod Refused
 pub mod Joined
 pub mod Named
+pub mod Examples
