@@ -230,3 +230,13 @@ first_of A f damage files is first image there =
 -- the count rose since an earlier moment
 pub rises_since : (a b c : ℕ) → a ≤ b → Rises b c → Rises a c
 rises_since a b c less rises few = let r = rises few in omega (arith, r, less)
+
+-- the cause of a status that is this one
+pub device_cause : (s : Status) (files : Option Image) (device source sink long : Type 0) → CauseOf s files device source sink long → s ≡ status.Device → device
+device_cause s files device source sink long cause is = subst (λ (x : Status). CauseOf x files device source sink long) is cause
+
+pub source_cause : (s : Status) (files : Option Image) (device source sink long : Type 0) → CauseOf s files device source sink long → s ≡ status.Source → source
+source_cause s files device source sink long cause is = subst (λ (x : Status). CauseOf x files device source sink long) is cause
+
+pub sink_cause : (s : Status) (files : Option Image) (device source sink long : Type 0) → CauseOf s files device source sink long → s ≡ status.Sink → sink
+sink_cause s files device source sink long cause is = subst (λ (x : Status). CauseOf x files device source sink long) is cause

@@ -11,7 +11,8 @@ use Rattle.blk_cache.proofs.Ends.{kept-open}
 use Rattle.blk_run.specs.Session.{Outside}
 use Rattle.blk_run.proofs.Assembling.{exit_unopened}
 use Rattle.blk_run.proofs.HeadlineBridge.{cache_stands, held_still}
-use Rattle.blk_run.proofs.SessionEnds.{begins_at, cause_since, first_of, opened_at, rises_since, session_of_runs}
+use Rattle.blk_run.proofs.SessionEnds.{begins_at, cause_since, device_cause, first_of, opened_at, rises_since, session_of_runs, sink_cause, source_cause}
+use Rattle.blk_run.proofs.Completeness.{complete}
 use Rattle.blk_run.proofs.sessions.session.Goals as goal
 
 pub play-requires-clause-is_open : goal.play-requires-clause-is_open
@@ -43,3 +44,10 @@ returns-in-Err-Device-clause-session g c from there usable readings clock bytes 
 
 pub returns-clause-cause : goal.returns-clause-cause
 returns-clause-cause g c = first_of (Unit {0}) c.in-Err-Damaged.field-0 c.in-Err-Damaged.damage (g.F.Folder.told c.args.folder.now).files c.in-Err-Damaged.field-0-is c.in-Err-Damaged.ensures.first
+
+pub returns-in-Ok-start-clause-complete : goal.returns-in-Ok-start-clause-complete
+returns-in-Ok-start-clause-complete g c from there usable readings clock bytes left_is within no_device no_source no_sink =
+    let cause = returns-in-Ok-start-clause-cause g c in
+    complete (bounds_of c.args.limits) c.args.budget from readings bytes _ _ _ _ _ within no_device no_source no_sink c.play.result
+    (device_cause c.play.result (g.F.Folder.told c.args.folder.now).files _ _ _ _ cause) (source_cause c.play.result (g.F.Folder.told c.args.folder.now).files _ _ _ _ cause) (sink_cause c.play.result (g.F.Folder.told c.args.folder.now).files _ _ _ _ cause)
+    (returns-in-Ok-start-clause-session g c from there usable readings clock bytes left_is)
