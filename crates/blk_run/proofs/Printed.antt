@@ -1,5 +1,5 @@
 -- Texts that are printed in pieces.
-use Rattle.std.proofs.Common.{◌≡◌, false, ℕ, suc, ◌+◌, ◌-◌, ◌^◌, ◌<◌, ◌≤◌, ◌++◌, List, [], ◌∷◌, length, take, drop, replicate, get_or, Option, None, Some, Result, Ok, Err, OnOk, OnErr, sym, ◌∙◌, ap, append_assoc, take-append-drop, codes, arith}
+use Rattle.std.proofs.Common.{◌≡◌, false, ℕ, suc, ◌+◌, ◌-◌, ◌^◌, ◌<◌, ◌≤◌, ◌++◌, List, [], ◌∷◌, length, take, drop, replicate, get_or, Option, None, Some, Result, Ok, Err, OnOk, OnErr, refl, sym, ◌∙◌, ap, append_assoc, take-append-drop, codes, arith}
 use Rattle.std.specs.Prelude.{decimal}
 use Rattle.std.specs.Fmt.{digits}
 use Rattle.std.specs.Int.{to_be_bytes, w32}
@@ -45,6 +45,11 @@ part_of a b w0 w1 part = record {
 -- the whole of a text is a part of it
 pub whole_part : (a : List ℕ) (w0 w1 : Option (List ℕ)) → w1 ≡ option_map (λ (w : List ℕ). w ++ a) w0 → Appends w0 w1 a
 whole_part a w0 w1 whole = record { front = a; rest = []; split = sym (append-nil a); written = whole }
+
+-- nothing is printed
+pub printed_none : (w0 : Option (List ℕ)) → w0 ≡ option_map (λ (w : List ℕ). w ++ []) w0
+printed_none None = refl
+printed_none (Some w) = ap Some (sym (append-nil w))
 
 -- the pieces up to one, and that one
 pub one_more : {X : Type 0} (f : X → List ℕ) (xs : List X) (i : ℕ) (d : X) → i < length xs → flat_map f (take (i + 1) xs) ≡ flat_map f (take i xs) ++ f (get_or xs i d)

@@ -1,0 +1,124 @@
+-- What a cache promises, as the laws on runs take it.
+use Rattle.std.proofs.Common.{◌≡◌, ℕ, ◌<◌, ◌+◌, Bool, true, false, List, [], ◌∷◌, ◌++◌, length, Option, Some, None, refl, sym, ◌∙◌, ap, subst}
+use Rattle.std.specs.Prelude.{All, ◌&&◌, ◌==◌, is_some, slice_index_or}
+use Rattle.std.specs.List.{position}
+use Rattle.std.specs.Option.{ForSome}
+use Rattle.std.specs.Str.{bytes_eq}
+use Rattle.std.proofs.lemmas.Bool.{eqb-true}
+use Rattle.std.proofs.lemmas.List.Elements.{All-head, All-tail}
+use Rattle.blk_image.specs.Bytes.{word_bytes}
+use Rattle.blk_image.specs.Image.{Image, Index, same_file}
+use Rattle.blk_image.specs.Steps.{TrailStep, Word, SetLength, Delete, Note, word_step}
+use Rattle.blk_image.specs.Told.{Applies, Told, Trail, Passes}
+use Rattle.blk_image.proofs.Runs.{passes_weaker}
+use Rattle.blk_model.proofs.Same.{same_bytes}
+use Rattle.blk_model.specs.Request.{Request, to_create, to_open, to_read, to_write, to_size, to_sparse_write, to_sparse_read, to_sparse_range, to_doom, to_doom_key, to_close, to_list, to_trim, to_total}
+use Rattle.blk_model.specs.State.{State, named_by}
+use Rattle.blk_volume.specs.Layout.{Layout}
+use Rattle.blk_volume.specs.StandsFor.{StandsFor}
+use Rattle.blk_kept.proofs.Keeping.{kept-stands}
+use Rattle.blk_handles.specs.Bindings.{Binding, Bindings, binding_of}
+use Rattle.blk_repair.specs.Counters.{crash_place, is_in_crash_word, writes_crash_word}
+use Rattle.blk_repair.specs.Repair.{EndsWithCrashWord}
+use Rattle.blk_cache.specs.declared.cache.Cache.{Cache}
+use Rattle.blk_cache.specs.CacheKeeping.{IsBoundAs, KeepsState}
+use Rattle.blk_cache.specs.Opening as opening
+use Rattle.blk_cache.specs.Stepping.{IsPlain}
+use Rattle.blk_headline.specs.Opening.{HoldsStill, Opens, has_opened, marks_open, open_mark}
+use Rattle.blk_headline.specs.Run.{bound_names}
+use Rattle.blk_headline.specs.Laws.{IsLeastBound}
+use Rattle.blk_headline.specs.Script.{is_built}
+use Rattle.blk_headline.proofs.Closing.{least_of_slots, none_closed, none_of_slots}
+use Rattle.blk_headline.proofs.Openings.{opening_of_a_trail}
+
+-- The opening.
+
+-- a step that writes nothing inside the crash word doesn't mark a session as open
+pub unmarked_step : (step : TrailStep) → writes_crash_word step ≡ false → marks_open step ≡ false
+unmarked_step (Word file place bytes) none = go (same_file file Index) (place == 32) (bytes_eq bytes (word_bytes 1)) refl refl none
+  where
+    clash : true ≡ false → ⊥
+    clash c = cc
+
+    inside : (place : ℕ) (bytes : List ℕ) → place ≡ 32 → bytes ≡ word_bytes 1 → is_in_crash_word place (length bytes) ≡ true
+    inside place bytes at same = ap (λ (p : ℕ). is_in_crash_word p (length bytes)) at ∙ ap (λ (b : List ℕ). is_in_crash_word 32 (length b)) same
+
+    go : (a b c : Bool) → (place == 32) ≡ b → bytes_eq bytes (word_bytes 1) ≡ c → (a && is_in_crash_word place (length bytes)) ≡ false → (a && b && c) ≡ false
+    go false b c at same none = refl
+    go true false c at same none = refl
+    go true true false at same none = refl
+    go true true true at same none = absurd (clash (sym (inside place bytes (eqb-true place 32 at) (same_bytes bytes (word_bytes 1) same)) ∙ none))
+unmarked_step (SetLength file n) none = refl
+unmarked_step (Delete file) none = refl
+unmarked_step (Note number) none = refl
+
+pub unmarked : (steps : List TrailStep) → All (λ step. writes_crash_word step ≡ false) steps → has_opened steps ≡ false
+unmarked [] none = refl
+unmarked (step ∷ steps) none =
+    rw (unmarked_step step (All-head (λ (s : TrailStep). writes_crash_word s ≡ false) step steps none)) (unmarked steps (All-tail (λ (s : TrailStep). writes_crash_word s ≡ false) step steps none))
+
+-- a folder that holds what it held, by either definition
+pub held_still : (from image : Image) → opening.HoldsStill from image → HoldsStill from image
+held_still from image held = record { usable = held.usable; formed = held.formed; found_same = held.found_same }
+
+pub passes_held : (from : Image) (old new : Told) → Passes old new (opening.HoldsStill from) → Passes old new (HoldsStill from)
+passes_held from old new passed = passes_weaker passed (held_still from) (held_still from)
+
+-- the clauses of `start`, where the trail is told
+pub opens_of_start : (from : Image) (opened : State) (old new : Told) (trail : Trail) → old.files ≡ Some from → old.trail ≡ Some trail → Passes old new (opening.HoldsStill from) → EndsWithCrashWord old new
+    → ForSome new.files (λ image. StandsFor image opened) → Opens from opened old new
+unfolding word_step
+opens_of_start from opened old new trail there told passed last stands =
+    opening_of_a_trail from opened old new trail last.before there told (passes_held from old new passed) last.applies (unmarked last.before last.first) stands
+
+-- the last step of `start`
+pub last_applies : (old new : Told) → (last : EndsWithCrashWord old new) → Applies old new (last.before ++ open_mark ∷ [])
+unfolding word_step
+last_applies old new last = last.applies
+
+-- What is kept.
+
+-- what keeps a state stands for it
+pub cache_stands : (cache : Cache) (state : State) (image : Image) → KeepsState cache state image → StandsFor image state
+cache_stands cache state image kept = kept-stands state kept.layout image kept.kept
+
+-- The names.
+
+bound_same : (state : State) (layout : Layout) (slot : Option ℕ) (binding : Option Binding) → IsBoundAs state layout slot binding → is_some binding ≡ is_some slot
+bound_same state layout None None bound = refl
+bound_same state layout (Some number) (Some binding) bound = refl
+bound_same state layout None (Some binding) bound = absurd bound
+bound_same state layout (Some number) None bound = absurd bound
+
+-- the same names are bound
+pub names_bound : (cache : Cache) (state : State) (image : Image) → KeepsState cache state image → (other : ℕ) → is_some (slice_index_or cache.handles other None) ≡ is_some (named_by state other)
+names_bound cache state image kept other = bound_same state kept.layout (named_by state other) (binding_of cache.handles other) (kept.names other)
+
+-- the cache's least name is the state's
+pub least_name : (cache : Cache) (state : State) (image : Image) (name : ℕ) → KeepsState cache state image → position is_some cache.handles ≡ Some name → IsLeastBound state name
+least_name cache state image name kept at =
+    least_of_slots cache.handles state name (λ other. bound_same state kept.layout (named_by state other) (binding_of cache.handles other) (kept.names other)) at
+
+-- and where it has none the state has none
+pub no_name : (cache : Cache) (state : State) (image : Image) → KeepsState cache state image → position is_some cache.handles ≡ None → bound_names state ≡ []
+no_name cache state image kept none =
+    none_closed state (none_of_slots cache.handles state (λ other. bound_same state kept.layout (named_by state other) (binding_of cache.handles other) (kept.names other)) none)
+
+-- Commands.
+
+-- a command that is built is none on sparse data
+pub built_plain : (request : Request) → is_built request ≡ true → IsPlain request
+built_plain (to_create handle key) built = tt
+built_plain (to_open handle key) built = tt
+built_plain (to_read handle stream offset count) built = tt
+built_plain (to_write handle stream offset cut bytes) built = tt
+built_plain (to_size handle stream) built = tt
+built_plain (to_sparse_write handle offset bytes) built = let c : false ≡ true = built in cc
+built_plain (to_sparse_read handle offset count) built = let c : false ≡ true = built in cc
+built_plain (to_sparse_range handle offset count) built = let c : false ≡ true = built in cc
+built_plain (to_doom handle) built = tt
+built_plain (to_doom_key key) built = tt
+built_plain (to_close handle) built = tt
+built_plain to_list built = tt
+built_plain (to_trim bytes) built = tt
+built_plain to_total built = tt

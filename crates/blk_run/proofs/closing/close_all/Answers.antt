@@ -1,0 +1,48 @@
+use Rattle.std.proofs.Common.{◌≡◌, ◌≤◌, ◌<◌, ◌+◌, ℕ, Bool, true, false, cond, List, Option, None, Some, Ok, Err, IfSome, refl, sym, ◌∙◌, ap, subst, arith}
+use Rattle.std.specs.Prelude.{is_some, position, slice_set}
+use Rattle.blk_image.specs.Image.{Image}
+use Rattle.blk_model.specs.State.{State}
+use Rattle.blk_run.proofs.ClosingAll.{all_closed, close_failed, close_handed, fewer_bound, name_at, no_name, none_so_far, of_some, one_closed}
+use Rattle.blk_run.proofs.HeadlineBridge.{names_bound}
+use Rattle.blk_cache.specs.CacheKeeping.{KeepsState}
+use Rattle.blk_run.proofs.closing.close_all.Goals as goal
+
+pub loop-cache-init : goal.loop-cache-init
+loop-cache-init g c = record {
+  is_open = c.requires.is_open;
+  closed = λ far left at. none_so_far far (KeepsState c.args.cache.now) (c.args.cache.now.notes) left (g.F.Folder.told c.args.folder.now) (g.C.Clock.readings c.args.clock.now) (λ state image k. k.kept.entries.valid) at;
+  later = omega arith;
+}
+
+pub loop-cache-smaller : goal.loop-cache-smaller
+loop-cache-smaller g c =
+    let at = name_at (position is_some (c.loop-cache.cache.handles)) (sym c.has_names.ensures ∙ c.loop-cache-test.true) in
+    fewer_bound (c.loop-cache.cache.handles) (c.close_next.new.self.handles) at.0 at.1 (of_some (position is_some (c.loop-cache.cache.handles)) at.0 (λ handle. c.close_next.new.self.handles ≡ slice_set (c.loop-cache.cache.handles) handle None) at.1 c.in_ok-close_next.ensures.frees)
+
+pub loop-cache-preserved : goal.loop-cache-preserved
+loop-cache-preserved g c = record {
+  is_open = c.in_ok-close_next.ensures.is_open;
+  closed = λ far left at.
+      let name = name_at (position is_some (c.loop-cache.cache.handles)) (sym c.has_names.ensures ∙ c.loop-cache-test.true) in
+      one_closed (c.loop-cache.cache.handles) (KeepsState c.loop-cache.cache) (λ state image k. k.kept.entries.valid) (λ state image k. names_bound c.loop-cache.cache state image k)
+      far (c.loop-cache.cache.notes) left (g.F.Folder.told c.loop-cache.folder) (g.C.Clock.readings c.args.clock.now) (g.C.Clock.readings c.loop-cache.clock) (c.loop-cache.invariant.closed far left at) name.0 c.now.result name.1 c.now.ensures.reading
+      (KeepsState c.close_next.new.self) (c.close_next.new.self.notes) (g.F.Folder.told c.close_next.new.f) (g.C.Clock.readings c.now.new.self) c.now.ensures.later
+      (of_some (position is_some (c.loop-cache.cache.handles)) name.0 (λ handle. _) name.1 c.in_ok-close_next.ensures.noted)
+      (of_some (position is_some (c.loop-cache.cache.handles)) name.0 (λ handle. _) name.1 c.in_ok-close_next.ensures.kept)
+      (of_some (position is_some (c.loop-cache.cache.handles)) name.0 (λ handle. _) name.1 c.in_ok-close_next.ensures.counts);
+  later = let now = c.loop-cache.invariant.later in let next = c.in_ok-close_next.ensures.later in omega (arith, now, next);
+}
+
+pub returns-in_err-close_next-clause-closed : goal.returns-in_err-close_next-clause-closed
+returns-in_err-close_next-clause-closed g c far left at =
+    let name = name_at (position is_some (c.loop-cache.cache.handles)) (sym c.has_names.ensures ∙ c.loop-cache-test.true) in
+    close_handed c.from_residual.result c.in_err-close_next.field-0.0 far (KeepsState c.close_next.new.self) (c.close_next.new.self.notes) left (g.F.Folder.told c.close_next.new.f) (g.C.Clock.readings c.args.clock.now) (g.C.Clock.readings c.now.new.self) c.from_residual.ensures.1
+    (close_failed (c.loop-cache.cache.handles) (KeepsState c.loop-cache.cache) (λ state image k. k.kept.entries.valid) (λ state image k. names_bound c.loop-cache.cache state image k)
+    far (c.loop-cache.cache.notes) left (g.F.Folder.told c.loop-cache.folder) (g.C.Clock.readings c.args.clock.now) (g.C.Clock.readings c.loop-cache.clock) (c.loop-cache.invariant.closed far left at) name.0 c.now.result name.1 c.now.ensures.reading
+    (KeepsState c.close_next.new.self) (c.close_next.new.self.notes) (g.F.Folder.told c.close_next.new.f) (g.C.Clock.readings c.now.new.self) c.in_err-close_next.field-0.0
+    (of_some (position is_some (c.loop-cache.cache.handles)) name.0 (λ handle. _) name.1 c.in_err-close_next.ensures.stepped) c.in_err-close_next.ensures.untold)
+
+pub returns-clause-closed : goal.returns-clause-closed
+returns-clause-closed g c far left at =
+    all_closed (c.loop-cache.cache.handles) (KeepsState c.loop-cache.cache) (λ state image k. k.kept.entries.valid) (λ state image k. names_bound c.loop-cache.cache state image k)
+    far (c.loop-cache.cache.notes) left (g.F.Folder.told c.loop-cache.folder) (g.C.Clock.readings c.args.clock.now) (g.C.Clock.readings c.loop-cache.clock) (no_name (position is_some (c.loop-cache.cache.handles)) (sym c.has_names.ensures ∙ c.loop-cache-test.false)) (c.loop-cache.invariant.closed far left at)

@@ -1,0 +1,108 @@
+use Rattle.std.proofs.Common.{◌≡◌, ◌≤◌, ◌+◌, ◌-◌, ◌<◌, ◌++◌, false, true, ℕ, List, [], take, drop, Option, Some, Ok, Err, length, refl, sym, ◌∙◌, ap, subst, arith}
+use Rattle.std.proofs.lemmas.List.{length-take-le}
+use Rattle.blk_headline.specs.Lines.{cut}
+use Rattle.blk_cache.specs.CacheKeeping.{KeepsState}
+use Rattle.blk_run.proofs.Asking.{around}
+use Rattle.blk_run.proofs.InputPlayed.{all_but_one, all_used, input_ended, input_failed, input_handed, last_failed, last_played, no_input, none_taken, piece_failed, piece_played, piece_too_long, some_used, taken_so_far, taken_up_to}
+use Rattle.blk_run.proofs.input.play_input.Goals as goal
+
+clash : false ≡ true → ⊥
+clash e = cc
+
+pub loop-n-init : goal.loop-n-init
+loop-n-init g c = record {
+  is_open = c.requires.is_open;
+  played = no_input c.args.budget (g.S.Source.left c.args.input.now) c.args.line.now c.args.played.now.lines (KeepsState c.args.cache.now) (c.args.cache.now.notes) (around (g.F.Folder.told c.args.folder.now) (g.K.Sink.written c.args.out.now) (g.C.Clock.readings c.args.clock.now) c.args.played.now.refused) (let f = c.requires.first in omega (arith, f)) c.requires.nothing;
+  lines = let f = c.requires.first in omega (arith, f);
+  room = refl;
+  later = omega arith;
+  sink = omega arith;
+  source = omega arith;
+}
+
+pub returns-in_default-clause-played : goal.returns-in_default-clause-played
+returns-in_default-clause-played g c far spare at =
+    input_failed c.args.budget c.loop-n.left (g.S.Source.left c.args.input.now) (g.S.Source.left c.loop-n.input) c.loop-n.line c.loop-n.played.lines (KeepsState c.args.cache.now) (KeepsState c.loop-n.cache) (c.args.cache.now.notes) (c.loop-n.cache.notes) _ _ c.loop-n.invariant.played (g.S.Source.left c.take_piece.new.input) c.in_default.ensures.stays far spare at
+
+pub returns-in_err-play_bytes-clause-played : goal.returns-in_err-play_bytes-clause-played
+returns-in_err-play_bytes-clause-played g c far spare at =
+    let min_is = c.min-usable.ensures in
+    let whole = c.take_piece.array_long in
+    let few = c.in-Ok.ensures.within.0 in
+    let size : length c.front.result.now ≡ c.min-usable.result = ap length c.front.ensures ∙ length-take-le c.min-usable.result c.take_piece.new.piece (omega (arith, min_is, whole, few)) in
+    input_handed c.from_residual.result c.in_err-play_bytes.field-0.0 c.args.budget _ _ far (KeepsState c.play_bytes.new.cache) (c.play_bytes.new.cache.notes) spare _ _ c.from_residual.ensures.1
+    (piece_failed c.args.budget c.loop-n.left (g.S.Source.left c.args.input.now) (g.S.Source.left c.loop-n.input) c.loop-n.line c.loop-n.played.lines (KeepsState c.args.cache.now) (KeepsState c.loop-n.cache) (c.args.cache.now.notes) (c.loop-n.cache.notes) _ _ c.loop-n.invariant.played
+    c.front.result.now (omega (arith, min_is, size)) (KeepsState c.play_bytes.new.cache) (c.play_bytes.new.cache.notes) _ (g.S.Source.left c.take_piece.new.input) c.in_err-play_bytes.field-0.0
+    (c.in_err-play_bytes.ensures.played (cut c.loop-n.invariant.played.taken).rest c.loop-n.invariant.played.holds)
+    (some_used (g.S.Source.left c.loop-n.input) (g.S.Source.left c.take_piece.new.input) c.take_piece.new.piece c.front.result.now c.in-Ok.n c.min-usable.result c.front.ensures c.in-Ok.ensures.bytes c.in-Ok.ensures.left (omega (arith, min_is))) far spare at)
+
+pub returns-in_err-play_bytes-clause-taken : goal.returns-in_err-play_bytes-clause-taken
+returns-in_err-play_bytes-clause-taken g c =
+    taken_up_to c.args.budget c.loop-n.left (g.S.Source.left c.args.input.now) (g.S.Source.left c.loop-n.input) (g.S.Source.left c.take_piece.new.input) c.loop-n.line c.loop-n.played.lines (KeepsState c.args.cache.now) (KeepsState c.loop-n.cache) (c.args.cache.now.notes) (c.loop-n.cache.notes) _ _ c.loop-n.invariant.played
+    c.in-Ok.n c.in-Ok.ensures.within.1 (λ l there. (c.in-Ok.ensures.bytes l there).0) c.in-Ok.ensures.left
+
+pub returns-then-usable-n-clause-played : goal.returns-then-usable-n-clause-played
+returns-then-usable-n-clause-played g c far spare at =
+    let min_is = c.min-usable.ensures in
+    let less = c.if-usable-n.true in
+    let within = c.in-Ok.ensures.within.1 in
+    let whole = c.take_piece.array_long in
+    let few = c.in-Ok.ensures.within.0 in
+    let size : length c.front.result.now ≡ c.min-usable.result = ap length c.front.ensures ∙ length-take-le c.min-usable.result c.take_piece.new.piece (omega (arith, min_is, whole, few)) in
+    piece_too_long c.args.budget c.loop-n.left (g.S.Source.left c.args.input.now) (g.S.Source.left c.loop-n.input) c.loop-n.line c.loop-n.played.lines (KeepsState c.args.cache.now) (KeepsState c.loop-n.cache) (c.args.cache.now.notes) (c.loop-n.cache.notes) _ _ c.loop-n.invariant.played
+    c.front.result.now (omega (arith, min_is, size)) (KeepsState c.play_bytes.new.cache) (c.play_bytes.new.cache.notes) _ (g.S.Source.left c.take_piece.new.input) (omega (arith, min_is, less, within, size))
+    (all_but_one (g.S.Source.left c.loop-n.input) (g.S.Source.left c.take_piece.new.input) c.take_piece.new.piece c.front.result.now c.in-Ok.n c.min-usable.result c.front.ensures c.in-Ok.ensures.bytes c.in-Ok.ensures.left (omega (arith, min_is, less, within)))
+    (c.in_ok-play_bytes.ensures.played (cut c.loop-n.invariant.played.taken).rest c.loop-n.invariant.played.holds) far spare at
+
+pub returns-then-usable-n-clause-taken : goal.returns-then-usable-n-clause-taken
+returns-then-usable-n-clause-taken g c =
+    taken_up_to c.args.budget c.loop-n.left (g.S.Source.left c.args.input.now) (g.S.Source.left c.loop-n.input) (g.S.Source.left c.take_piece.new.input) c.loop-n.line c.loop-n.played.lines (KeepsState c.args.cache.now) (KeepsState c.loop-n.cache) (c.args.cache.now.notes) (c.loop-n.cache.notes) _ _ c.loop-n.invariant.played
+    c.in-Ok.n c.in-Ok.ensures.within.1 (λ l there. (c.in-Ok.ensures.bytes l there).0) c.in-Ok.ensures.left
+
+pub loop-n-preserved : goal.loop-n-preserved
+loop-n-preserved g c =
+    let min_is = c.min-usable.ensures in
+    let whole = c.take_piece.array_long in
+    let few = c.in-Ok.ensures.within.0 in
+    let all = c.if-usable-n.false in
+    let size : length c.front.result.now ≡ c.min-usable.result = ap length c.front.ensures ∙ length-take-le c.min-usable.result c.take_piece.new.piece (omega (arith, min_is, whole, few)) in
+    let before = (cut c.loop-n.invariant.played.taken).rest in
+    record {
+      is_open = c.in_ok-play_bytes.ensures.is_open;
+      played = piece_played c.args.budget c.loop-n.left (g.S.Source.left c.args.input.now) (g.S.Source.left c.loop-n.input) c.loop-n.line c.loop-n.played.lines (KeepsState c.args.cache.now) (KeepsState c.loop-n.cache) (c.args.cache.now.notes) (c.loop-n.cache.notes) _ _ c.loop-n.invariant.played
+          c.front.result.now (omega (arith, min_is, size)) (KeepsState c.play_bytes.new.cache) (c.play_bytes.new.cache.notes) _ (g.S.Source.left c.take_piece.new.input)
+          (c.loop-n.left - c.min-usable.result) (ap (λ (n : ℕ). c.loop-n.left - n) (sym size)) c.play_bytes.new.line c.play_bytes.new.played.lines (c.in_ok-play_bytes.ensures.holds before c.loop-n.invariant.played.holds) (c.in_ok-play_bytes.ensures.counted before c.loop-n.invariant.played.holds)
+          (all_used (g.S.Source.left c.loop-n.input) (g.S.Source.left c.take_piece.new.input) c.take_piece.new.piece c.front.result.now c.in-Ok.n c.min-usable.result c.front.ensures c.in-Ok.ensures.bytes c.in-Ok.ensures.left (omega (arith, min_is, all))) (c.in_ok-play_bytes.ensures.played before c.loop-n.invariant.played.holds);
+      lines = let so_far = c.loop-n.invariant.lines in let next = c.in_ok-play_bytes.ensures.lines in omega (arith, so_far, next, size, min_is);
+      room = c.play_bytes.auto.room ∙ c.loop-n.invariant.room;
+      later = let now = c.loop-n.invariant.later in let next = c.in_ok-play_bytes.ensures.later in omega (arith, now, next);
+      sink = let now = c.loop-n.invariant.sink in let next = c.in_ok-play_bytes.ensures.printed_later in omega (arith, now, next);
+      source = let now = c.loop-n.invariant.source in let next = c.in-Ok.ensures.later in omega (arith, now, next);
+    }
+
+pub returns-in_err-play_line-clause-played : goal.returns-in_err-play_line-clause-played
+returns-in_err-play_line-clause-played g c far spare at =
+    let so_far = c.loop-n.invariant.played in
+    input_handed c.from_residual-in_err-play_line.result c.in_err-play_line.field-0.0 c.args.budget _ _ far (KeepsState c.play_line.new.cache) (c.play_line.new.cache.notes) spare _ _ c.from_residual-in_err-play_line.ensures.1
+    (last_failed c.args.budget c.loop-n.left (g.S.Source.left c.args.input.now) (g.S.Source.left c.loop-n.input) c.loop-n.line c.loop-n.played.lines (KeepsState c.args.cache.now) (KeepsState c.loop-n.cache) (c.args.cache.now.notes) (c.loop-n.cache.notes) _ _ c.loop-n.invariant.played
+    (c.in-Ok.ensures.end c.if-n-eq0.true) (g.S.Source.left c.take_piece.new.input) (none_taken (g.S.Source.left c.loop-n.input) (g.S.Source.left c.take_piece.new.input) c.in-Ok.n c.if-n-eq0.true c.in-Ok.ensures.left)
+    (λ none. clash (sym c.if-not-is_empty.true ∙ (c.is_empty.ensures.nothing (cut so_far.taken).rest so_far.holds).1 none)) (KeepsState c.play_line.new.cache) (c.play_line.new.cache.notes) _ c.in_err-play_line.field-0.0 (c.in_err-play_line.ensures.played (cut so_far.taken).rest so_far.holds) far spare at)
+
+pub returns-in_ok-play_line-clause-played : goal.returns-in_ok-play_line-clause-played
+returns-in_ok-play_line-clause-played g c far spare at =
+    let so_far = c.loop-n.invariant.played in
+    last_played c.args.budget c.loop-n.left (g.S.Source.left c.args.input.now) (g.S.Source.left c.loop-n.input) c.loop-n.line c.loop-n.played.lines (KeepsState c.args.cache.now) (KeepsState c.loop-n.cache) (c.args.cache.now.notes) (c.loop-n.cache.notes) _ _ c.loop-n.invariant.played
+    (c.in-Ok.ensures.end c.if-n-eq0.true) (g.S.Source.left c.take_piece.new.input) (none_taken (g.S.Source.left c.loop-n.input) (g.S.Source.left c.take_piece.new.input) c.in-Ok.n c.if-n-eq0.true c.in-Ok.ensures.left)
+    (λ none. clash (sym c.if-not-is_empty.true ∙ (c.is_empty.ensures.nothing (cut so_far.taken).rest so_far.holds).1 none)) (KeepsState c.play_line.new.cache) (c.play_line.new.cache.notes) _ (c.in_ok-play_line.ensures.played (cut so_far.taken).rest so_far.holds) far spare at
+
+pub returns-else-not-is_empty-clause-played : goal.returns-else-not-is_empty-clause-played
+returns-else-not-is_empty-clause-played g c far spare at =
+    let so_far = c.loop-n.invariant.played in
+    input_ended c.args.budget c.loop-n.left (g.S.Source.left c.args.input.now) (g.S.Source.left c.loop-n.input) c.loop-n.line c.loop-n.played.lines (KeepsState c.args.cache.now) (KeepsState c.loop-n.cache) (c.args.cache.now.notes) (c.loop-n.cache.notes) _ _ c.loop-n.invariant.played
+    (c.in-Ok.ensures.end c.if-n-eq0.true) (g.S.Source.left c.take_piece.new.input) (none_taken (g.S.Source.left c.loop-n.input) (g.S.Source.left c.take_piece.new.input) c.in-Ok.n c.if-n-eq0.true c.in-Ok.ensures.left)
+    ((c.is_empty.ensures.nothing (cut so_far.taken).rest so_far.holds).0 c.if-not-is_empty.false) far spare at
+
+pub returns-in_err-play_line-clause-taken : goal.returns-in_err-play_line-clause-taken
+returns-in_err-play_line-clause-taken g c =
+    taken_up_to c.args.budget c.loop-n.left (g.S.Source.left c.args.input.now) (g.S.Source.left c.loop-n.input) (g.S.Source.left c.take_piece.new.input) c.loop-n.line c.loop-n.played.lines (KeepsState c.args.cache.now) (KeepsState c.loop-n.cache) (c.args.cache.now.notes) (c.loop-n.cache.notes) _ _ c.loop-n.invariant.played
+    c.in-Ok.n c.in-Ok.ensures.within.1 (λ l there. (c.in-Ok.ensures.bytes l there).0) c.in-Ok.ensures.left

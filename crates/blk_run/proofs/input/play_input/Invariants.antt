@@ -1,0 +1,23 @@
+use Rattle.std.proofs.Common.{◌≤◌, ◌≡◌, ◌+◌, ◌^◌, ◌<◌, ℕ, List, [], length, Ok}
+use Rattle.std.specs.Option.{ForSome}
+use Rattle.blk_disk.specs.Open.{IsOpen}
+use Rattle.blk_cache.specs.CacheKeeping.{KeepsState}
+use Rattle.blk_run.specs.Pending.{Holds, pending}
+use Rattle.blk_run.proofs.InputPlayed.{IsInputPlayed}
+use Rattle.blk_run.proofs.Asking.{around}
+use Rattle.blk_run.proofs.input.play_input.Given as goal
+
+abbrev pub invariant-loop-n : goal.invariant-loop-n
+invariant-loop-n g l = record {
+  is_open : ForSome (g.F.Folder.told l.folder).files (IsOpen l.cache.files);
+  played : IsInputPlayed l.budget l.left (g.S.Source.left l.initial.input) (g.S.Source.left l.input) l.line l.played.lines (KeepsState l.initial.cache) (KeepsState l.cache) (l.initial.cache.notes) (l.cache.notes)
+      (around (g.F.Folder.told l.initial.folder) (g.K.Sink.written l.initial.out) (g.C.Clock.readings l.initial.clock) l.initial.played.refused) (around (g.F.Folder.told l.folder) (g.K.Sink.written l.out) (g.C.Clock.readings l.clock) l.played.refused);
+  lines : l.played.lines + pending l.line + l.left ≤ l.budget;
+  room : length l.room ≡ length l.initial.room;
+  later : g.F.Folder.faults l.initial.folder ≤ g.F.Folder.faults l.folder;
+  sink : g.K.Sink.faults l.initial.out ≤ g.K.Sink.faults l.out;
+  source : g.S.Source.faults l.initial.input ≤ g.S.Source.faults l.input;
+}
+
+abbrev pub decreases-loop-n : goal.decreases-loop-n
+decreases-loop-n g l = l.left

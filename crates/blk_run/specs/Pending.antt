@@ -1,0 +1,18 @@
+-- What is kept of the line of which a part has come.
+use Rattle.std.specs.Prelude.{ℕ, ◌≡◌, ◌<◌, Bool, true, false, if◌then◌else◌, List, length, take}
+use Rattle.std.specs.declared.option.Option.{Option}
+use Rattle.std.specs.declared.option.Option.TheVariants.{None, Some}
+use Rattle.blk_run.specs.declared.line.Line.{Line}
+
+-- the bytes of a line are those that are kept, or they are more than a line may have
+abbrev pub AreKept : (too_long : Bool) → (kept : List ℕ) → (bytes : List ℕ) → Type 0
+AreKept false kept bytes = bytes ≡ kept
+AreKept true kept bytes = 2200000 < length bytes
+
+-- these bytes of a line have come
+abbrev pub Holds : Line → List ℕ → Type 0
+Holds line bytes = AreKept line.too_long (take line.len line.kept.items) bytes
+
+-- how many bytes of a line have come, and one more than a line may have where they are too many
+abbrev pub pending : Line → ℕ
+pending line = if line.too_long then 2200001 else line.len

@@ -1,0 +1,32 @@
+// What is open is closed.
+ghost use Rattle.std.specs.Prelude.{◌≡◌, ◌≤◌, ◌+◌, ◌*◌, ℕ, OnOk, None, is_some, position};
+ghost use Rattle.std.specs.Option.{ForSome};
+ghost use Rattle.blk_image.specs.Told.{Rises};
+ghost use Rattle.blk_io.specs.Faults.{IfDevice};
+ghost use Rattle.blk_model.specs.Sizes.{handle_names};
+ghost use Rattle.blk_run.specs.Closings.{ClosesAll};
+ghost use Rattle.blk_run.specs.Playing.{SoFar, StandsAt};
+ghost use Rattle.blk_disk.specs.Open.{IsOpen};
+ghost use Rattle.blk_cache.specs.CacheKeeping.{KeepsState};
+
+use blk_cache::Cache;
+use blk_io::{Clock, Fault, Folder};
+
+// Closes each bound handle name, the least first. The clock is read once for each.
+pub(crate) fn close_all<F: Folder, C: Clock>(
+    cache: &mut Cache,
+    folder: &mut F,
+    clock: &mut C,
+) -> Result<(), Fault>
+    requires is_open { ForSome (F.told folder.old).files (IsOpen cache.old.files) }
+    ensures closed { (far : SoFar) (left : ℕ) → StandsAt far (KeepsState cache.old) (cache.old.notes) (left + 2 * handle_names) (F.told folder.old) → ClosesAll result far (KeepsState cache.new) (cache.new.notes) left (F.told folder.new) (C.readings clock.old) (C.readings clock.new) }
+    ensures free { OnOk result (position is_some (cache.new.handles) ≡ None) }
+    ensures is_open { OnOk result (ForSome (F.told folder.new).files (IsOpen cache.new.files)) }
+    ensures later { F.faults folder.old ≤ F.faults folder.new }
+    ensures device { IfDevice result (Rises (F.faults folder.old) (F.faults folder.new)) }
+{
+    while cache.has_names() {
+        cache.close_next(folder, clock.now())?;
+    }
+    Ok(())
+}

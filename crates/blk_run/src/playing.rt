@@ -1,0 +1,258 @@
+// Lines are played on a cache.
+ghost use Rattle.std.specs.Prelude.{drop, ◌==◌, ◌≡◌, ◌-◌, true, false, ◌≤◌, ◌<◌, ◌+◌, ◌^◌, ◌++◌, ℕ, List, [], ◌∷◌, length, OnErr, OnOk};
+ghost use Rattle.std.specs.Option.{ForSome, option_map};
+ghost use Rattle.std.specs.List.{position};
+ghost use Rattle.blk_image.specs.Told.{Rises};
+ghost use Rattle.blk_io.specs.Streams.{Appends};
+ghost use Rattle.blk_model.specs.Request.{request_of};
+ghost use Rattle.blk_headline.specs.Script.{built, ended, error_text, is_built, line_script, session_script};
+ghost use Rattle.blk_headline.specs.Run.{turns};
+ghost use Rattle.blk_run.specs.Playing.{cut_behind};
+ghost use Rattle.blk_run.specs.Errors.{error_of, error_number, error_name};
+ghost use Rattle.blk_cache.specs.Stepping.{IfDone, IfSink, IfStepDevice};
+ghost use Rattle.blk_run.specs.Errors.{IsOnlySink};
+ghost use Rattle.blk_run.specs.Pending.{Holds, pending};
+ghost use Rattle.blk_run.specs.Playing.{Asks, SoFar, StandsAt, PlaysPart, has_refused, refuses};
+ghost use Rattle.blk_disk.specs.Open.{IsOpen};
+ghost use Rattle.blk_cache.specs.CacheKeeping.{KeepsState};
+
+use crate::line::Line;
+use blk_cache::{Cache, StepFault};
+use blk_io::{Clock, Failed, Folder, Sink};
+use blk_model::{Answer, Command};
+use blk_script::{Field, LineFault, print_fields, read_line};
+
+// Why a line of a session is no command.
+#[derive(Clone, Copy)]
+pub(crate) enum LineError {
+    // The line has a fault.
+    Text(LineFault),
+    // It asks for sparse data, which isn't built yet.
+    NotBuilt,
+}
+
+impl LineError {
+    ghost use Rattle.blk_run.specs.Errors.{error_number, error_name};
+
+    // Its number, from 1 to 8.
+    fn number(self) -> u8
+        ensures { result ≡ error_number self }
+    {
+        match self {
+            LineError::Text(why) => why.number(),
+            LineError::NotBuilt => 8,
+        }
+    }
+
+    // Its name.
+    fn name(self) -> &'static str
+        ensures { result.now ≡ error_name self }
+    {
+        match self {
+            LineError::Text(why) => why.name(),
+            LineError::NotBuilt => "NotBuilt",
+        }
+    }
+}
+
+// The lines so far: how many they are, and whether something was refused.
+#[derive(Clone, Copy)]
+pub(crate) struct Played {
+    pub(crate) lines: u64,
+    pub(crate) refused: bool,
+}
+
+// Prints that a line is no command.
+fn print_error<K: Sink>(out: &mut K, number: u64, why: LineError) -> Result<(), Failed>
+    ensures steps { OnOk result (K.written out.new ≡ option_map (λ w. w ++ error_text number (error_of why)) (K.written out.old)) }
+    ensures prefix { Appends (K.written out.old) (K.written out.new) (error_text number (error_of why)) }
+    ensures later { K.faults out.old ≤ K.faults out.new }
+    ensures failed { OnErr result (Rises (K.faults out.old) (K.faults out.new)) }
+{
+    print_fields(
+        out,
+        &[
+            Field::Word("fault"),
+            Field::Number(number),
+            Field::Number(why.number().into()),
+            Field::Word(why.name()),
+        ],
+    )
+}
+
+// Whether a command is built: the three on sparse data aren't yet.
+fn is_built_yet(command: &Command) -> bool
+    ensures { result ≡ is_built (request_of command.now) }
+{
+    match *command {
+        Command::SparseWrite { .. } | Command::SparseRead { .. } | Command::SparseRange { .. } =>
+            false,
+        Command::Create { .. }
+        | Command::Open { .. }
+        | Command::Read { .. }
+        | Command::Write { .. }
+        | Command::Size { .. } => true,
+        Command::Doom { .. }
+        | Command::DoomKey { .. }
+        | Command::Close { .. }
+        | Command::List
+        | Command::Trim { .. }
+        | Command::Total => true,
+    }
+}
+
+// Plays one line: it is a command, or why it is none is printed.
+pub(crate) fn play_line<F: Folder, K: Sink, C: Clock>(
+    cache: &mut Cache,
+    played: &mut Played,
+    line: &Line,
+    room: &mut [u8],
+    out: &mut K,
+    folder: &mut F,
+    clock: &mut C,
+) -> Result<(), StepFault>
+    requires is_open { ForSome (F.told folder.old).files (IsOpen cache.old.files) }
+    requires room { 2200000 ≤ length room.old }
+    requires few { played.old.lines < 2 ^ 64 - 1 }
+    ensures played { (bytes : List ℕ) → Holds line.now bytes → (far : SoFar) (left : ℕ) → StandsAt far (KeepsState cache.old) (cache.old.notes) (left + (length bytes + 1)) (F.told folder.old) → PlaysPart result (λ state readings. turns (session_script (played.old.lines + 1) (bytes ∷ [])) state readings) far (KeepsState cache.new) (cache.new.notes) left (record { folder = F.told folder.old; written = K.written out.old; clock = C.readings clock.old; refused = played.old.refused }) (record { folder = F.told folder.new; written = K.written out.new; clock = C.readings clock.new; refused = played.new.refused }) }
+    ensures lines { played.new.lines ≡ played.old.lines + 1 }
+    ensures is_open { IfDone result (ForSome (F.told folder.new).files (IsOpen cache.new.files)) }
+    ensures later { F.faults folder.old ≤ F.faults folder.new }
+    ensures printed_later { K.faults out.old ≤ K.faults out.new }
+    ensures device { IfStepDevice result (Rises (F.faults folder.old) (F.faults folder.new)) }
+    ensures sink { IfSink result (Rises (K.faults out.old) (K.faults out.new)) }
+{
+    played.lines += 1;
+    match line.bytes() {
+        Some(bytes) => match read_line(bytes, room) {
+            Ok(command) => play_command(cache, played, &command, out, folder, clock),
+            Err(why) => play_error(played, LineError::Text(why), out),
+        },
+        None => play_error(played, LineError::Text(LineFault::TooLong), out),
+    }
+}
+
+// Does a command, where it is built, and prints its reply.
+fn play_command<F: Folder, K: Sink, C: Clock>(
+    cache: &mut Cache,
+    played: &mut Played,
+    command: &Command,
+    out: &mut K,
+    folder: &mut F,
+    clock: &mut C,
+) -> Result<(), StepFault>
+    requires is_open { ForSome (F.told folder.old).files (IsOpen cache.old.files) }
+    ensures played { (far : SoFar) (left : ℕ) → StandsAt far (KeepsState cache.old) (cache.old.notes) (left + 2) (F.told folder.old) → PlaysPart result (λ state readings. turns (line_script played.old.lines (built (request_of command.now)) ended) state readings) far (KeepsState cache.new) (cache.new.notes) left (record { folder = F.told folder.old; written = K.written out.old; clock = C.readings clock.old; refused = played.old.refused }) (record { folder = F.told folder.new; written = K.written out.new; clock = C.readings clock.new; refused = played.new.refused }) }
+    ensures lines { played.new.lines ≡ played.old.lines }
+    ensures is_open { IfDone result (ForSome (F.told folder.new).files (IsOpen cache.new.files)) }
+    ensures later { F.faults folder.old ≤ F.faults folder.new }
+    ensures printed_later { K.faults out.old ≤ K.faults out.new }
+    ensures device { IfStepDevice result (Rises (F.faults folder.old) (F.faults folder.new)) }
+    ensures sink { IfSink result (Rises (K.faults out.old) (K.faults out.new)) }
+{
+    if !is_built_yet(command) {
+        return play_error(played, LineError::NotBuilt, out);
+    }
+    let answer = ask(cache, command, out, folder, clock)?;
+    if is_refusal(&answer) {
+        played.refused = true;
+    }
+    Ok(())
+}
+
+// Whether an answer is a refusal.
+fn is_refusal(answer: &Answer) -> bool
+    ensures { result ≡ refuses answer.now }
+{
+    match *answer {
+        Answer::Refused(_) => true,
+        _ => false,
+    }
+}
+
+// Does a command that is built, at the next reading of the clock, and prints its reply.
+pub(crate) fn ask<F: Folder, K: Sink, C: Clock>(
+    cache: &mut Cache,
+    command: &Command,
+    out: &mut K,
+    folder: &mut F,
+    clock: &mut C,
+) -> Result<Answer, StepFault>
+    requires is_open { ForSome (F.told folder.old).files (IsOpen cache.old.files) }
+    requires built { is_built (request_of command.now) ≡ true }
+    ensures asked { (far : SoFar) (left : ℕ) → StandsAt far (KeepsState cache.old) (cache.old.notes) (left + 2) (F.told folder.old) → Asks result (request_of command.now) far (KeepsState cache.new) (cache.new.notes) left (record { folder = F.told folder.old; written = K.written out.old; clock = C.readings clock.old; refused = false }) (record { folder = F.told folder.new; written = K.written out.new; clock = C.readings clock.new; refused = has_refused result }) }
+    ensures is_open { IfDone result (ForSome (F.told folder.new).files (IsOpen cache.new.files)) }
+    ensures later { F.faults folder.old ≤ F.faults folder.new }
+    ensures printed_later { K.faults out.old ≤ K.faults out.new }
+    ensures device { IfStepDevice result (Rises (F.faults folder.old) (F.faults folder.new)) }
+    ensures sink { IfSink result (Rises (K.faults out.old) (K.faults out.new)) }
+{
+    cache.step(folder, out, clock.now(), command)
+}
+
+// Prints why a line is no command.
+fn play_error<K: Sink>(played: &mut Played, why: LineError, out: &mut K) -> Result<(), StepFault>
+    ensures printed { OnOk result (K.written out.new ≡ option_map (λ w. w ++ error_text played.old.lines (error_of why)) (K.written out.old)) }
+    ensures front { Appends (K.written out.old) (K.written out.new) (error_text played.old.lines (error_of why)) }
+    ensures refused { played.new.refused ≡ true }
+    ensures lines { played.new.lines ≡ played.old.lines }
+    ensures only { IsOnlySink result }
+    ensures later { K.faults out.old ≤ K.faults out.new }
+    ensures sink { IfSink result (Rises (K.faults out.old) (K.faults out.new)) }
+{
+    played.refused = true;
+    match print_error(out, played.lines, why) {
+        Ok(()) => Ok(()),
+        Err(_) => Err(StepFault::Sink),
+    }
+}
+
+// Where the first line ends.
+fn line_end(bytes: &[u8]) -> Option<usize>
+    ensures { result ≡ position (λ byte. byte == 10) bytes.now }
+{
+    bytes.iter().position(|byte| *byte == b'\n')
+}
+
+// The bytes behind so many.
+fn behind(bytes: &[u8], count: usize) -> &[u8]
+    requires { count ≤ length bytes.now }
+    ensures { result.now ≡ drop count bytes.now }
+{
+    &bytes[count..]
+}
+
+// Plays the lines that end in some bytes; the last, which has no end, is kept for what follows.
+pub(crate) fn play_bytes<F: Folder, K: Sink, C: Clock>(
+    cache: &mut Cache,
+    played: &mut Played,
+    line: &mut Line,
+    bytes: &[u8],
+    room: &mut [u8],
+    out: &mut K,
+    folder: &mut F,
+    clock: &mut C,
+) -> Result<(), StepFault>
+    requires is_open { ForSome (F.told folder.old).files (IsOpen cache.old.files) }
+    requires room { 2200000 ≤ length room.old }
+    requires few { played.old.lines + pending line.old + length bytes.now < 2 ^ 64 }
+    ensures played { (before : List ℕ) → Holds line.old before → (far : SoFar) (left : ℕ) → StandsAt far (KeepsState cache.old) (cache.old.notes) (left + (length before + length bytes.now)) (F.told folder.old) → PlaysPart result (λ state readings. turns (session_script (played.old.lines + 1) (cut_behind before bytes.now).whole) state readings) far (KeepsState cache.new) (cache.new.notes) (left + length (cut_behind before bytes.now).rest) (record { folder = F.told folder.old; written = K.written out.old; clock = C.readings clock.old; refused = played.old.refused }) (record { folder = F.told folder.new; written = K.written out.new; clock = C.readings clock.new; refused = played.new.refused }) }
+    ensures holds { OnOk result ((before : List ℕ) → Holds line.old before → Holds line.new (cut_behind before bytes.now).rest) }
+    ensures counted { OnOk result ((before : List ℕ) → Holds line.old before → played.new.lines ≡ played.old.lines + length (cut_behind before bytes.now).whole) }
+    ensures lines { OnOk result (played.new.lines + pending line.new ≤ played.old.lines + pending line.old + length bytes.now) }
+    ensures is_open { IfDone result (ForSome (F.told folder.new).files (IsOpen cache.new.files)) }
+    ensures later { F.faults folder.old ≤ F.faults folder.new }
+    ensures printed_later { K.faults out.old ≤ K.faults out.new }
+    ensures device { IfStepDevice result (Rises (F.faults folder.old) (F.faults folder.new)) }
+    ensures sink { IfSink result (Rises (K.faults out.old) (K.faults out.new)) }
+{
+    let mut rest = bytes;
+    while let Some(end) = line_end(rest) {
+        line.add(&rest[..end]);
+        play_line(cache, played, line, room, out, folder, clock)?;
+        line.clear();
+        rest = behind(rest, end + 1);
+    }
+    line.add(rest);
+    Ok(())
+}

@@ -1,0 +1,178 @@
+// A session: the lines of an input are played on a folder.
+ghost use Rattle.std.specs.Prelude.{◌≡◌, ◌≢◌, ◌≤◌, ◌<◌, ◌+◌, ◌*◌, List, [], ℕ, length, IfOk, OnOk, None, Option, Some};
+ghost use Rattle.std.specs.Option.{ForSome, option_map};
+ghost use Rattle.blk_image.specs.Image.{Image};
+ghost use Rattle.blk_image.specs.Checks.{Damage as check_damage};
+ghost use Rattle.blk_image.specs.Told.{Rises, Told};
+ghost use Rattle.blk_io.specs.Faults.{IfDevice};
+ghost use Rattle.blk_io.specs.Streams.{Readings, later_of};
+ghost use Rattle.blk_model.specs.Bounds.{bounds_of};
+ghost use Rattle.blk_model.specs.Holding.{open_state};
+ghost use Rattle.blk_model.specs.Sizes.{handle_names};
+ghost use Rattle.blk_model.specs.State.{Bounds};
+ghost use Rattle.blk_volume.specs.Found.{found};
+ghost use Rattle.blk_disk.specs.Open.{IsOpen};
+ghost use Rattle.blk_headline.specs.Opening.{IsUsable};
+ghost use Rattle.blk_cache.specs.CacheKeeping.{KeepsState};
+ghost use Rattle.blk_run.specs.Ending.{EndsRun};
+ghost use Rattle.blk_run.specs.Inputs.{IsTakenUpTo};
+ghost use Rattle.blk_run.specs.Pending.{Holds, pending};
+ghost use Rattle.blk_run.specs.Playing.{SoFar, StandsAt};
+ghost use Rattle.blk_run.specs.Session.{IsComplete, IsDamagedBy, OnDamage, Outside, Runs, Session};
+ghost use Rattle.blk_run.specs.Statuses.{CauseOf, may_close, status_after};
+
+use crate::closing::close_all;
+use crate::ending::Status;
+use crate::input::{InputEnd, play_input};
+use crate::line::Line;
+use crate::playing::Played;
+use crate::printing::print_damage;
+use blk_cache::{Cache, OpenFault, StepFault};
+use blk_io::{Clock, Fault, Folder, NoMemory, Sink, Source};
+use blk_model::Limits;
+use blk_script::LONGEST_LINE;
+use std::alloc::Global;
+
+/// Opens the folder, plays the lines of an input, closes what is open, and answers how it ended.
+///
+/// Each line is a command, whose reply is printed on `out` once it is done and noted, or a fault, which is printed. The
+/// input is taken as it comes, and at most `budget` bytes of it are used; one byte more is taken, to see whether more
+/// follow. The clock is read once for the opening and once before each command, the closings among them. All memory is
+/// taken before the first step in the folder.
+pub fn session<F: Folder, S: Source, K: Sink, C: Clock>(
+    alloc: Global,
+    limits: Limits,
+    budget: u64,
+    input: &mut S,
+    out: &mut K,
+    folder: &mut F,
+    clock: &mut C,
+) -> Status
+    // On a folder that is unfinished or well formed it is the run of the lines on the map model.
+    ensures session { ForSome (F.told folder.old).files (λ from. IsUsable from → ForSome (C.readings clock.old) (λ readings. ForSome (S.left input.old) (λ bytes. Session result (bounds_of limits) budget from readings bytes (Rises (S.faults input.old) (S.faults input.new)) (Rises (K.faults out.old) (K.faults out.new)) (record { folder = F.told folder.old; written = K.written out.old; left = S.left input.old; clock = C.readings clock.old }) (record { folder = F.told folder.new; written = K.written out.new; left = S.left input.new; clock = C.readings clock.new })))) }
+
+    // Where nothing fails and the input is within the budget the whole output is printed, unless memory is wanting.
+    ensures complete { ForSome (F.told folder.old).files (λ from. IsUsable from → ForSome (C.readings clock.old) (λ readings. ForSome (S.left input.old) (λ bytes. length bytes ≤ budget → (Rises (F.faults folder.old) (F.faults folder.new) → ⊥) → (Rises (S.faults input.old) (S.faults input.new) → ⊥) → (Rises (K.faults out.old) (K.faults out.new) → ⊥) → IsComplete result (bounds_of limits) from readings bytes (record { folder = F.told folder.old; written = K.written out.old; left = S.left input.old; clock = C.readings clock.old }) (record { folder = F.told folder.new; written = K.written out.new; left = S.left input.new; clock = C.readings clock.new })))) }
+
+    // On a finished folder of which a check fails that is printed, and no more is done.
+    ensures damage { ForSome (F.told folder.old).files (λ from. (damage : check_damage) → IsDamagedBy damage from → OnDamage result damage (K.faults out.old) (K.faults out.new) (record { folder = F.told folder.old; written = K.written out.old; left = S.left input.old; clock = C.readings clock.old }) (record { folder = F.told folder.new; written = K.written out.new; left = S.left input.new; clock = C.readings clock.new })) }
+
+    // The cause of each status, on every folder.
+    ensures cause { CauseOf result (F.told folder.old).files (Rises (F.faults folder.old) (F.faults folder.new)) (Rises (S.faults input.old) (S.faults input.new)) (Rises (K.faults out.old) (K.faults out.new)) (ForSome (S.left input.old) (λ bytes. budget < length bytes)) }
+    ensures later { (F.faults folder.old ≤ F.faults folder.new) × ((S.faults input.old ≤ S.faults input.new) × (K.faults out.old ≤ K.faults out.new)) }
+
+    // No more of the input is taken than the budget and one byte.
+    ensures takes { ForSome (S.left input.old) (IsTakenUpTo (budget + 1) (S.left input.new)) }
+{
+    let Ok(mut line) = Line::new(alloc) else {
+        return Status::Memory;
+    };
+    let Ok(mut room) = take_room(alloc) else {
+        return Status::Memory;
+    };
+    match Cache::start(alloc, folder, limits, clock.now()) {
+        Ok(cache) => play(
+            cache, &mut line, &mut room, budget, input, out, folder, clock,
+        ),
+        Err(OpenFault::Device) => Status::Device,
+        Err(OpenFault::Memory) => Status::Memory,
+        Err(OpenFault::Damaged(damage)) => {
+            let _ = print_damage(out, damage);
+            Status::Damaged
+        }
+    }
+}
+
+// Takes the memory for the key or the data of a line.
+fn take_room(alloc: Global) -> Result<Vec<u8>, NoMemory>
+    ensures { IfOk result (λ room. 2200000 ≤ length room.items) }
+{
+    Ok(vec![in alloc; 0; LONGEST_LINE]?)
+}
+
+// Plays the lines of an input on an open cache, closes what is open, and then the folder.
+fn play<F: Folder, S: Source, K: Sink, C: Clock>(
+    mut cache: Cache,
+    line: &mut Line,
+    room: &mut [u8],
+    budget: u64,
+    input: &mut S,
+    out: &mut K,
+    folder: &mut F,
+    clock: &mut C,
+) -> Status
+    requires is_open { ForSome (F.told folder.old).files (IsOpen cache.files) }
+    requires room { 2200000 ≤ length room.old }
+    requires first { pending line.old ≡ 0 }
+    requires nothing { Holds line.old [] }
+    ensures runs { (from : Image) (limits : Bounds) (readings : Readings) (bytes : List ℕ) (start : Told) (first : Option Readings) → start.files ≡ Some from → first ≡ Some readings → C.readings clock.old ≡ option_map later_of first → S.left input.old ≡ Some bytes → StandsAt (record { start = start; from = from; opened = open_state (found from) limits; done = [] }) (KeepsState cache) cache.notes (2 * handle_names + (budget + 1)) (F.told folder.old) → Runs result limits budget from readings bytes (Rises (S.faults input.old) (S.faults input.new)) (Rises (K.faults out.old) (K.faults out.new)) (record { folder = start; written = K.written out.old; left = S.left input.old; clock = first }) (record { folder = F.told folder.new; written = K.written out.new; left = S.left input.new; clock = C.readings clock.new }) }
+    ensures untold { (far : SoFar) → StandsAt far (KeepsState cache) cache.notes (2 * handle_names + (budget + 1)) (F.told folder.old) → result ≢ Status.Damaged }
+    ensures cause { CauseOf result None (Rises (F.faults folder.old) (F.faults folder.new)) (Rises (S.faults input.old) (S.faults input.new)) (Rises (K.faults out.old) (K.faults out.new)) (ForSome (S.left input.old) (λ bytes. budget < length bytes)) }
+    ensures later { (F.faults folder.old ≤ F.faults folder.new) × ((S.faults input.old ≤ S.faults input.new) × (K.faults out.old ≤ K.faults out.new)) }
+    ensures takes { ForSome (S.left input.old) (IsTakenUpTo (budget + 1) (S.left input.new)) }
+{
+    let mut played = Played {
+        lines: 0,
+        refused: false,
+    };
+    let ended = play_input(
+        &mut cache,
+        &mut played,
+        line,
+        room,
+        budget,
+        input,
+        out,
+        folder,
+        clock,
+    );
+    let status = status_of(&ended, played.refused);
+    if !closes_after(&ended) {
+        return status;
+    }
+    match end(cache, folder, clock) {
+        Ok(()) => status,
+        Err(Fault::Device) => Status::Device,
+        Err(Fault::Damaged(_)) => Status::Damaged,
+    }
+}
+
+// The status where an input came to an end so.
+fn status_of(ended: &Result<InputEnd, StepFault>, refused: bool) -> Status
+    ensures { result ≡ status_after ended.now refused }
+{
+    match *ended {
+        Ok(InputEnd::Whole) => if refused { Status::Refused } else { Status::Ok },
+        Ok(InputEnd::Failed) => Status::Source,
+        Ok(InputEnd::TooLong) => Status::TooLong,
+        Err(StepFault::Sink) => Status::Sink,
+        Err(StepFault::Device) => Status::Device,
+        Err(StepFault::Damaged(_)) => Status::Damaged,
+    }
+}
+
+// Whether what is open is closed then: not where the folder failed.
+fn closes_after(ended: &Result<InputEnd, StepFault>) -> bool
+    ensures { result ≡ may_close ended.now }
+{
+    match *ended {
+        Ok(_) => true,
+        Err(StepFault::Sink) => true,
+        Err(StepFault::Device) => false,
+        Err(StepFault::Damaged(_)) => false,
+    }
+}
+
+// Closes what is open, and then the folder.
+fn end<F: Folder, C: Clock>(mut cache: Cache, folder: &mut F, clock: &mut C) -> Result<(), Fault>
+    requires is_open { ForSome (F.told folder.old).files (IsOpen cache.files) }
+    ensures ends { (far : SoFar) (left : ℕ) → StandsAt far (KeepsState cache) cache.notes (left + 2 * handle_names) (F.told folder.old) → EndsRun result far (F.told folder.new) (C.readings clock.old) (C.readings clock.new) }
+    ensures later { F.faults folder.old ≤ F.faults folder.new }
+    ensures device { IfDevice result (Rises (F.faults folder.old) (F.faults folder.new)) }
+{
+    close_all(&mut cache, folder, clock)?;
+    match cache.finish(folder) {
+        Ok(()) => Ok(()),
+        Err(_) => Err(Fault::Device),
+    }
+}
