@@ -34,7 +34,7 @@ const QUIET: Row<'static> = Row {
 };
 
 // The lines that are no command, and the three on sparse data; a last line without an end, and none; more bytes than the budget;
-// a source that fails at its second take, behind a part of a line; and a sink that fails at its first put, and at its second: the
+// a source that fails at its second take, behind a part of a line; and a sink that fails at its first put, and in the second reply: the
 // command is done all the same, and the next is not begun.
 const ROWS: [Row<'static>; 8] = [
     Row {
@@ -81,7 +81,7 @@ const ROWS: [Row<'static>; 8] = [
     },
     Row {
         input: b"create 0 a\ncreate 1 b\ncreate 2 c\n",
-        failing_put: 2,
+        failing_put: 3,
         status: Status::Sink,
         printed: b"ok\n",
         held: (2, 2),
