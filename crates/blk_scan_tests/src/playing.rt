@@ -95,9 +95,7 @@ fn play(alloc: Global, f: &mut Mem, row: &Row<'_>, out: &mut MemSink) -> Result<
     input.fail_at(row.failing_take)?;
     out.fail_at(row.failing_put)?;
     let mut clock = ListClock::new(alloc, &[50])?;
-    Ok(session(
-        alloc, LIMITS, row.budget, &mut input, out, f, &mut clock,
-    ))
+    Ok(session(alloc, LIMITS, row.budget, &mut input, out, f, &mut clock))
 }
 
 #[test]
