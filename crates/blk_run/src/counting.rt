@@ -1,5 +1,5 @@
 // The totals are counted.
-ghost use Rattle.std.specs.Prelude.{◌≡◌, ◌⊎◌, ◌≤◌, ◌*◌, ◌++◌, List, [], ℕ, None, OnOk, Option, Some};
+ghost use Rattle.std.specs.Prelude.{◌≡◌, ◌≢◌, ◌⊎◌, ◌≤◌, ◌*◌, ◌++◌, List, [], ℕ, None, OnOk, Option, Some};
 ghost use Rattle.std.specs.Option.{ForSome, option_map};
 ghost use Rattle.blk_image.specs.Image.{Image, Index as index, byte};
 ghost use Rattle.blk_image.specs.Checks.{Damage as check_damage};
@@ -76,6 +76,9 @@ pub(crate) fn run_count<F: Folder, K: Sink, C: Clock>(
 
     // The clock is read once.
     ensures clock { C.readings clock.new ≡ option_map later_of (C.readings clock.old) }
+
+    // Nothing is refused.
+    ensures never { result ≢ Status.Refused }
 {
     match Cache::start(alloc, folder, limits, clock.now()) {
         Ok(cache) => count(cache, folder, out),
