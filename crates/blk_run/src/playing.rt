@@ -161,7 +161,7 @@ fn play_command<F: Folder, K: Sink, C: Clock>(
 }
 
 // Whether an answer is a refusal.
-fn is_refusal(answer: &Answer) -> bool
+pub(crate) fn is_refusal(answer: &Answer) -> bool
     ensures { result ≡ refuses answer.now }
 {
     match *answer {

@@ -164,7 +164,11 @@ fn closes_after(ended: &Result<InputEnd, StepFault>) -> bool
 }
 
 // Closes what is open, and then the folder.
-fn end<F: Folder, C: Clock>(mut cache: Cache, folder: &mut F, clock: &mut C) -> Result<(), Fault>
+pub(crate) fn end<F: Folder, C: Clock>(
+    mut cache: Cache,
+    folder: &mut F,
+    clock: &mut C,
+) -> Result<(), Fault>
     requires is_open { ForSome (F.told folder.old).files (IsOpen cache.files) }
     ensures ends { (far : SoFar) (left : ℕ) → StandsAt far (KeepsState cache) cache.notes (left + 2 * handle_names) (F.told folder.old) → EndsRun result far (F.told folder.new) (C.readings clock.old) (C.readings clock.new) }
     ensures later { F.faults folder.old ≤ F.faults folder.new }

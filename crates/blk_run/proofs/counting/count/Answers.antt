@@ -1,6 +1,7 @@
 use Rattle.blk_cache.proofs.CreationTimes.{crash-moment}
+use Rattle.blk_run.proofs.CountRuns.{count_closed, count_unclosed, status_at_ok, status_at_sink}
 use Rattle.blk_run.proofs.Counted.{number_stays}
-use Rattle.blk_run.proofs.top.count.Goals as goal
+use Rattle.blk_run.proofs.counting.count.Goals as goal
 
 pub returns-in-Ok-Err-clause-session : goal.returns-in-Ok-Err-clause-session
 returns-in-Ok-Err-clause-session g c sink = number_stays c.in-Ok-Err.ensures.steps

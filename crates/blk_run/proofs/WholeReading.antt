@@ -1,0 +1,53 @@
+-- The whole input is read, piece by piece.
+use Rattle.std.proofs.Common.{◌≡◌, ℕ, ◌+◌, ◌-◌, ◌<◌, ◌≤◌, List, [], ◌++◌, Option, None, Some, length, take, drop, refl, sym, ◌∙◌, ap, subst, arith, append_assoc}
+use Rattle.std.specs.Option.{ForSome, option_map}
+use Rattle.std.proofs.Math.Seq.{take-append-add}
+use Rattle.std.proofs.lemmas.List.{append-nil, drop-drop, drop_all, length-append, length-drop, length-take, take-append-drop, take-append-le, take_all}
+use Rattle.std.proofs.lemmas.Slice.{take-put_mid_below}
+use borrow.Rule.Slice.PartMut.{mid_of, put_mid}
+use Rattle.blk_io.specs.Streams.{Moves}
+use Rattle.blk_run.specs.WholeInputs.{IsReadWhole, IsTakenSoFar}
+
+-- the room that is left
+pub room_left : (len : ℕ) (room : List ℕ) → len ≤ length room → length (mid_of len (length room - len) room) ≡ length room - len
+room_left len room within = length-take (length room - len) (drop len room) ∙ (let d = length-drop len room in omega (arith, d, within))
+
+no_rest : (len : ℕ) (room new : List ℕ) → len ≤ length room → put_mid len (length room - len) room new ≡ take len room ++ new
+no_rest len room new within =
+    ap (λ (l : List ℕ). take len room ++ (new ++ l)) (drop_all (length room - len) (drop len room) (let d = length-drop len room in omega (arith, d))) ∙ ap (λ (l : List ℕ). take len room ++ l) (append-nil new)
+
+module _ (len n : ℕ) (room old new bytes : List ℕ) (within : len < length room) (same : length new ≡ length room - len) (moves : Moves (drop len bytes) old new n) where
+  take_len : length (take len room) ≡ len
+  take_len = length-take len room ∙ omega (arith, within)
+
+  -- more bytes are in the room
+  pub taken_more : {left : Option (List ℕ)} {next : Option (List ℕ)} → IsTakenSoFar len left room bytes → n ≤ length new → next ≡ option_map (drop n) left → IsTakenSoFar (len + n) next (put_mid len (length room - len) room new) bytes
+  taken_more so few is = record {
+    are =
+        ap (take (len + n)) (no_rest len room new (omega (arith, within)))
+        ∙ ap (λ (k : ℕ). take (k + n) (take len room ++ new)) (sym take_len) ∙ take-append-add (take len room) new n
+        ∙ ap (λ (l : List ℕ). l ++ take n new) so.are ∙ ap (λ (l : List ℕ). take len bytes ++ l) moves.front ∙ both;
+    within = let c = moves.count in let d = length-drop len bytes in let w = so.within in omega (arith, c, d, w);
+    left_is = is ∙ ap (option_map (drop n)) so.left_is ∙ ap Some (drop-drop n len bytes);
+  }
+    where
+      both : take len bytes ++ take n (drop len bytes) ≡ take (len + n) bytes
+      both =
+          let have : length (take len bytes) ≡ len = (let w = so.within in length-take len bytes ∙ omega (arith, w)) in
+          sym (take-append-add (take len bytes) (drop len bytes) n) ∙ ap (λ (k : ℕ). take (k + n) (take len bytes ++ drop len bytes)) have ∙ ap (take (len + n)) (take-append-drop len bytes)
+
+  -- none is left
+  pub taken_all : {left : Option (List ℕ)} {next : Option (List ℕ)} → IsTakenSoFar len left room bytes → len ≤ 1048576 → n ≡ 0 → 0 < length old → next ≡ option_map (drop n) left → IsReadWhole len next (put_mid len (length room - len) room new) bytes
+  taken_all so few none some is =
+      let end : drop len bytes ≡ [] = moves.end none some in
+      let long : length bytes ≤ len = (let d = length-drop len bytes in let z : length (drop len bytes) ≡ 0 = ap length end in omega (arith, d, z)) in
+      record {
+        are = take-put_mid_below len (length room - len) room new len (omega arith) (omega (arith, within)) ∙ so.are ∙ take_all len bytes long;
+        within = few;
+        none_left = is ∙ ap (option_map (drop n)) so.left_is ∙ ap (λ (l : List ℕ). Some (drop n l)) end ∙ ap Some (drop_all n [] (omega arith));
+      }
+
+-- the room keeps its length
+pub placed_length : (len : ℕ) (room new : List ℕ) → len ≤ length room → length new ≡ length room - len → length (put_mid len (length room - len) room new) ≡ length room
+placed_length len room new within same =
+    ap length (no_rest len room new within) ∙ (let a = length-append (take len room) new in let t = length-take len room in omega (arith, a, t, same, within))

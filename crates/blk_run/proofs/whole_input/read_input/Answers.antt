@@ -1,0 +1,31 @@
+use Rattle.std.proofs.Common.{◌≡◌, ◌≤◌, ◌<◌, ◌+◌, ◌-◌, ℕ, length, refl, sym, ◌∙◌, ap, arith}
+use Rattle.blk_run.proofs.WholeReading.{placed_length, room_left, taken_all, taken_more}
+use Rattle.blk_run.proofs.whole_input.read_input.Goals as goal
+
+pub returns-in-Ok-eq0-clause-reads : goal.returns-in-Ok-eq0-clause-reads
+returns-in-Ok-eq0-clause-reads g c = (
+  c.loop-len-test.true,
+  λ bytes there.
+      let room = c.loop-len.invariant.room in
+      let few = c.loop-len-test.true in
+      let left = room_left c.loop-len.len c.loop-len.room (omega (arith, room, few)) in
+      let so = c.loop-len.invariant.taken bytes there in
+      taken_all c.loop-len.len c.in-Ok-eq0.field-0 c.loop-len.room _ c.take.new.out bytes (omega (arith, room, few)) (c.take.auto.out ∙ left) (c.in-Ok-eq0.ensures.bytes _ so.left_is)
+      so few c.in-Ok-eq0.field-0-test (omega (arith, left, room, few)) c.in-Ok-eq0.ensures.left,
+)
+
+pub loop-len-preserved : goal.loop-len-preserved
+loop-len-preserved g c =
+    let room = c.loop-len.invariant.room in
+    let few = c.loop-len-test.true in
+    let left = room_left c.loop-len.len c.loop-len.room (omega (arith, room, few)) in
+    let taken = c.in-Ok.ensures.within in
+    let same = c.take.auto.out ∙ left in
+    record {
+      room = placed_length c.loop-len.len c.loop-len.room c.take.new.out (omega (arith, room, few)) same ∙ room;
+      within = omega (arith, taken, left, room, few);
+      taken = λ bytes there.
+          let so = c.loop-len.invariant.taken bytes there in
+          taken_more c.loop-len.len c.in-Ok.taken c.loop-len.room _ c.take.new.out bytes (omega (arith, room, few)) same (c.in-Ok.ensures.bytes _ so.left_is) so (omega (arith, taken, left, same)) c.in-Ok.ensures.left;
+      later = let a = c.loop-len.invariant.later in let b = c.in-Ok.ensures.later in omega (arith, a, b);
+    }

@@ -1,0 +1,25 @@
+-- A script that is played command by command.
+use Rattle.std.specs.Prelude.{ℕ, ◌≡◌, List, ◌++◌, length}
+use Rattle.std.specs.Option.{ForSome}
+use Rattle.blk_image.specs.Image.{Image}
+use Rattle.blk_io.specs.Streams.{Readings}
+use Rattle.blk_model.specs.declared.Answer.{Answer}
+use Rattle.blk_model.specs.declared.Answer.TheVariants as answer
+use Rattle.blk_model.specs.State.{State}
+use Rattle.blk_headline.specs.Run.{Turn, clock_after, commands_of}
+use Rattle.blk_run.specs.Playing.{Around, AreMade, SoFar, state_now, with_more}
+
+-- the turns of a script are these, and then those of what is left of it
+abbrev pub GoOn : (whole rest : State → Readings → List Turn) → List Turn → SoFar → Readings → Type 0
+GoOn whole rest made far clock = whole (state_now far) clock ≡ made ++ rest (state_now (with_more far (commands_of made))) (clock_after clock (length (commands_of made)))
+
+-- a script was played up to what is left of it
+pub record PlaysUpTo (whole rest : State → Readings → List Turn) (far : SoFar) (keeps : State → Image → Type 0) (notes left : ℕ) (old new : Around) : Type 0 where
+  pub made : List Turn
+  pub are : ForSome old.clock (GoOn whole rest made far)
+  pub plays : AreMade made far keeps notes left old new
+
+-- the answer to an Open: a refusal, or that it is done
+abbrev pub opened_answer : Answer → Answer
+opened_answer (answer.Refused why) = answer.Refused why
+opened_answer _ = answer.Done

@@ -1,0 +1,40 @@
+-- Scripts that aren't read from the input, as the program has them.
+use Rattle.std.specs.Prelude.{ℕ, ◌≡◌, Bool, true, false, if◌then◌else◌, List, length, map, All, Result, Ok, Err}
+use Rattle.blk_model.specs.declared.Command.{Command}
+use Rattle.blk_model.specs.Request.{request_of}
+use Rattle.blk_headline.specs.Script.{Script, is_built, put_script, until_refused}
+use Rattle.blk_cache.specs.declared.fault.StepFault.{StepFault}
+use Rattle.blk_cache.specs.declared.fault.StepFault.TheVariants as fault
+use Rattle.blk_run.specs.declared.ending.Status.{Status}
+use Rattle.blk_run.specs.declared.ending.Status.TheVariants as status
+use Rattle.blk_run.specs.declared.scripts.Fixed.{Fixed}
+use Rattle.blk_run.specs.declared.scripts.Fixed.TheVariants as fixed
+
+-- the script
+abbrev pub script_of : Fixed → Script
+script_of (fixed.Commands commands) = until_refused (map request_of commands.now)
+script_of (fixed.Put put) = put_script put.key.now put.stream put.bytes.now
+
+-- how many commands it has at most
+abbrev pub commands_in : Fixed → ℕ
+commands_in (fixed.Commands commands) = length commands.now
+commands_in (fixed.Put put) = 4
+
+-- each of its commands is built
+abbrev pub AreBuilt : Fixed → Type 0
+AreBuilt (fixed.Commands commands) = All (λ (command : Command). is_built (request_of command) ≡ true) commands.now
+AreBuilt (fixed.Put put) = Unit {0}
+
+-- the status where a script came to an end so, and something was refused or not; the folder may fail in what is closed then
+abbrev pub script_status : Result (Unit {0}) StepFault → (refused : Bool) → Status
+script_status (Ok done) refused = if refused then status.Refused else status.Ok
+script_status (Err fault.Sink) refused = status.Sink
+script_status (Err fault.Device) refused = status.Device
+script_status (Err (fault.Damaged damage)) refused = status.Damaged
+
+-- whether what is open is closed then
+abbrev pub closes_script : Result (Unit {0}) StepFault → Bool
+closes_script (Ok done) = true
+closes_script (Err fault.Sink) = true
+closes_script (Err fault.Device) = false
+closes_script (Err (fault.Damaged damage)) = false

@@ -1,0 +1,165 @@
+// The fixed scripts: commands that are played up to the first that is refused.
+ghost use Rattle.std.specs.Prelude.{◌≡◌, ◌*◌, true, false, ◌≤◌, ◌+◌, ◌++◌, ℕ, All, length, map, None, OnOk};
+ghost use Rattle.std.specs.Option.{ForSome, option_map};
+ghost use Rattle.blk_image.specs.Told.{Rises};
+ghost use Rattle.blk_io.specs.Streams.{Appends};
+ghost use Rattle.blk_model.specs.Reply.{answered};
+ghost use Rattle.blk_model.specs.Request.{request_of, to_open};
+ghost use Rattle.blk_script.specs.Reply.{reply_text};
+ghost use Rattle.blk_headline.specs.Script.{is_built, is_missing_refusal, put_script, refusal_of, until_refused};
+ghost use Rattle.blk_headline.specs.Run.{turns};
+ghost use Rattle.blk_run.specs.Fixed.{opened_answer};
+ghost use Rattle.blk_cache.specs.Stepping.{IfDone, IfSink, IfStepDevice};
+ghost use Rattle.blk_run.specs.Errors.{IsOnlySink};
+ghost use Rattle.blk_run.specs.Playing.{Asks, PlaysPart, SoFar, StandsAt, has_refused};
+ghost use Rattle.blk_disk.specs.Open.{IsOpen};
+ghost use Rattle.blk_cache.specs.CacheKeeping.{KeepsState};
+
+use crate::playing::{ask, is_refusal};
+use blk_cache::{Cache, StepFault};
+use blk_io::{Clock, Failed, Folder, Sink};
+use blk_model::{Answer, Command, Refusal};
+use blk_script::print_reply;
+
+// Does commands one after another, up to the first that is refused, and notes whether one was.
+pub(crate) fn play_until_refused<F: Folder, K: Sink, C: Clock>(
+    cache: &mut Cache,
+    refused: &mut bool,
+    commands: &[Command],
+    out: &mut K,
+    folder: &mut F,
+    clock: &mut C,
+) -> Result<(), StepFault>
+    requires is_open { ForSome (F.told folder.old).files (IsOpen cache.old.files) }
+    requires built { All (λ command. is_built (request_of command) ≡ true) commands.now }
+    ensures played { (far : SoFar) (left : ℕ) → StandsAt far (KeepsState cache.old) (cache.old.notes) (left + 2 * length commands.now) (F.told folder.old) → PlaysPart result (turns (until_refused (map request_of commands.now))) far (KeepsState cache.new) (cache.new.notes) left (record { folder = F.told folder.old; written = K.written out.old; clock = C.readings clock.old; refused = refused.old }) (record { folder = F.told folder.new; written = K.written out.new; clock = C.readings clock.new; refused = refused.new }) }
+    ensures is_open { IfDone result (ForSome (F.told folder.new).files (IsOpen cache.new.files)) }
+    ensures later { F.faults folder.old ≤ F.faults folder.new }
+    ensures printed_later { K.faults out.old ≤ K.faults out.new }
+    ensures device { IfStepDevice result (Rises (F.faults folder.old) (F.faults folder.new)) }
+    ensures sink { IfSink result (Rises (K.faults out.old) (K.faults out.new)) }
+{
+    for command in commands {
+        let answer = ask(cache, command, out, folder, clock)?;
+        if is_refusal(&answer) {
+            *refused = true;
+            return Ok(());
+        }
+    }
+    Ok(())
+}
+
+// Does the script of `put`: the entry is opened, or made where it is missing, which isn't shown; then the bytes are written to
+// the stream, which ends with them, and the entry is closed.
+pub(crate) fn play_put<F: Folder, K: Sink, C: Clock>(
+    cache: &mut Cache,
+    refused: &mut bool,
+    put: Put,
+    out: &mut K,
+    folder: &mut F,
+    clock: &mut C,
+) -> Result<(), StepFault>
+    requires is_open { ForSome (F.told folder.old).files (IsOpen cache.old.files) }
+    ensures played { (far : SoFar) (left : ℕ) → StandsAt far (KeepsState cache.old) (cache.old.notes) (left + 8) (F.told folder.old) → PlaysPart result (turns (put_script put.entry.key.now put.entry.stream put.entry.bytes.now)) far (KeepsState cache.new) (cache.new.notes) left (record { folder = F.told folder.old; written = K.written out.old; clock = C.readings clock.old; refused = refused.old }) (record { folder = F.told folder.new; written = K.written out.new; clock = C.readings clock.new; refused = refused.new }) }
+    ensures is_open { IfDone result (ForSome (F.told folder.new).files (IsOpen cache.new.files)) }
+    ensures later { F.faults folder.old ≤ F.faults folder.new }
+    ensures printed_later { K.faults out.old ≤ K.faults out.new }
+    ensures device { IfStepDevice result (Rises (F.faults folder.old) (F.faults folder.new)) }
+    ensures sink { IfSink result (Rises (K.faults out.old) (K.faults out.new)) }
+{
+    let Put { key, stream, bytes } = put;
+    let opened = open_unshown(cache, key, folder, clock)?;
+    let write = Command::Write {
+        handle: 0,
+        stream,
+        offset: 0,
+        cut: true,
+        bytes,
+    };
+    let close = Command::Close { handle: 0 };
+    if is_missing(&opened) {
+        let create = Command::Create { handle: 0, key };
+        return play_until_refused(cache, refused, &[create, write, close], out, folder, clock);
+    }
+    print_opened(out, &opened)?;
+    if is_refusal(&opened) {
+        *refused = true;
+        return Ok(());
+    }
+    play_until_refused(cache, refused, &[write, close], out, folder, clock)
+}
+
+// What is put: the bytes of the stream of an entry, by its key.
+#[derive(Clone, Copy)]
+pub(crate) struct Put<'a> {
+    pub(crate) key: &'a [u8],
+    pub(crate) stream: u8,
+    pub(crate) bytes: &'a [u8],
+}
+
+// Opens an entry under the name 0, and prints nothing.
+fn open_unshown<F: Folder, C: Clock>(
+    cache: &mut Cache,
+    key: &[u8],
+    folder: &mut F,
+    clock: &mut C,
+) -> Result<Answer, StepFault>
+    requires is_open { ForSome (F.told folder.old).files (IsOpen cache.old.files) }
+    ensures asked { (far : SoFar) (left : ℕ) → StandsAt far (KeepsState cache.old) (cache.old.notes) (left + 2) (F.told folder.old) → Asks result (to_open 0 key.now) far (KeepsState cache.new) (cache.new.notes) left (record { folder = F.told folder.old; written = None; clock = C.readings clock.old; refused = false }) (record { folder = F.told folder.new; written = None; clock = C.readings clock.new; refused = has_refused result }) }
+    ensures is_open { IfDone result (ForSome (F.told folder.new).files (IsOpen cache.new.files)) }
+    ensures later { F.faults folder.old ≤ F.faults folder.new }
+    ensures device { IfStepDevice result (Rises (F.faults folder.old) (F.faults folder.new)) }
+    ensures no_sink { IfSink result ⊥ }
+{
+    ask(
+        cache,
+        &Command::Open { handle: 0, key },
+        &mut Unshown,
+        folder,
+        clock,
+    )
+}
+
+// Whether an answer is that an entry is missing.
+fn is_missing(answer: &Answer) -> bool
+    ensures { result ≡ is_missing_refusal (refusal_of answer.now) }
+{
+    match *answer {
+        Answer::Refused(Refusal::Missing) => true,
+        _ => false,
+    }
+}
+
+// Prints the reply to an Open: what isn't a refusal is done.
+fn print_opened<K: Sink>(out: &mut K, answer: &Answer) -> Result<(), StepFault>
+    ensures printed { OnOk result (K.written out.new ≡ option_map (λ w. w ++ reply_text (answered (opened_answer answer.now))) (K.written out.old)) }
+    ensures front { Appends (K.written out.old) (K.written out.new) (reply_text (answered (opened_answer answer.now))) }
+    ensures only { IsOnlySink result }
+    ensures later { K.faults out.old ≤ K.faults out.new }
+    ensures sink { IfSink result (Rises (K.faults out.old) (K.faults out.new)) }
+{
+    let printed = match *answer {
+        Answer::Refused(why) => print_reply(out, &Answer::Refused(why)),
+        _ => print_reply(out, &Answer::Done),
+    };
+    match printed {
+        Ok(()) => Ok(()),
+        Err(_) => Err(StepFault::Sink),
+    }
+}
+
+// A sink for replies that aren't shown: nothing of it is told.
+#[derive(Drop)]
+struct Unshown;
+
+impl Sink for Unshown {
+    ghost use Rattle.std.specs.Prelude.{None};
+
+    ghost written = { λ _. None };
+
+    ghost faults = { λ _. 0 };
+
+    fn put(&mut self, _bytes: &[u8]) -> Result<(), Failed> {
+        Ok(())
+    }
+}

@@ -1,0 +1,152 @@
+// Scripts that aren't read from the input: one list of commands, or that of `put`.
+ghost use Rattle.std.specs.Prelude.{◌≡◌, ◌≢◌, ◌≤◌, ◌+◌, ◌*◌, List, [], ℕ, None, Option, Some};
+ghost use Rattle.std.specs.Option.{ForSome, option_map};
+ghost use Rattle.blk_image.specs.Image.{Image};
+ghost use Rattle.blk_image.specs.Checks.{Damage as check_damage};
+ghost use Rattle.blk_image.specs.Told.{Rises, Told};
+ghost use Rattle.blk_io.specs.Streams.{Readings, later_of};
+ghost use Rattle.blk_model.specs.Bounds.{bounds_of};
+ghost use Rattle.blk_model.specs.Holding.{open_state};
+ghost use Rattle.blk_model.specs.Sizes.{handle_names};
+ghost use Rattle.blk_model.specs.State.{Bounds};
+ghost use Rattle.blk_volume.specs.Found.{found};
+ghost use Rattle.blk_headline.specs.Opening.{IsUsable};
+ghost use Rattle.blk_headline.specs.Run.{turns};
+ghost use Rattle.blk_cache.specs.Stepping.{IfDone, IfSink, IfStepDevice};
+ghost use Rattle.blk_run.specs.Playing.{PlaysPart, SoFar, StandsAt};
+ghost use Rattle.blk_run.specs.Scripts.{AreBuilt, commands_in, script_of, script_status, closes_script};
+ghost use Rattle.blk_run.specs.Session.{FixedRuns, FixedScript, IsCompleteScript, IsDamagedBy, OnDamage};
+ghost use Rattle.blk_run.specs.Statuses.{CauseOf};
+ghost use Rattle.blk_disk.specs.Open.{IsOpen};
+ghost use Rattle.blk_cache.specs.CacheKeeping.{KeepsState};
+
+use crate::ending::Status;
+use crate::fixed::{Put, play_put, play_until_refused};
+use crate::printing::print_damage;
+use crate::sessions::end;
+use blk_cache::{Cache, OpenFault, StepFault};
+use blk_io::{Clock, Fault, Folder, Sink};
+use blk_model::{Command, Limits};
+use std::alloc::Global;
+
+// A script that isn't read from the input.
+#[derive(Clone, Copy)]
+pub(crate) enum Fixed<'a> {
+    // Commands up to the first that is refused.
+    Commands(&'a [Command<'a>]),
+    // The script of `put`.
+    Put(Put<'a>),
+}
+
+// Plays a script.
+fn play_turns<F: Folder, K: Sink, C: Clock>(
+    cache: &mut Cache,
+    refused: &mut bool,
+    fixed: Fixed,
+    out: &mut K,
+    folder: &mut F,
+    clock: &mut C,
+) -> Result<(), StepFault>
+    requires is_open { ForSome (F.told folder.old).files (IsOpen cache.old.files) }
+    requires built { AreBuilt fixed }
+    ensures played { (far : SoFar) (left : ℕ) → StandsAt far (KeepsState cache.old) (cache.old.notes) (left + 2 * commands_in fixed.entry) (F.told folder.old) → PlaysPart result (turns (script_of fixed.entry)) far (KeepsState cache.new) (cache.new.notes) left (record { folder = F.told folder.old; written = K.written out.old; clock = C.readings clock.old; refused = refused.old }) (record { folder = F.told folder.new; written = K.written out.new; clock = C.readings clock.new; refused = refused.new }) }
+    ensures is_open { IfDone result (ForSome (F.told folder.new).files (IsOpen cache.new.files)) }
+    ensures later { F.faults folder.old ≤ F.faults folder.new }
+    ensures printed_later { K.faults out.old ≤ K.faults out.new }
+    ensures device { IfStepDevice result (Rises (F.faults folder.old) (F.faults folder.new)) }
+    ensures sink { IfSink result (Rises (K.faults out.old) (K.faults out.new)) }
+{
+    match fixed {
+        Fixed::Commands(commands) => {
+            play_until_refused(cache, refused, commands, out, folder, clock)
+        }
+        Fixed::Put(put) => play_put(cache, refused, put, out, folder, clock),
+    }
+}
+
+// The status where a script came to an end so.
+fn script_status(played: &Result<(), StepFault>, refused: bool) -> Status
+    ensures { result ≡ script_status played.now refused }
+{
+    match *played {
+        Ok(()) => if refused { Status::Refused } else { Status::Ok },
+        Err(StepFault::Sink) => Status::Sink,
+        Err(StepFault::Device) => Status::Device,
+        Err(StepFault::Damaged(_)) => Status::Damaged,
+    }
+}
+
+// Whether what is open is closed then: not where the folder failed.
+fn closes_script(played: &Result<(), StepFault>) -> bool
+    ensures { result ≡ closes_script played.now }
+{
+    match *played {
+        Ok(()) => true,
+        Err(StepFault::Sink) => true,
+        Err(StepFault::Device) => false,
+        Err(StepFault::Damaged(_)) => false,
+    }
+}
+
+// Plays a script on an open cache, closes what is open, and then the folder.
+pub(crate) fn play_script<F: Folder, K: Sink, C: Clock>(
+    mut cache: Cache,
+    fixed: Fixed,
+    out: &mut K,
+    folder: &mut F,
+    clock: &mut C,
+) -> Status
+    requires is_open { ForSome (F.told folder.old).files (IsOpen cache.files) }
+    requires built { AreBuilt fixed }
+    ensures runs { (from : Image) (limits : Bounds) (readings : Readings) (left : Option (List ℕ)) (start : Told) (first : Option Readings) → start.files ≡ Some from → first ≡ Some readings → C.readings clock.old ≡ option_map later_of first → StandsAt (record { start = start; from = from; opened = open_state (found from) limits; done = [] }) (KeepsState cache) cache.notes (2 * handle_names + 2 * commands_in fixed.entry) (F.told folder.old) → FixedRuns result (script_of fixed.entry) limits from readings (Rises (K.faults out.old) (K.faults out.new)) (record { folder = start; written = K.written out.old; left = left; clock = first }) (record { folder = F.told folder.new; written = K.written out.new; left = left; clock = C.readings clock.new }) }
+    ensures later { (F.faults folder.old ≤ F.faults folder.new) × (K.faults out.old ≤ K.faults out.new) }
+    ensures untold { (far : SoFar) → StandsAt far (KeepsState cache) cache.notes (2 * handle_names + 2 * commands_in fixed.entry) (F.told folder.old) → result ≢ Status.Damaged }
+    ensures cause { CauseOf result None (Rises (F.faults folder.old) (F.faults folder.new)) ⊥ (Rises (K.faults out.old) (K.faults out.new)) ⊥ }
+{
+    let mut refused = false;
+    let played = play_turns(&mut cache, &mut refused, fixed, out, folder, clock);
+    let status = script_status(&played, refused);
+    if !closes_script(&played) {
+        return status;
+    }
+    match end(cache, folder, clock) {
+        Ok(()) => status,
+        Err(Fault::Device) => Status::Device,
+        Err(Fault::Damaged(_)) => Status::Damaged,
+    }
+}
+
+// Opens the folder, plays a script on it, closes what is open, and answers how it ended.
+pub(crate) fn run_script<F: Folder, K: Sink, C: Clock>(
+    alloc: Global,
+    limits: Limits,
+    fixed: Fixed,
+    out: &mut K,
+    folder: &mut F,
+    clock: &mut C,
+) -> Status
+    requires built { AreBuilt fixed }
+    requires few { commands_in fixed ≤ 4 }
+    // On a folder that is unfinished or well formed it is the run of the script on the map model.
+    ensures script { ForSome (F.told folder.old).files (λ from. IsUsable from → ForSome (C.readings clock.old) (λ readings. (left : Option (List ℕ)) → FixedScript result (script_of fixed.entry) (bounds_of limits) from readings (Rises (K.faults out.old) (K.faults out.new)) (record { folder = F.told folder.old; written = K.written out.old; left = left; clock = C.readings clock.old }) (record { folder = F.told folder.new; written = K.written out.new; left = left; clock = C.readings clock.new }))) }
+
+    // Where nothing fails the whole output is printed, unless memory is wanting.
+    ensures complete { ForSome (F.told folder.old).files (λ from. IsUsable from → ForSome (C.readings clock.old) (λ readings. (left : Option (List ℕ)) → (Rises (F.faults folder.old) (F.faults folder.new) → ⊥) → (Rises (K.faults out.old) (K.faults out.new) → ⊥) → IsCompleteScript result (script_of fixed.entry) (bounds_of limits) from readings (record { folder = F.told folder.old; written = K.written out.old; left = left; clock = C.readings clock.old }) (record { folder = F.told folder.new; written = K.written out.new; left = left; clock = C.readings clock.new }))) }
+
+    // On a finished folder of which a check fails that is printed, and no more is done.
+    ensures damage { ForSome (F.told folder.old).files (λ from. (damage : check_damage) → IsDamagedBy damage from → (left : Option (List ℕ)) → OnDamage result damage (K.faults out.old) (K.faults out.new) (record { folder = F.told folder.old; written = K.written out.old; left = left; clock = C.readings clock.old }) (record { folder = F.told folder.new; written = K.written out.new; left = left; clock = C.readings clock.new })) }
+
+    // The cause of each status, on every folder.
+    ensures cause { CauseOf result (F.told folder.old).files (Rises (F.faults folder.old) (F.faults folder.new)) ⊥ (Rises (K.faults out.old) (K.faults out.new)) ⊥ }
+    ensures later { (F.faults folder.old ≤ F.faults folder.new) × (K.faults out.old ≤ K.faults out.new) }
+{
+    match Cache::start(alloc, folder, limits, clock.now()) {
+        Ok(cache) => play_script(cache, fixed, out, folder, clock),
+        Err(OpenFault::Device) => Status::Device,
+        Err(OpenFault::Memory) => Status::Memory,
+        Err(OpenFault::Damaged(damage)) => {
+            let _ = print_damage(out, damage);
+            Status::Damaged
+        }
+    }
+}

@@ -1,0 +1,37 @@
+// The whole input is read.
+ghost use Rattle.std.specs.Prelude.{◌≡◌, ◌≤◌, length};
+ghost use Rattle.blk_image.specs.Told.{Rises};
+ghost use Rattle.blk_run.specs.WholeInputs.{IfSource, Reads};
+
+use blk_io::Source;
+
+/// How many bytes `put` writes at most.
+pub(crate) const LONGEST_INPUT: usize = 1048576;
+
+// Why the input was not read whole.
+#[derive(Clone, Copy)]
+pub(crate) enum InputFault {
+    // It failed.
+    Source,
+    // It has too many bytes.
+    TooLong,
+}
+
+// Reads the whole input into the front of the room, which is a byte longer than the input may be, and tells how many bytes it is.
+pub(crate) fn read_input<S: Source>(input: &mut S, room: &mut [u8]) -> Result<usize, InputFault>
+    requires room { length room.old ≡ 1048577 }
+    ensures room { length room.new ≡ 1048577 }
+    ensures reads { Reads result (S.left input.old) (S.left input.new) room.new }
+    ensures later { S.faults input.old ≤ S.faults input.new }
+    ensures source { IfSource result (Rises (S.faults input.old) (S.faults input.new)) }
+{
+    let mut len = 0;
+    while len <= LONGEST_INPUT {
+        match input.take(&mut room[len..]) {
+            Ok(0) => return Ok(len),
+            Ok(taken) => len += taken,
+            Err(_) => return Err(InputFault::Source),
+        }
+    }
+    Err(InputFault::TooLong)
+}
