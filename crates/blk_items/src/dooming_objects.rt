@@ -1,5 +1,5 @@
 // A live object is doomed in a folder.
-ghost use Rattle.std.specs.Prelude.{◌≡◌, ◌≤◌, ℕ, IfOk, IfSome, IsTrue, List, None, Some, false, length, true};
+ghost use Rattle.std.specs.Prelude.{◌≡◌, ◌≤◌, ℕ, IfOk, IfSome, IsTrue, List, None, OnOk, Some, false, length, true};
 ghost use Rattle.std.specs.Option.{ForSome};
 ghost use Rattle.blk_image.specs.Told.{Passes, Rises, Stays};
 ghost use Rattle.blk_io.specs.Faults.{IfDamaged, IfDevice};
@@ -11,12 +11,14 @@ ghost use Rattle.blk_format.specs.Names.{longest_name};
 ghost use Rattle.blk_volume.specs.Layout.{Layout};
 ghost use Rattle.blk_disk.specs.Open.{IsOpen};
 ghost use Rattle.blk_disk.specs.Tables.{is_node_among, is_record_among, stands_among};
+ghost use Rattle.blk_kept.specs.Changes.{SameSession};
 ghost use Rattle.blk_kept.specs.Keeping.{KeepsUncounted};
 ghost use Rattle.blk_object.specs.FailedChecks.{IsFailedCheck};
 ghost use Rattle.blk_object.specs.RemovingObjects.{FindsEither};
 ghost use Rattle.blk_items.specs.DoomingObjects.{ForEachOpenAt, ForEachTarget, ForEachWithKey, IsDoomed, IsTarget, has_index};
 ghost use Rattle.blk_items.specs.Looking.{IsLookDamage, KeepsSomeState};
 ghost use Rattle.blk_items.specs.NameRoom.{name_room};
+ghost use Rattle.blk_sparse.specs.Parents.{ForEachParent, IsGoneWhole, IsGroupTold};
 
 use crate::evicting_groups::{find_listed, is_no_key};
 use crate::item_names::{EntryKind, read_name};
@@ -26,7 +28,7 @@ use blk_chain::{Found, find};
 use blk_disk::BlockFiles;
 use blk_entry::record_damage;
 use blk_io::{Fault, Folder};
-use blk_object::{doom_plain, remove_item};
+use blk_object::{doom_plain, read_owned, remove_item};
 use blk_record::EntryView;
 use blk_sparse::{Gone, doom_parent, remove_parent_with};
 
@@ -224,6 +226,39 @@ fn doom_with_index<F: Folder>(
         let charge = target.charge;
         doom_parent(f, files, &target.found, target.node, key, charge, room)
     } else {
-        remove_parent_with(f, files, &target.found, target.node, key, room, &mut |_| ())
+        remove_with_index(f, files, &target.found, target.node, key, room)
     }
+}
+
+// Removes a live object with an index and a key that no handle names, and then its parts, whose names are made in `room`.
+fn remove_with_index<F: Folder>(
+    f: &mut F,
+    files: &BlockFiles,
+    found: &Found,
+    node: Addr,
+    key: &[u8],
+    room: &mut [u8],
+) -> Result<Gone, Fault>
+    requires node { IsTrue (is_node_among files.now node) }
+    requires kind { kind_of found.now.entry ≡ blocks_256 }
+    requires stands { IsTrue (stands_among files.now found.now.entry) }
+    requires kind_before { IfSome found.now.before (λ before. kind_of before ≡ blocks_256) }
+    requires stands_before { IfSome found.now.before (λ before. IsTrue (stands_among files.now before)) }
+    requires some { 1 ≤ length key.now }
+    requires short { length key.now ≤ longest_key }
+    requires room { longest_name ≤ length room.old }
+    requires is_open { ForSome (F.told f.old).files (IsOpen files.now) }
+    ensures removed { OnOk result (ForSome (F.told f.old).files (λ from. ForEachParent key.now node found.now.entry found.now.before from (λ state layout unlinked number object. ForSome (F.told f.new).files (IsGoneWhole state layout unlinked number object)))) }
+    ensures gone { IfOk result (λ gone. ForSome (F.told f.old).files (λ from. ForEachParent key.now node found.now.entry found.now.before from (λ state layout unlinked number object. IsGroupTold state layout key.now gone))) }
+    ensures session { OnOk result (ForSome (F.told f.old).files (λ from. ForEachParent key.now node found.now.entry found.now.before from (λ state layout unlinked number object. ForSome (F.told f.new).files (SameSession from)))) }
+    ensures stops { ForSome (F.told f.old).files (λ from. ForEachParent key.now node found.now.entry found.now.before from (λ state layout unlinked number object. Passes (F.told f.old) (F.told f.new) (FindsEither state (doomed number state (Some object))))) }
+    ensures is_open { ForSome (F.told f.new).files (IsOpen files.now) }
+    ensures damaged { IfDamaged result (IsFailedCheck files.now (F.told f.new)) }
+    ensures untold { ForSome (F.told f.old).files (λ from. ForEachParent key.now node found.now.entry found.now.before from (λ state layout unlinked number object. IfDamaged result (λ _. (F.told f.old).files ≡ None))) }
+    ensures silent { (F.told f.old).files ≡ None → (F.told f.new).files ≡ None }
+    ensures later { F.faults f.old ≤ F.faults f.new }
+    ensures device { IfDevice result (Rises (F.faults f.old) (F.faults f.new)) }
+{
+    let owned = read_owned(f, files, found.entry)?;
+    remove_parent_with(f, files, found, node, key, &owned, room, &mut |_| ())
 }

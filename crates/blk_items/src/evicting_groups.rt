@@ -1,5 +1,5 @@
 // A group goes out of a folder, and is printed.
-ghost use Rattle.std.specs.Prelude.{◌≡◌, ◌≤◌, ◌+◌, [], ◌∷◌, All, IfOk, IfSome, IsTrue, None, OnOk, length, true};
+ghost use Rattle.std.specs.Prelude.{◌≡◌, ◌≤◌, ◌<◌, ◌^◌, ◌+◌, [], ◌∷◌, All, IfOk, IfSome, IsTrue, None, OnOk, length, true};
 ghost use Rattle.std.specs.Option.{ForSome};
 ghost use Rattle.blk_image.specs.Told.{Passes, Rises, Stays};
 ghost use Rattle.blk_io.specs.Faults.{IfDamaged, IfDevice};
@@ -85,7 +85,7 @@ pub fn evict_group<F: Folder, K: Sink>(
         }
         EntryKind::Parent => {
             let (key, room) = name.split_at_mut(named.len);
-            evict_parent(f, files, key, room, out, failed, found)
+            evict_parent(f, files, key, &named.owned, room, out, failed, found)
         }
     }
 }
@@ -157,11 +157,12 @@ fn evict_part<F: Folder, K: Sink>(
     remove_alone(f, files, name, true, owned, found)
 }
 
-// Evicts an object with an index, and then its parts, whose names are made in `room`.
+// Evicts an object with an index, by what was read of its record, and then its parts, whose names are made in `room`.
 fn evict_parent<F: Folder, K: Sink>(
     f: &mut F,
     files: &BlockFiles,
     key: &[u8],
+    owned: &Owned,
     room: &mut [u8],
     out: &mut K,
     failed: &mut bool,
@@ -171,16 +172,18 @@ fn evict_parent<F: Folder, K: Sink>(
     requires few { length key.now ≤ name_room }
     requires node { IsTrue (is_node_among files.now found.now.node) }
     requires record_stands { IsTrue (is_record_among files.now found.now.entry) }
+    requires places { All (IsPlaceAmong files.now) owned.now.places }
+    requires light { owned.now.charge < 2 ^ 34 }
     requires is_open { ForSome (F.told f.old).files (IsOpen files.now) }
-    ensures out { IfOk result (λ gone. ForSome (F.told f.old).files (λ from. ForEachOfKind found.now EntryKind.Parent key.now from (λ state layout group. ForSome (F.told f.new).files (IsGroupOut state layout group gone from)))) }
-    ensures prints { OnOk result (ForSome (F.told f.old).files (λ from. ForEachOfKind found.now EntryKind.Parent key.now from (λ state layout group. Prints failed.old failed.new (K.written out.old) (K.written out.new) (evicted_text (group ∷ []))))) }
-    ensures stops { ForSome (F.told f.old).files (λ from. ForEachOfKind found.now EntryKind.Parent key.now from (λ state layout group. Passes (F.told f.old) (F.told f.new) (FindsEither state (without (group ∷ []) state)))) }
-    ensures front { ForSome (F.told f.old).files (λ from. ForEachOfKind found.now EntryKind.Parent key.now from (λ state layout group. Appends (K.written out.old) (K.written out.new) (evicted_text (group ∷ [])))) }
+    ensures out { IfOk result (λ gone. ForSome (F.told f.old).files (λ from. IsOwnedBy found.now.entry owned.now from → ForEachOfKind found.now EntryKind.Parent key.now from (λ state layout group. ForSome (F.told f.new).files (IsGroupOut state layout group gone from)))) }
+    ensures prints { OnOk result (ForSome (F.told f.old).files (λ from. IsOwnedBy found.now.entry owned.now from → ForEachOfKind found.now EntryKind.Parent key.now from (λ state layout group. Prints failed.old failed.new (K.written out.old) (K.written out.new) (evicted_text (group ∷ []))))) }
+    ensures stops { ForSome (F.told f.old).files (λ from. IsOwnedBy found.now.entry owned.now from → ForEachOfKind found.now EntryKind.Parent key.now from (λ state layout group. Passes (F.told f.old) (F.told f.new) (FindsEither state (without (group ∷ []) state)))) }
+    ensures front { ForSome (F.told f.old).files (λ from. IsOwnedBy found.now.entry owned.now from → ForEachOfKind found.now EntryKind.Parent key.now from (λ state layout group. Appends (K.written out.old) (K.written out.new) (evicted_text (group ∷ [])))) }
     ensures quiet { failed.old ≡ true → (failed.new ≡ true) × (K.written out.new ≡ K.written out.old) }
     ensures fails { FailsWhereItRose failed.old failed.new (K.faults out.old) (K.faults out.new) }
     ensures is_open { ForSome (F.told f.new).files (IsOpen files.now) }
     ensures damaged { ForSome (F.told f.old).files (IsNameOf found.now.entry key.now) → IfDamaged result (IsFailedCheck files.now (F.told f.new)) }
-    ensures untold { ForSome (F.told f.old).files (λ from. ForEachOfKind found.now EntryKind.Parent key.now from (λ state layout group. IfDamaged result (λ _. (F.told f.old).files ≡ None))) }
+    ensures untold { ForSome (F.told f.old).files (λ from. IsOwnedBy found.now.entry owned.now from → ForEachOfKind found.now EntryKind.Parent key.now from (λ state layout group. IfDamaged result (λ _. (F.told f.old).files ≡ None))) }
     ensures silent { (F.told f.old).files ≡ None → (F.told f.new).files ≡ None }
     ensures later { F.faults f.old ≤ F.faults f.new }
     ensures sink_later { K.faults out.old ≤ K.faults out.new }
@@ -192,7 +195,7 @@ fn evict_parent<F: Folder, K: Sink>(
     }
     say_evicted(out, failed, key);
     let at = find_listed(f, files, key, false, found.entry)?;
-    remove_parent(f, files, &at, found.node, key, room, out, failed)
+    remove_parent(f, files, &at, found.node, key, owned, room, out, failed)
 }
 
 // Whether bytes are no key: none, or too many.
@@ -202,13 +205,14 @@ pub fn is_no_key(key: &[u8]) -> bool
     key.is_empty() || key.len() > LONGEST_KEY as usize
 }
 
-// Removes an object with an index, and then its parts, and prints each of these.
+// Removes an object with an index, by what was read of its record, and then its parts, and prints each of these.
 fn remove_parent<F: Folder, K: Sink>(
     f: &mut F,
     files: &BlockFiles,
     at: &Found,
     node: Addr,
     key: &[u8],
+    owned: &Owned,
     room: &mut [u8],
     out: &mut K,
     failed: &mut bool,
@@ -221,25 +225,27 @@ fn remove_parent<F: Folder, K: Sink>(
     requires some { 1 ≤ length key.now }
     requires short { length key.now ≤ longest_key }
     requires room { longest_name ≤ length room.old }
+    requires places { All (IsPlaceAmong files.now) owned.now.places }
+    requires light { owned.now.charge < 2 ^ 34 }
     requires is_open { ForSome (F.told f.old).files (IsOpen files.now) }
-    ensures removed { OnOk result (ForSome (F.told f.old).files (λ from. ForEachParent key.now node at.now.entry at.now.before from (λ state layout unlinked number object. ForSome (F.told f.new).files (IsGoneWhole state layout unlinked number object)))) }
-    ensures gone { IfOk result (λ gone. ForSome (F.told f.old).files (λ from. ForEachParent key.now node at.now.entry at.now.before from (λ state layout unlinked number object. IsGroupTold state layout key.now gone))) }
-    ensures session { OnOk result (ForSome (F.told f.old).files (λ from. ForEachParent key.now node at.now.entry at.now.before from (λ state layout unlinked number object. ForSome (F.told f.new).files (SameSession from)))) }
-    ensures prints { OnOk result (ForSome (F.told f.old).files (λ from. ForEachParent key.now node at.now.entry at.now.before from (λ state layout unlinked number object. Prints failed.old failed.new (K.written out.old) (K.written out.new) (text_of_parts key.now (parts_among key.now state.uses))))) }
-    ensures front { ForSome (F.told f.old).files (λ from. ForEachParent key.now node at.now.entry at.now.before from (λ state layout unlinked number object. Appends (K.written out.old) (K.written out.new) (text_of_parts key.now (parts_among key.now state.uses)))) }
+    ensures removed { OnOk result (ForSome (F.told f.old).files (λ from. IsOwnedBy at.now.entry owned.now from → ForEachParent key.now node at.now.entry at.now.before from (λ state layout unlinked number object. ForSome (F.told f.new).files (IsGoneWhole state layout unlinked number object)))) }
+    ensures gone { IfOk result (λ gone. ForSome (F.told f.old).files (λ from. IsOwnedBy at.now.entry owned.now from → ForEachParent key.now node at.now.entry at.now.before from (λ state layout unlinked number object. IsGroupTold state layout key.now gone))) }
+    ensures session { OnOk result (ForSome (F.told f.old).files (λ from. IsOwnedBy at.now.entry owned.now from → ForEachParent key.now node at.now.entry at.now.before from (λ state layout unlinked number object. ForSome (F.told f.new).files (SameSession from)))) }
+    ensures prints { OnOk result (ForSome (F.told f.old).files (λ from. IsOwnedBy at.now.entry owned.now from → ForEachParent key.now node at.now.entry at.now.before from (λ state layout unlinked number object. Prints failed.old failed.new (K.written out.old) (K.written out.new) (text_of_parts key.now (parts_among key.now state.uses))))) }
+    ensures front { ForSome (F.told f.old).files (λ from. IsOwnedBy at.now.entry owned.now from → ForEachParent key.now node at.now.entry at.now.before from (λ state layout unlinked number object. Appends (K.written out.old) (K.written out.new) (text_of_parts key.now (parts_among key.now state.uses)))) }
     ensures quiet { failed.old ≡ true → (failed.new ≡ true) × (K.written out.new ≡ K.written out.old) }
     ensures fails { FailsWhereItRose failed.old failed.new (K.faults out.old) (K.faults out.new) }
-    ensures stops { ForSome (F.told f.old).files (λ from. ForEachParent key.now node at.now.entry at.now.before from (λ state layout unlinked number object. Passes (F.told f.old) (F.told f.new) (FindsEither state (doomed number state (Some object))))) }
+    ensures stops { ForSome (F.told f.old).files (λ from. IsOwnedBy at.now.entry owned.now from → ForEachParent key.now node at.now.entry at.now.before from (λ state layout unlinked number object. Passes (F.told f.old) (F.told f.new) (FindsEither state (doomed number state (Some object))))) }
     ensures is_open { ForSome (F.told f.new).files (IsOpen files.now) }
     ensures damaged { IfDamaged result (IsFailedCheck files.now (F.told f.new)) }
-    ensures untold { ForSome (F.told f.old).files (λ from. ForEachParent key.now node at.now.entry at.now.before from (λ state layout unlinked number object. IfDamaged result (λ _. (F.told f.old).files ≡ None))) }
+    ensures untold { ForSome (F.told f.old).files (λ from. IsOwnedBy at.now.entry owned.now from → ForEachParent key.now node at.now.entry at.now.before from (λ state layout unlinked number object. IfDamaged result (λ _. (F.told f.old).files ≡ None))) }
     ensures silent { (F.told f.old).files ≡ None → (F.told f.new).files ≡ None }
     ensures later { F.faults f.old ≤ F.faults f.new }
     ensures sink_later { K.faults out.old ≤ K.faults out.new }
     ensures device { IfDevice result (Rises (F.faults f.old) (F.faults f.new)) }
 {
     let mut say = |number: u32| say_evicted_part(out, failed, key, u64::from(number));
-    remove_parent_with(f, files, at, node, key, room, &mut say)
+    remove_parent_with(f, files, at, node, key, owned, room, &mut say)
 }
 
 // The key of the parent in the name of a part.

@@ -1,5 +1,5 @@
 // What an item is, by its record: its kind, and its key or name.
-ghost use Rattle.std.specs.Prelude.{◌≡◌, ◌≤◌, All, IfOk, IsTrue, None, length, take};
+ghost use Rattle.std.specs.Prelude.{◌≡◌, ◌≤◌, ◌<◌, ◌^◌, All, IfOk, IsTrue, None, length, take};
 ghost use Rattle.std.specs.Option.{ForSome};
 ghost use Rattle.blk_image.specs.Told.{Rises, Stays};
 ghost use Rattle.blk_io.specs.Faults.{IfDamaged, IfDevice};
@@ -59,6 +59,7 @@ pub(crate) fn read_name<F: Folder>(
     ensures read { IfOk result (λ named. ForSome (F.told f.old).files (IsNameOf entry (take named.len room.new))) }
     ensures owned { IfOk result (λ named. ForSome (F.told f.old).files (IsOwnedBy entry named.owned)) }
     ensures places { IfOk result (λ named. All (IsPlaceAmong files.now) named.owned.places) }
+    ensures light { IfOk result (λ named. named.owned.charge < 2 ^ 34) }
     ensures within { IfOk result (λ named. named.len ≤ length room.old) }
     ensures stays { Stays (F.told f.old) (F.told f.new) }
     ensures damaged { IfDamaged result (IsFailedCheck files.now (F.told f.new)) }

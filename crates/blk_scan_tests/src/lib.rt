@@ -24,6 +24,8 @@ mod opening;
 #[cfg(test)]
 mod parts;
 #[cfg(test)]
+mod playing;
+#[cfg(test)]
 mod reasons;
 #[cfg(test)]
 mod repairs;

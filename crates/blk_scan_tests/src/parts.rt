@@ -7,7 +7,7 @@ use blk_disk::BlockFiles;
 use blk_entry::node_of;
 use blk_index::make;
 use blk_io::{Failed, Fault};
-use blk_object::take_main;
+use blk_object::{read_owned, take_main};
 use blk_sparse::{
     Gone, Parent, doom_parent, drop_children, drop_children_with, drop_parts_with,
     remove_parent_with,
@@ -154,7 +154,10 @@ fn whole_gone(f: &mut Mem, dooms: bool) -> Result<(Gone, [u32; 3]), Fault> {
                 return Ok((gone, told));
             }
             let mut each = |number: u32| told = [told[1], told[2], number];
-            let gone = remove_parent_with(f, &files, &found, node, OBJECT, &mut room, &mut each)?;
+            let owned = read_owned(f, &files, found.entry)?;
+            let gone = remove_parent_with(
+                f, &files, &found, node, OBJECT, &owned, &mut room, &mut each,
+            )?;
             Ok((gone, told))
         }
         Ok(None) => Err(Fault::Device),

@@ -21,7 +21,7 @@ ghost use Rattle.blk_kept.specs.Changes.{Finds, SameSession};
 ghost use Rattle.blk_object.specs.FailedChecks.{IsFailedCheck};
 ghost use Rattle.blk_object.specs.Freeing.{IsPlaceAmong, words_at};
 ghost use Rattle.blk_object.specs.Owning.{LoadsWith};
-ghost use Rattle.blk_object.specs.RemovingObjects.{FindsEither};
+ghost use Rattle.blk_object.specs.RemovingObjects.{FindsEither, IsOwnedBy};
 ghost use Rattle.blk_sparse.specs.Dropping.{IsCalledAtFront, IsWholeOut};
 ghost use Rattle.blk_sparse.specs.Parents.{AreGoneBeside, ArePartsTold, ForEachHeldParent, ForEachParent, ForEachRest, IsGoneWhole, IsGroupTold, IsHeldWhole, LoadsAsParent};
 
@@ -31,7 +31,7 @@ use blk_chain::Found;
 use blk_disk::BlockFiles;
 use blk_entry::record_damage;
 use blk_io::{Fault, Folder};
-use blk_object::{Owned, doom_record, free_owned, read_owned, take_main};
+use blk_object::{Owned, doom_record, free_owned, take_main};
 use blk_ranges::ParentHead;
 use blk_record::EntryView;
 use blk_stream::read;
@@ -46,15 +46,17 @@ const PARENT: u32 = 1;
 /// counted no longer, then each part goes, as `drop_parts_with` says, and the main item's own places are freed last.
 /// How many items went is given, the main one too, and what they were charged.
 ///
-/// Its record stands in its chain behind the record before, or is the first; and it names this node. The index is
-/// read into `room`, and then the names of parts are made there. This takes as many folder calls as `take_main` and
-/// `drop_parts_with`, three more, and seven for each place of the main item.
+/// Its places and its charge were read before, as `read_owned` gives them. Its record stands in its chain behind the
+/// record before, or is the first; and it names this node. The index is read into `room`, and then the names of parts are
+/// made there. This takes as many folder calls as `take_main` and `drop_parts_with`, two more, and seven for each place
+/// of the main item.
 pub fn remove_parent_with<F: Folder, E: FnMut(u32)>(
     f: &mut F,
     files: &BlockFiles,
     found: &Found,
     node: Addr,
     key: &[u8],
+    owned: &Owned,
     room: &mut [u8],
     each: &mut E,
 ) -> Result<Gone, Fault>
@@ -66,23 +68,25 @@ pub fn remove_parent_with<F: Folder, E: FnMut(u32)>(
     requires some { 1 ≤ length key.now }
     requires short { length key.now ≤ longest_key }
     requires room { longest_name ≤ length room.old }
+    requires places { All (IsPlaceAmong files.now) owned.now.places }
+    requires light { owned.now.charge < 2 ^ 34 }
     requires callable { E.IsAlwaysCallable each.old }
     requires is_open { ForSome (F.told f.old).files (IsOpen files.now) }
 
-    // Where there is such an object in a state that is kept, the state with it doomed is kept in the end, in the same session. How many items went is told, and what they were charged.
-    ensures removed { OnOk result (ForSome (F.told f.old).files (λ from. ForEachParent key.now node found.now.entry found.now.before from (λ state layout unlinked number object. ForSome (F.told f.new).files (IsGoneWhole state layout unlinked number object)))) }
-    ensures gone { IfOk result (λ gone. ForSome (F.told f.old).files (λ from. ForEachParent key.now node found.now.entry found.now.before from (λ state layout unlinked number object. IsGroupTold state layout key.now gone))) }
-    ensures session { OnOk result (ForSome (F.told f.old).files (λ from. ForEachParent key.now node found.now.entry found.now.before from (λ state layout unlinked number object. ForSome (F.told f.new).files (SameSession from)))) }
+    // Where these are its places and its charge, and there is such an object in a state that is kept, the state with it doomed is kept in the end, in the same session. How many items went is told, and what they were charged.
+    ensures removed { OnOk result (ForSome (F.told f.old).files (λ from. IsOwnedBy found.now.entry owned.now from → ForEachParent key.now node found.now.entry found.now.before from (λ state layout unlinked number object. ForSome (F.told f.new).files (IsGoneWhole state layout unlinked number object)))) }
+    ensures gone { IfOk result (λ gone. ForSome (F.told f.old).files (λ from. IsOwnedBy found.now.entry owned.now from → ForEachParent key.now node found.now.entry found.now.before from (λ state layout unlinked number object. IsGroupTold state layout key.now gone))) }
+    ensures session { OnOk result (ForSome (F.told f.old).files (λ from. IsOwnedBy found.now.entry owned.now from → ForEachParent key.now node found.now.entry found.now.before from (λ state layout unlinked number object. ForSome (F.told f.new).files (SameSession from)))) }
 
     // `each` was called with the numbers of its parts, in the order of the use list, once each; or with a front of them.
-    ensures each { OnOk result (ForSome (F.told f.old).files (λ from. ForEachParent key.now node found.now.entry found.now.before from (λ state layout unlinked number object. FoldsTo (λ p x q. E.step p x tt q) each.old (parts_among key.now state.uses) each.new))) }
-    ensures front { ForSome (F.told f.old).files (λ from. ForEachParent key.now node found.now.entry found.now.before from (λ state layout unlinked number object. IsCalledAtFront E (λ p x q. E.step p x tt q) (parts_among key.now state.uses) each.old each.new)) }
+    ensures each { OnOk result (ForSome (F.told f.old).files (λ from. IsOwnedBy found.now.entry owned.now from → ForEachParent key.now node found.now.entry found.now.before from (λ state layout unlinked number object. FoldsTo (λ p x q. E.step p x tt q) each.old (parts_among key.now state.uses) each.new))) }
+    ensures front { ForSome (F.told f.old).files (λ from. IsOwnedBy found.now.entry owned.now from → ForEachParent key.now node found.now.entry found.now.before from (λ state layout unlinked number object. IsCalledAtFront E (λ p x q. E.step p x tt q) (parts_among key.now state.uses) each.old each.new)) }
 
     // On every folder it was called with some numbers.
     ensures calls { (numbers : List ℕ) × FoldsTo (λ p x q. E.step p x tt q) each.old numbers each.new }
 
     // At each word what was at rest is found, or what is at rest with the object doomed.
-    ensures stops { ForSome (F.told f.old).files (λ from. ForEachParent key.now node found.now.entry found.now.before from (λ state layout unlinked number object. Passes (F.told f.old) (F.told f.new) (FindsEither state (doomed number state (Some object))))) }
+    ensures stops { ForSome (F.told f.old).files (λ from. IsOwnedBy found.now.entry owned.now from → ForEachParent key.now node found.now.entry found.now.before from (λ state layout unlinked number object. Passes (F.told f.old) (F.told f.new) (FindsEither state (doomed number state (Some object))))) }
 
     ensures is_open { ForSome (F.told f.new).files (IsOpen files.now) }
 
@@ -90,16 +94,15 @@ pub fn remove_parent_with<F: Folder, E: FnMut(u32)>(
     ensures damaged { IfDamaged result (IsFailedCheck files.now (F.told f.new)) }
 
     // A folder that tells its files, with such an object, gives no damage.
-    ensures untold { ForSome (F.told f.old).files (λ from. ForEachParent key.now node found.now.entry found.now.before from (λ state layout unlinked number object. IfDamaged result (λ _. (F.told f.old).files ≡ None))) }
+    ensures untold { ForSome (F.told f.old).files (λ from. IsOwnedBy found.now.entry owned.now from → ForEachParent key.now node found.now.entry found.now.before from (λ state layout unlinked number object. IfDamaged result (λ _. (F.told f.old).files ≡ None))) }
 
     ensures silent { (F.told f.old).files ≡ None → (F.told f.new).files ≡ None }
     ensures later { F.faults f.old ≤ F.faults f.new }
     ensures device { IfDevice result (Rises (F.faults f.old) (F.faults f.new)) }
 {
-    let owned = read_owned(f, files, found.entry)?;
     let signature = read_signature(f, files, found.entry, room)?;
     take_main(f, files, found, node, owned.charge)?;
-    drop_and_free(f, files, key, signature, &owned, room, each)
+    drop_and_free(f, files, key, signature, owned, room, each)
 }
 
 /// Dooms an object with an index, a parent, which a handle names: its main item is taken out and counted no longer, with

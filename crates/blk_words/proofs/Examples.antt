@@ -11,7 +11,6 @@ use Rattle.blk_words.specs.Words.{Invocation, asked_by, limits_in, words_ask}
 abbrev with_limits : ℕ → ℕ → Task → Option Invocation
 with_limits bytes items task = Some (record { task = task; limits = record { max_bytes = bytes; max_items = items } })
 
-
 pub count_alone : words_ask (codes "count" ∷ []) ≡ with_limits 83886080 65536 do_count
 unfolding words_ask taken_apart word_of asked_by limits_in task_in task_of first_words
 count_alone = refl

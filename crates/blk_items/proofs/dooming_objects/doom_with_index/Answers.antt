@@ -27,20 +27,20 @@ returns-then-is_held-clause-untold g c from there state layout number object k t
     c.doom_parent.ensures.untold from there state layout [] number object m ch
 
 pub returns-else-is_held-clause-doomed : goal.returns-else-is_held-clause-doomed
-returns-else-is_held-clause-doomed g c = if-ok-three c.remove_parent_with.result (λ gone told out session from there state layout number object k t same last is.
+returns-else-is_held-clause-doomed g c = if-ok-three c.remove_with_index.result (λ gone told out session from there state layout number object k t same last is.
     let t1 = subst (λ (b : Bool). LiesAsTarget b state layout number object c.args.target.now) c.if-is_held.false t in
     let m = as-parent state layout from number object c.args.target.now k t1 (parent-kind state layout from number object c.args.target.now k t1 c.requires.parent) c.args.key.now same in
     whole-unheld state layout from number object c.args.target.now k t1 t1.named c.args.key.now same last gone (out from there state layout [] number object m last is) (told from there state layout [] number object m) (session from there state layout [] number object m last is))
-    c.remove_parent_with.ensures.gone c.remove_parent_with.ensures.removed c.remove_parent_with.ensures.session
+    c.remove_with_index.ensures.gone c.remove_with_index.ensures.removed c.remove_with_index.ensures.session
 
 pub returns-else-is_held-clause-stops : goal.returns-else-is_held-clause-stops
 returns-else-is_held-clause-stops g c from there state layout number object k t same =
     let t1 = subst (λ (b : Bool). LiesAsTarget b state layout number object c.args.target.now) c.if-is_held.false t in
     let m = as-parent state layout from number object c.args.target.now k t1 (parent-kind state layout from number object c.args.target.now k t1 c.requires.parent) c.args.key.now same in
-    c.remove_parent_with.ensures.stops from there state layout [] number object m
+    c.remove_with_index.ensures.stops from there state layout [] number object m
 
 pub returns-else-is_held-clause-untold : goal.returns-else-is_held-clause-untold
 returns-else-is_held-clause-untold g c from there state layout number object k t same =
     let t1 = subst (λ (b : Bool). LiesAsTarget b state layout number object c.args.target.now) c.if-is_held.false t in
     let m = as-parent state layout from number object c.args.target.now k t1 (parent-kind state layout from number object c.args.target.now k t1 c.requires.parent) c.args.key.now same in
-    c.remove_parent_with.ensures.untold from there state layout [] number object m
+    c.remove_with_index.ensures.untold from there state layout [] number object m

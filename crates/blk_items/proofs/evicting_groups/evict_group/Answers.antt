@@ -58,16 +58,16 @@ pub evict_parent-requires-clause-is_open : goal.evict_parent-requires-clause-is_
 evict_parent-requires-clause-is_open g c image there = c.requires.is_open image (told_now image (sym c.in_ok-named.ensures.stays) there)
 
 pub returns-in-Parent-clause-out : goal.returns-in-Parent-clause-out
-returns-in-Parent-clause-out g c = if_ok_weaker c.evict_parent.result (λ gone out from there state layout k last. out from (told_now from c.in_ok-named.ensures.stays there) state layout (goes-with state layout from c.args.found.now k last c.in_ok-named.named c.read_name.new.room (c.in_ok-named.ensures.named from there last.loaded (loads-last state layout from c.args.found.now k last)) kinds.Parent c.in-Parent.is c.split_at_mut-key.result.0.now (search rules))) c.evict_parent.ensures.out
+returns-in-Parent-clause-out g c = if_ok_weaker c.evict_parent.result (λ gone out from there state layout k last. out from (told_now from c.in_ok-named.ensures.stays there) (c.in_ok-named.ensures.owned from there) state layout (goes-with state layout from c.args.found.now k last c.in_ok-named.named c.read_name.new.room (c.in_ok-named.ensures.named from there last.loaded (loads-last state layout from c.args.found.now k last)) kinds.Parent c.in-Parent.is c.split_at_mut-key.result.0.now (search rules))) c.evict_parent.ensures.out
 
 pub returns-in-Parent-clause-prints : goal.returns-in-Parent-clause-prints
-returns-in-Parent-clause-prints g c = on_ok_weaker c.evict_parent.result (λ prints from there state layout k last. prints from (told_now from c.in_ok-named.ensures.stays there) state layout (goes-with state layout from c.args.found.now k last c.in_ok-named.named c.read_name.new.room (c.in_ok-named.ensures.named from there last.loaded (loads-last state layout from c.args.found.now k last)) kinds.Parent c.in-Parent.is c.split_at_mut-key.result.0.now (search rules))) c.evict_parent.ensures.prints
+returns-in-Parent-clause-prints g c = on_ok_weaker c.evict_parent.result (λ prints from there state layout k last. prints from (told_now from c.in_ok-named.ensures.stays there) (c.in_ok-named.ensures.owned from there) state layout (goes-with state layout from c.args.found.now k last c.in_ok-named.named c.read_name.new.room (c.in_ok-named.ensures.named from there last.loaded (loads-last state layout from c.args.found.now k last)) kinds.Parent c.in-Parent.is c.split_at_mut-key.result.0.now (search rules))) c.evict_parent.ensures.prints
 
 pub returns-in-Parent-clause-stops : goal.returns-in-Parent-clause-stops
-returns-in-Parent-clause-stops g c from there state layout k last = passes_stayed c.in_ok-named.ensures.stays (c.evict_parent.ensures.stops from (told_now from c.in_ok-named.ensures.stays there) state layout (goes-with state layout from c.args.found.now k last c.in_ok-named.named c.read_name.new.room (c.in_ok-named.ensures.named from there last.loaded (loads-last state layout from c.args.found.now k last)) kinds.Parent c.in-Parent.is c.split_at_mut-key.result.0.now (search rules)))
+returns-in-Parent-clause-stops g c from there state layout k last = passes_stayed c.in_ok-named.ensures.stays (c.evict_parent.ensures.stops from (told_now from c.in_ok-named.ensures.stays there) (c.in_ok-named.ensures.owned from there) state layout (goes-with state layout from c.args.found.now k last c.in_ok-named.named c.read_name.new.room (c.in_ok-named.ensures.named from there last.loaded (loads-last state layout from c.args.found.now k last)) kinds.Parent c.in-Parent.is c.split_at_mut-key.result.0.now (search rules)))
 
 pub returns-in-Parent-clause-front : goal.returns-in-Parent-clause-front
-returns-in-Parent-clause-front g c from there state layout k last = c.evict_parent.ensures.front from (told_now from c.in_ok-named.ensures.stays there) state layout (goes-with state layout from c.args.found.now k last c.in_ok-named.named c.read_name.new.room (c.in_ok-named.ensures.named from there last.loaded (loads-last state layout from c.args.found.now k last)) kinds.Parent c.in-Parent.is c.split_at_mut-key.result.0.now (search rules))
+returns-in-Parent-clause-front g c from there state layout k last = c.evict_parent.ensures.front from (told_now from c.in_ok-named.ensures.stays there) (c.in_ok-named.ensures.owned from there) state layout (goes-with state layout from c.args.found.now k last c.in_ok-named.named c.read_name.new.room (c.in_ok-named.ensures.named from there last.loaded (loads-last state layout from c.args.found.now k last)) kinds.Parent c.in-Parent.is c.split_at_mut-key.result.0.now (search rules))
 
 pub returns-in-Parent-clause-untold : goal.returns-in-Parent-clause-untold
-returns-in-Parent-clause-untold g c from there state layout k last = subst (λ (t : Told). IfDamaged c.evict_parent.result (λ _. t.files ≡ None)) c.in_ok-named.ensures.stays (c.evict_parent.ensures.untold from (told_now from c.in_ok-named.ensures.stays there) state layout (goes-with state layout from c.args.found.now k last c.in_ok-named.named c.read_name.new.room (c.in_ok-named.ensures.named from there last.loaded (loads-last state layout from c.args.found.now k last)) kinds.Parent c.in-Parent.is c.split_at_mut-key.result.0.now (search rules)))
+returns-in-Parent-clause-untold g c from there state layout k last = subst (λ (t : Told). IfDamaged c.evict_parent.result (λ _. t.files ≡ None)) c.in_ok-named.ensures.stays (c.evict_parent.ensures.untold from (told_now from c.in_ok-named.ensures.stays there) (c.in_ok-named.ensures.owned from there) state layout (goes-with state layout from c.args.found.now k last c.in_ok-named.named c.read_name.new.room (c.in_ok-named.ensures.named from there last.loaded (loads-last state layout from c.args.found.now k last)) kinds.Parent c.in-Parent.is c.split_at_mut-key.result.0.now (search rules)))

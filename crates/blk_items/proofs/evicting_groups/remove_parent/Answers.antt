@@ -66,7 +66,7 @@ returns-clause-sink_later g c =
     (tied c.args.key.now c.args.failed.now _ c.failed-1.given.0 (g.K.Sink.written c.args.out.now) g.K.Sink.written (g.K.Sink.faults c.args.out.now) g.K.Sink.faults _ c.out-1.given.0 (c.remove_parent_with.ensures.calls).0 (c.failed-1.given.1 (sym ran.2)) (c.out-1.given.1 (sym ran.1)) ran.3).later
 
 pub returns-clause-prints : goal.returns-clause-prints
-returns-clause-prints g c = on_ok_weaker c.remove_parent_with.result (λ each from there state layout unlinked number object may.
+returns-clause-prints g c = on_ok_weaker c.remove_parent_with.result (λ each from there by state layout unlinked number object may.
     let ran = chained_keeps _ (λ xs q. (q.2.now ≡ c.args.key.now) × (q.0.ghost_name ≡ c.say-1.given) × (q.1.ghost_name ≡ c.say-2-1.given) × HavePrinted c.args.key.now c.args.failed.now q.1.now (g.K.Sink.written c.args.out.now) (g.K.Sink.written q.0.now) (g.K.Sink.faults c.args.out.now) (g.K.Sink.faults q.0.now) xs)
     (λ xs q x v j k.
     let said : Prints q.1.now v.1.now (g.K.Sink.written q.0.now) (g.K.Sink.written v.0.now) (evicted_line (part q.2.now x)) = search rules in
@@ -81,12 +81,12 @@ returns-clause-prints g c = on_ok_weaker c.remove_parent_with.result (λ each fr
       printed-more c.args.key.now c.args.failed.now q.1.now v.1.now (g.K.Sink.written c.args.out.now) (g.K.Sink.written q.0.now) (g.K.Sink.written v.0.now) (g.K.Sink.faults c.args.out.now) (g.K.Sink.faults q.0.now) (g.K.Sink.faults v.0.now) xs x j.3
           (subst (λ (k : List ℕ). Prints q.1.now v.1.now (g.K.Sink.written q.0.now) (g.K.Sink.written v.0.now) (evicted_line (part k x))) j.0 said) fails later,
     ))
-    _ _ _ (refl, refl, refl, printed-none c.args.key.now c.args.failed.now (g.K.Sink.written c.args.out.now) (g.K.Sink.faults c.args.out.now)) (each from there state layout unlinked number object may) in
+    _ _ _ (refl, refl, refl, printed-none c.args.key.now c.args.failed.now (g.K.Sink.written c.args.out.now) (g.K.Sink.faults c.args.out.now)) (each from there by state layout unlinked number object may) in
     (tied c.args.key.now c.args.failed.now _ c.failed-1.given.0 (g.K.Sink.written c.args.out.now) g.K.Sink.written (g.K.Sink.faults c.args.out.now) g.K.Sink.faults _ c.out-1.given.0 (parts_among c.args.key.now state.uses) (c.failed-1.given.1 (sym ran.2)) (c.out-1.given.1 (sym ran.1)) ran.3).prints) c.remove_parent_with.ensures.each
 
 pub returns-clause-front : goal.returns-clause-front
-returns-clause-front g c from there state layout unlinked number object may =
-    let called = c.remove_parent_with.ensures.front from there state layout unlinked number object may in
+returns-clause-front g c from there by state layout unlinked number object may =
+    let called = c.remove_parent_with.ensures.front from there by state layout unlinked number object may in
     let ran = chained_keeps _ (λ xs q. (q.2.now ≡ c.args.key.now) × (q.0.ghost_name ≡ c.say-1.given) × (q.1.ghost_name ≡ c.say-2-1.given) × HavePrinted c.args.key.now c.args.failed.now q.1.now (g.K.Sink.written c.args.out.now) (g.K.Sink.written q.0.now) (g.K.Sink.faults c.args.out.now) (g.K.Sink.faults q.0.now) xs)
     (λ xs q x v j k.
     let said : Prints q.1.now v.1.now (g.K.Sink.written q.0.now) (g.K.Sink.written v.0.now) (evicted_line (part q.2.now x)) = search rules in

@@ -2,6 +2,7 @@ use Rattle.std.proofs.Common.{rules, refl, ◌≡◌, ◌∙◌, sym, subst, ari
 use Rattle.std.specs.Prelude.{IfSome, IsTrue}
 use Rattle.std.specs.Option.{ForSome}
 use Rattle.blk_image.specs.Told.{Told}
+use Rattle.blk_format.specs.Address.{blocks_256, is_address}
 use Rattle.blk_volume.specs.Layout.{nodes_of}
 use Rattle.blk_volume.specs.Loads.{Loaded}
 use Rattle.blk_io.proofs.Carried.{carried}
@@ -11,6 +12,7 @@ use Rattle.blk_disk.specs.Tables.{Agrees, is_node_among}
 use Rattle.blk_handles.specs.Bindings.{is_open}
 use Rattle.blk_lru.proofs.Conditions.{told_now}
 use Rattle.blk_object.specs.ListedParts.{LoadsAt}
+use Rattle.blk_object.proofs.MakingMade.{among-names}
 use Rattle.blk_items.specs.ListPlaces.{IsPlaceInList}
 use Rattle.blk_cache.proofs.Ends.{kept-open}
 use Rattle.blk_cache.proofs.RoomLast.{all-met, front-is, last-found, more-so-far, none-left, node-loads}
@@ -54,6 +56,11 @@ returns-then-not-is_pinned-clause-last g c image there state kept pinned =
     (sym some ∙ c.in_ok-node.ensures.node image (told_now image c.loop.invariant.told there) kept.files (nodes_of kept.layout p.from.front) (front-is c.args.self.now state image kept c.loop.behind p.from))
     (record { node = c.in-Some.node; entry = c.in_ok-entry.entry; behind = c.loop.behind }) refl
     (c.in_ok-entry.ensures.entry image (told_now image (c.in_ok-node.ensures.stays ∙ c.loop.invariant.told) there)) refl closed
+
+pub returns-then-not-is_pinned-clause-record_stands : goal.returns-then-not-is_pinned-clause-record_stands
+returns-then-not-is_pinned-clause-record_stands g c =
+    let address : is_address c.in_ok-entry.entry ≡ true = search rules in
+    among-names c.args.self.now.files blocks_256 c.in_ok-entry.entry address c.in_ok-entry.ensures.kind c.in_ok-entry.ensures.stands
 
 pub loop-preserved : goal.loop-preserved
 loop-preserved g c =
