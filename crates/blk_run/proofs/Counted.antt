@@ -20,7 +20,7 @@ use Rattle.blk_cache.specs.Opened.{IsFirstDamage}
 use Rattle.blk_cache.specs.Opening.{EndsSession, HoldsStill, IfOpenDamaged, opened_id}
 use Rattle.blk_cache.proofs.Ends.{kept-open}
 use Rattle.blk_disk.specs.Open.{IsOpen}
-use Rattle.blk_model.specs.State.{State}
+use Rattle.blk_model.specs.State.{Bounds, State}
 use Rattle.blk_run.specs.declared.ending.Status.{Status}
 use Rattle.blk_run.specs.Count.{AreTotalsOf, EndsSame, IsDamaged, PrintsAt, ShowsTotals, opened_on}
 use Rattle.blk_run.specs.Texts.{totals_line}
@@ -34,15 +34,15 @@ none_printed line old = record { front = []; rest = line; split = refl; written 
     same (Some w) = ap Some (sym (append-nil w))
 
 -- the totals of the files that are told, and any where none are
-pub told_totals : (s : Status) (files : Option Image) (old new : Option (List ℕ)) → ((line : List ℕ) → PrintsAt s line old new) → ShowsTotals s files old new
-told_totals s None old new printed = record { item_count = 0; byte_count = 0; totals = λ image there. absurd (no_image there); printed = printed (totals_line 0 0) }
+pub told_totals : (s : Status) (limits : Bounds) (files : Option Image) (old new : Option (List ℕ)) → ((line : List ℕ) → PrintsAt s line old new) → ShowsTotals s limits files old new
+told_totals s limits None old new printed = record { item_count = 0; byte_count = 0; totals = λ image there. absurd (no_image there); printed = printed (totals_line 0 0) }
   where
     no_image : {image : Image} → ◌≡◌ {A = Option Image} None (Some image) → ⊥
     no_image e = cc
-told_totals s (Some from) old new printed = record {
+told_totals s limits (Some from) old new printed = record {
   item_count = _;
   byte_count = _;
-  totals = λ image there. subst (AreTotalsOf _ _) (some_inj there) (record { items_are = refl; bytes_are = refl });
+  totals = λ image there. subst (AreTotalsOf _ _ limits) (some_inj there) (record { items_are = refl; bytes_are = refl });
   printed = printed _;
 }
 
@@ -54,23 +54,23 @@ still_then : (a b c : Image) → HoldsStill a b → HoldsStill b c → HoldsStil
 still_then a b c one other = record { usable = λ h. other.usable (one.usable h); formed = λ h. other.formed (one.formed h); found_same = other.found_same ∙ one.found_same }
 
 -- a folder on which a cache keeps a state may be written; one that tells nothing asks nothing
-pub opened_open : (start middle : Told) (cache : Cache) → (start.files ≡ None → middle.files ≡ None) → ForSome start.files (λ from. ForSome middle.files (KeepsState cache (opened_on from))) → ForSome middle.files (IsOpen cache.files)
-opened_open start middle cache silent keeps = by_files start.files silent keeps
+pub opened_open : (limits : Bounds) (start middle : Told) (cache : Cache) → (start.files ≡ None → middle.files ≡ None) → ForSome start.files (λ from. ForSome middle.files (KeepsState cache (opened_on limits from))) → ForSome middle.files (IsOpen cache.files)
+opened_open limits start middle cache silent keeps = by_files start.files silent keeps
   where
     no_image : {image : Image} → ◌≡◌ {A = Option Image} None (Some image) → ⊥
     no_image e = cc
 
-    by_files : (files : Option Image) → (files ≡ None → middle.files ≡ None) → ForSome files (λ from. ForSome middle.files (KeepsState cache (opened_on from))) → ForSome middle.files (IsOpen cache.files)
+    by_files : (files : Option Image) → (files ≡ None → middle.files ≡ None) → ForSome files (λ from. ForSome middle.files (KeepsState cache (opened_on limits from))) → ForSome middle.files (IsOpen cache.files)
     by_files None silent keeps image there = absurd (no_image (sym (silent refl) ∙ there))
-    by_files (Some from) silent keeps image there = kept-open cache (opened_on from) image (keeps from refl image there)
+    by_files (Some from) silent keeps image there = kept-open cache (opened_on limits from) image (keeps from refl image there)
 
 -- What an opening and then an end of it leave.
-module _ (start middle : Told) (cache : Cache) (from : Image) (there : start.files ≡ Some from) (opened : Passes start middle (HoldsStill from))
-    (keeps : ForSome start.files (λ from. ForSome middle.files (KeepsState cache (opened_on from)))) where
+module _ (limits : Bounds) (start middle : Told) (cache : Cache) (from : Image) (there : start.files ≡ Some from) (opened : Passes start middle (HoldsStill from))
+    (keeps : ForSome start.files (λ from. ForSome middle.files (KeepsState cache (opened_on limits from)))) where
   mid : (image : Image) × (middle.files ≡ Some image)
   mid = told_still from opened there
 
-  pub counted : AreTotalsOf cache.items cache.bytes from
+  pub counted : AreTotalsOf cache.items cache.bytes limits from
   counted = let k = keeps from there mid.0 mid.1 in record { items_are = k.items_are; bytes_are = k.bytes_are }
 
   module _ (final : Told) (ended : ForSome middle.files (λ image. (state : State) → KeepsState cache state image → Passes middle final (HoldsStill image))) where
@@ -78,13 +78,13 @@ module _ (start middle : Told) (cache : Cache) (from : Image) (there : start.fil
     passed =
         let before : HoldsStill from mid.0 = passes_end opened mid.0 mid.1 in
         let more = λ (image : Image) (still : HoldsStill mid.0 image). still_then from mid.0 image before still in
-        passes_then opened (passes_weaker (ended mid.0 mid.1 (opened_on from) (keeps from there mid.0 mid.1)) more more)
+        passes_then opened (passes_weaker (ended mid.0 mid.1 (opened_on limits from) (keeps from there mid.0 mid.1)) more more)
 
     pub left_same : ForSome start.files (λ from. ForSome middle.files (λ image. this_id_of (byte image Index) ≡ opened_id from)) → ForSome middle.files (λ image. (state : State) → KeepsState cache state image → ForSome final.files EndsSession)
         → ForSome middle.files (λ image. ForSome final.files (λ last. this_id_of (byte last Index) ≡ this_id_of (byte image Index))) → ForSome final.files (EndsSame from)
     left_same numbered sound same image here = record {
       found_same = (passes_end passed image here).found_same;
-      ends = sound mid.0 mid.1 (opened_on from) (keeps from there mid.0 mid.1) image here;
+      ends = sound mid.0 mid.1 (opened_on limits from) (keeps from there mid.0 mid.1) image here;
       session = same mid.0 mid.1 image here ∙ numbered from there mid.0 mid.1;
     }
 

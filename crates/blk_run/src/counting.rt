@@ -1,0 +1,132 @@
+// The totals are counted.
+ghost use Rattle.std.specs.Prelude.{◌≡◌, ◌≢◌, ◌⊎◌, ◌≤◌, ◌*◌, ◌++◌, List, [], ℕ, None, OnOk, Option, Some};
+ghost use Rattle.std.specs.Option.{ForSome, option_map};
+ghost use Rattle.blk_image.specs.Image.{Image, Index as index, byte};
+ghost use Rattle.blk_image.specs.Checks.{Damage as check_damage};
+ghost use Rattle.blk_image.specs.Told.{Passes, Rises, Stays, Told};
+ghost use Rattle.blk_format.specs.Headers.{IsUnfinished, create_time_of, this_id_of};
+ghost use Rattle.blk_io.specs.Streams.{Appends, Readings, later_of};
+ghost use Rattle.blk_model.specs.Bounds.{bounds_of};
+ghost use Rattle.blk_model.specs.Holding.{open_state};
+ghost use Rattle.blk_model.specs.Sizes.{handle_names};
+ghost use Rattle.blk_model.specs.State.{Bounds, State};
+ghost use Rattle.blk_volume.specs.Found.{found};
+ghost use Rattle.blk_disk.specs.Open.{IsOpen};
+ghost use Rattle.blk_headline.specs.Opening.{IsUsable};
+ghost use Rattle.blk_headline.specs.Script.{count_script};
+ghost use Rattle.blk_cache.specs.BoundNames.{AreAllFree};
+ghost use Rattle.blk_cache.specs.CacheKeeping.{KeepsState};
+ghost use Rattle.blk_cache.specs.Opening.{EndsSession, HoldsStill, WasMadeAt};
+ghost use Rattle.blk_cache.specs.Stepping.{IfSink};
+ghost use Rattle.blk_run.specs.Count.{AnswersFor, EndsSame, IsMadeAtNext, PrintsAt, ShowsDamage, ShowsTotals};
+ghost use Rattle.blk_run.specs.Errors.{IsOnlySink};
+ghost use Rattle.blk_run.specs.Playing.{StandsAt};
+ghost use Rattle.blk_run.specs.Session.{FixedRuns, FixedScript, IsCompleteScript, IsDamagedBy, OnDamage};
+ghost use Rattle.blk_run.specs.Statuses.{CauseOf};
+ghost use Rattle.blk_run.specs.Texts.{totals_line};
+
+use crate::ending::Status;
+use crate::printing::{print_damage, print_totals};
+use blk_cache::{Cache, OpenFault, StepFault};
+use blk_io::{Clock, Folder, Sink};
+use blk_model::Limits;
+use std::alloc::Global;
+
+// Opens the folder, prints its items and bytes, closes it, and answers how it ended.
+pub(crate) fn run_count<F: Folder, K: Sink, C: Clock>(
+    alloc: Global,
+    limits: Limits,
+    out: &mut K,
+    folder: &mut F,
+    clock: &mut C,
+) -> Status
+    // On a folder that is unfinished or well formed it is the run of the script of `count` on the map model.
+    ensures script { ForSome (F.told folder.old).files (λ from. IsUsable from → ForSome (C.readings clock.old) (λ readings. (left : Option (List ℕ)) → FixedScript result count_script (bounds_of limits) from readings (Rises (K.faults out.old) (K.faults out.new)) (record { folder = F.told folder.old; written = K.written out.old; left = left; clock = C.readings clock.old }) (record { folder = F.told folder.new; written = K.written out.new; left = left; clock = C.readings clock.new }))) }
+
+    // Where nothing fails the whole output is printed, unless memory is wanting.
+    ensures complete { ForSome (F.told folder.old).files (λ from. IsUsable from → ForSome (C.readings clock.old) (λ readings. (left : Option (List ℕ)) → (Rises (F.faults folder.old) (F.faults folder.new) → ⊥) → (Rises (K.faults out.old) (K.faults out.new) → ⊥) → IsCompleteScript result count_script (bounds_of limits) from readings (record { folder = F.told folder.old; written = K.written out.old; left = left; clock = C.readings clock.old }) (record { folder = F.told folder.new; written = K.written out.new; left = left; clock = C.readings clock.new }))) }
+
+    // On a finished folder of which a check fails that is printed, and no more is done.
+    ensures shows { ForSome (F.told folder.old).files (λ from. (damage : check_damage) → IsDamagedBy damage from → (left : Option (List ℕ)) → OnDamage result damage (K.faults out.old) (K.faults out.new) (record { folder = F.told folder.old; written = K.written out.old; left = left; clock = C.readings clock.old }) (record { folder = F.told folder.new; written = K.written out.new; left = left; clock = C.readings clock.new })) }
+
+    // The cause of each status, on every folder.
+    ensures cause { CauseOf result (F.told folder.old).files (Rises (F.faults folder.old) (F.faults folder.new)) ⊥ (Rises (K.faults out.old) (K.faults out.new)) ⊥ }
+    ensures later { (F.faults folder.old ≤ F.faults folder.new) × (K.faults out.old ≤ K.faults out.new) }
+
+    // The folder decides the status, but for failures and want of memory.
+    ensures answer { ForSome (F.told folder.old).files (AnswersFor result) }
+
+    // What is printed of what the folder holds, and of a damage.
+    ensures printed { ShowsTotals result (bounds_of limits) (F.told folder.old).files (K.written out.old) (K.written out.new) }
+    ensures damage { result ≡ Status.Damaged → ShowsDamage (F.told folder.old) (F.told folder.new) (K.written out.old) (K.written out.new) (K.faults out.old) (K.faults out.new) }
+
+    // In the end the same is found, and the folder is sound.
+    ensures ended { (result ≡ Status.Ok) ⊎ (result ≡ Status.Sink) → ForSome (F.told folder.old).files (λ start. ForSome (F.told folder.new).files (EndsSame start)) }
+
+    // An unfinished folder is made at the next reading of the clock, and keeps that moment.
+    ensures made { (result ≡ Status.Ok) ⊎ (result ≡ Status.Sink) → ForSome (F.told folder.old).files (λ start. IsUnfinished start → ForSome (F.told folder.new).files (IsMadeAtNext (C.readings clock.old))) }
+
+    // At each word the same is found, and the folder is unfinished or well formed where it was.
+    ensures stops { ForSome (F.told folder.old).files (λ start. Passes (F.told folder.old) (F.told folder.new) (HoldsStill start)) }
+
+    // No step is made without memory, and where a folder that tells its files is damaged.
+    ensures stays { result ≡ Status.Memory → Stays (F.told folder.old) (F.told folder.new) }
+    ensures unwritten { result ≡ Status.Damaged → ForSome (F.told folder.old).files (λ _. Stays (F.told folder.old) (F.told folder.new)) }
+    ensures silent { (F.told folder.old).files ≡ None → (F.told folder.new).files ≡ None }
+
+    // The clock is read once.
+    ensures clock { C.readings clock.new ≡ option_map later_of (C.readings clock.old) }
+
+    // Nothing is refused.
+    ensures never { result ≢ Status.Refused }
+{
+    match Cache::start(alloc, folder, limits, clock.now()) {
+        Ok(cache) => count(cache, folder, out),
+        Err(OpenFault::Device) => Status::Device,
+        Err(OpenFault::Memory) => Status::Memory,
+        Err(OpenFault::Damaged(damage)) => {
+            let _ = print_damage(out, damage);
+            Status::Damaged
+        }
+    }
+}
+
+// Prints the items and bytes of a cache, and ends its session.
+fn count<F: Folder, K: Sink>(cache: Cache, folder: &mut F, out: &mut K) -> Status
+    requires free { AreAllFree cache.handles }
+    requires is_open { ForSome (F.told folder.old).files (IsOpen cache.files) }
+    ensures runs { (from : Image) (limits : Bounds) (readings : Readings) (left : Option (List ℕ)) (start : Told) (first next : Option Readings) → start.files ≡ Some from → first ≡ Some readings → next ≡ option_map later_of first → StandsAt (record { start = start; from = from; opened = open_state (found from) limits; done = [] }) (KeepsState cache) cache.notes (2 * handle_names) (F.told folder.old) → FixedRuns result count_script limits from readings (Rises (K.faults out.old) (K.faults out.new)) (record { folder = start; written = K.written out.old; left = left; clock = first }) (record { folder = F.told folder.new; written = K.written out.new; left = left; clock = next }) }
+    ensures answers { (result ≡ Status.Ok) ⊎ ((result ≡ Status.Sink) ⊎ (result ≡ Status.Device)) }
+    ensures printed { PrintsAt result (totals_line cache.items cache.bytes) (K.written out.old) (K.written out.new) }
+    ensures ended { (result ≡ Status.Ok) ⊎ (result ≡ Status.Sink) → ForSome (F.told folder.old).files (λ from. (state : State) → KeepsState cache state from → ForSome (F.told folder.new).files EndsSession) }
+    ensures session { (result ≡ Status.Ok) ⊎ (result ≡ Status.Sink) → ForSome (F.told folder.old).files (λ from. ForSome (F.told folder.new).files (λ image. this_id_of (byte image index) ≡ this_id_of (byte from index))) }
+    ensures made { (result ≡ Status.Ok) ⊎ (result ≡ Status.Sink) → ForSome (F.told folder.old).files (λ from. ForSome (F.told folder.new).files (WasMadeAt (create_time_of (byte from index)))) }
+    ensures stops { ForSome (F.told folder.old).files (λ from. (state : State) → KeepsState cache state from → Passes (F.told folder.old) (F.told folder.new) (HoldsStill from)) }
+    ensures silent { (F.told folder.old).files ≡ None → (F.told folder.new).files ≡ None }
+    ensures later { F.faults folder.old ≤ F.faults folder.new }
+    ensures sink_later { K.faults out.old ≤ K.faults out.new }
+    ensures device { result ≡ Status.Device → Rises (F.faults folder.old) (F.faults folder.new) }
+    ensures sink { result ≡ Status.Sink → Rises (K.faults out.old) (K.faults out.new) }
+{
+    let printed = show_totals(&cache, out);
+    match (cache.finish(folder), printed) {
+        (Err(_), _) => Status::Device,
+        (Ok(()), Err(_)) => Status::Sink,
+        (Ok(()), Ok(())) => Status::Ok,
+    }
+}
+
+// Prints the line of the totals of a cache.
+pub(crate) fn show_totals<K: Sink>(cache: &Cache, out: &mut K) -> Result<(), StepFault>
+    ensures printed { OnOk result (K.written out.new ≡ option_map (λ w. w ++ totals_line cache.now.items cache.now.bytes) (K.written out.old)) }
+    ensures front { Appends (K.written out.old) (K.written out.new) (totals_line cache.now.items cache.now.bytes) }
+    ensures only { IsOnlySink result }
+    ensures later { K.faults out.old ≤ K.faults out.new }
+    ensures sink { IfSink result (Rises (K.faults out.old) (K.faults out.new)) }
+{
+    let (items, bytes) = cache.totals();
+    match print_totals(out, items, bytes) {
+        Ok(()) => Ok(()),
+        Err(_) => Err(StepFault::Sink),
+    }
+}
