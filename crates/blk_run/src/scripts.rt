@@ -1,7 +1,8 @@
 // Scripts that aren't read from the input: one list of commands, or that of `put`.
-ghost use Rattle.std.specs.Prelude.{◌≡◌, ◌≢◌, ◌≤◌, ◌+◌, ◌*◌, List, [], ℕ, All, length, map, None, Option, Some, true};
+ghost use Rattle.std.specs.Prelude.{◌≡◌, ◌≢◌, ◌≤◌, ◌+◌, ◌*◌, List, [], ℕ, None, Option, Some};
 ghost use Rattle.std.specs.Option.{ForSome, option_map};
 ghost use Rattle.blk_image.specs.Image.{Image};
+ghost use Rattle.blk_image.specs.Checks.{Damage as check_damage};
 ghost use Rattle.blk_image.specs.Told.{Rises, Told};
 ghost use Rattle.blk_io.specs.Streams.{Readings, later_of};
 ghost use Rattle.blk_model.specs.Bounds.{bounds_of};
@@ -14,7 +15,8 @@ ghost use Rattle.blk_headline.specs.Run.{turns};
 ghost use Rattle.blk_cache.specs.Stepping.{IfDone, IfSink, IfStepDevice};
 ghost use Rattle.blk_run.specs.Playing.{PlaysPart, SoFar, StandsAt};
 ghost use Rattle.blk_run.specs.Scripts.{AreBuilt, commands_in, script_of, script_status, closes_script};
-ghost use Rattle.blk_run.specs.Session.{FixedRuns, FixedScript};
+ghost use Rattle.blk_run.specs.Session.{FixedRuns, FixedScript, IsCompleteScript, IsDamagedBy, OnDamage};
+ghost use Rattle.blk_run.specs.Statuses.{CauseOf};
 ghost use Rattle.blk_disk.specs.Open.{IsOpen};
 ghost use Rattle.blk_cache.specs.CacheKeeping.{KeepsState};
 
@@ -98,9 +100,8 @@ pub(crate) fn play_script<F: Folder, K: Sink, C: Clock>(
     requires built { AreBuilt fixed }
     ensures runs { (from : Image) (limits : Bounds) (readings : Readings) (left : Option (List ℕ)) (start : Told) (first : Option Readings) → start.files ≡ Some from → first ≡ Some readings → C.readings clock.old ≡ option_map later_of first → StandsAt (record { start = start; from = from; opened = open_state (found from) limits; done = [] }) (KeepsState cache) cache.notes (2 * handle_names + 2 * commands_in fixed.entry) (F.told folder.old) → FixedRuns result (script_of fixed.entry) limits from readings (Rises (K.faults out.old) (K.faults out.new)) (record { folder = start; written = K.written out.old; left = left; clock = first }) (record { folder = F.told folder.new; written = K.written out.new; left = left; clock = C.readings clock.new }) }
     ensures later { (F.faults folder.old ≤ F.faults folder.new) × (K.faults out.old ≤ K.faults out.new) }
-    ensures device { result ≡ Status.Device → Rises (F.faults folder.old) (F.faults folder.new) }
-    ensures sink { result ≡ Status.Sink → Rises (K.faults out.old) (K.faults out.new) }
-    ensures never { (result ≢ Status.Words) × ((result ≢ Status.Source) × ((result ≢ Status.Memory) × (result ≢ Status.TooLong))) }
+    ensures untold { (far : SoFar) → StandsAt far (KeepsState cache) cache.notes (2 * handle_names + 2 * commands_in fixed.entry) (F.told folder.old) → result ≢ Status.Damaged }
+    ensures cause { CauseOf result None (Rises (F.faults folder.old) (F.faults folder.new)) ⊥ (Rises (K.faults out.old) (K.faults out.new)) ⊥ }
 {
     let mut refused = false;
     let played = play_turns(&mut cache, &mut refused, fixed, out, folder, clock);
@@ -128,10 +129,16 @@ pub(crate) fn run_script<F: Folder, K: Sink, C: Clock>(
     requires few { commands_in fixed ≤ 4 }
     // On a folder that is unfinished or well formed it is the run of the script on the map model.
     ensures script { ForSome (F.told folder.old).files (λ from. IsUsable from → ForSome (C.readings clock.old) (λ readings. (left : Option (List ℕ)) → FixedScript result (script_of fixed.entry) (bounds_of limits) from readings (Rises (K.faults out.old) (K.faults out.new)) (record { folder = F.told folder.old; written = K.written out.old; left = left; clock = C.readings clock.old }) (record { folder = F.told folder.new; written = K.written out.new; left = left; clock = C.readings clock.new }))) }
+
+    // Where nothing fails the whole output is printed, unless memory is wanting.
+    ensures complete { ForSome (F.told folder.old).files (λ from. IsUsable from → ForSome (C.readings clock.old) (λ readings. (left : Option (List ℕ)) → (Rises (F.faults folder.old) (F.faults folder.new) → ⊥) → (Rises (K.faults out.old) (K.faults out.new) → ⊥) → IsCompleteScript result (script_of fixed.entry) (bounds_of limits) from readings (record { folder = F.told folder.old; written = K.written out.old; left = left; clock = C.readings clock.old }) (record { folder = F.told folder.new; written = K.written out.new; left = left; clock = C.readings clock.new }))) }
+
+    // On a finished folder of which a check fails that is printed, and no more is done.
+    ensures damage { ForSome (F.told folder.old).files (λ from. (damage : check_damage) → IsDamagedBy damage from → (left : Option (List ℕ)) → OnDamage result damage (K.faults out.old) (K.faults out.new) (record { folder = F.told folder.old; written = K.written out.old; left = left; clock = C.readings clock.old }) (record { folder = F.told folder.new; written = K.written out.new; left = left; clock = C.readings clock.new })) }
+
+    // The cause of each status, on every folder.
+    ensures cause { CauseOf result (F.told folder.old).files (Rises (F.faults folder.old) (F.faults folder.new)) ⊥ (Rises (K.faults out.old) (K.faults out.new)) ⊥ }
     ensures later { (F.faults folder.old ≤ F.faults folder.new) × (K.faults out.old ≤ K.faults out.new) }
-    ensures device { result ≡ Status.Device → Rises (F.faults folder.old) (F.faults folder.new) }
-    ensures sink { result ≡ Status.Sink → Rises (K.faults out.old) (K.faults out.new) }
-    ensures never { (result ≢ Status.Words) × ((result ≢ Status.Source) × (result ≢ Status.TooLong)) }
 {
     match Cache::start(alloc, folder, limits, clock.now()) {
         Ok(cache) => play_script(cache, fixed, out, folder, clock),

@@ -1,6 +1,8 @@
 use Rattle.blk_cache.specs.CacheKeeping.{KeepsState}
 use Rattle.std.proofs.Common.{◌≡◌, ◌*◌, [], Err, refl, sym, ◌∙◌, subst}
+use Rattle.std.specs.Option.{ForSome}
 use Rattle.blk_image.specs.Told.{Rises}
+use Rattle.blk_disk.specs.Open.{IsOpen}
 use Rattle.blk_model.specs.Holding.{open_state}
 use Rattle.blk_model.specs.Sizes.{handle_names}
 use Rattle.blk_volume.specs.Found.{found}
@@ -9,7 +11,10 @@ use Rattle.blk_io.specs.declared.fault.Fault.{Fault}
 use Rattle.blk_run.specs.Ending.{EndsRun}
 use Rattle.blk_run.specs.Scripts.{script_of}
 use Rattle.blk_run.specs.Session.{FixedRuns}
+use Rattle.blk_run.proofs.ScriptCauses.{done_open, of_none, rises_until, script_cause, script_kept, script_undamaged_status}
 use Rattle.blk_run.proofs.ScriptEnds.{script_closed, script_stopped, script_unclosed, script_undamaged}
+use Rattle.blk_run.proofs.SessionEnds.{end_undamaged}
+use Rattle.blk_run.specs.Count.{IsDamaged}
 use Rattle.blk_run.proofs.scripts.play_script.Goals as goal
 
 pub returns-then-not-closes_script-clause-runs : goal.returns-then-not-closes_script-clause-runs
@@ -29,3 +34,32 @@ returns-in-Err-Device-clause-runs g c from limits readings left start first ther
 pub returns-in-Err-Damaged-clause-runs : goal.returns-in-Err-Damaged-clause-runs
 returns-in-Err-Damaged-clause-runs g c from limits readings left start first there is read at =
     absurd (script_undamaged (script_of c.args.fixed) from limits readings (record { folder = start; written = g.K.Sink.written c.args.out.now; left = left; clock = first }) there is (g.C.Clock.readings c.args.clock.now) read (Rises (g.K.Sink.faults c.args.out.now) (g.K.Sink.faults c.play_turns-played.new.out)) (KeepsState c.play_turns-played.new.cache) (c.play_turns-played.new.cache.notes) (g.F.Folder.told c.args.folder.now) (record { folder = g.F.Folder.told c.end.new.folder; written = g.K.Sink.written c.play_turns-played.new.out; left = left; clock = g.C.Clock.readings c.end.new.clock }) (record { folder = g.F.Folder.told c.play_turns-played.new.folder; written = g.K.Sink.written c.play_turns-played.new.out; clock = g.C.Clock.readings c.play_turns-played.new.clock; refused = c.play_turns-played.new.refused }) refl c.in-Err-Damaged.field-0-0 (λ next stands. subst (λ (w : Fault). EndsRun (Err w) next (g.F.Folder.told c.end.new.folder) (g.C.Clock.readings c.play_turns-played.new.clock) (g.C.Clock.readings c.end.new.clock)) c.in-Err-Damaged.field-0-is (c.in-Err-Damaged.ensures.ends next 0 stands)) c.play_turns-played.result (sym c.closes_script.ensures ∙ c.if-not-closes_script.false) (c.play_turns-played.ensures.played (record { start = start; from = from; opened = open_state (found from) limits; done = [] }) (2 * handle_names) at))
+
+pub returns-then-not-closes_script-clause-cause : goal.returns-then-not-closes_script-clause-cause
+returns-then-not-closes_script-clause-cause g c = script_cause c.script_status-status.result c.play_turns-played.result c.play_turns-played.new.refused _ _ _ c.script_status-status.ensures (λ d. d) c.play_turns-played.ensures.device c.play_turns-played.ensures.sink
+
+pub returns-in-Ok-clause-cause : goal.returns-in-Ok-clause-cause
+returns-in-Ok-clause-cause g c =
+    script_cause c.script_status-status.result c.play_turns-played.result c.play_turns-played.new.refused _ _ _ c.script_status-status.ensures
+    (rises_until (g.F.Folder.faults c.args.folder.now) (g.F.Folder.faults c.play_turns-played.new.folder) (g.F.Folder.faults c.end.new.folder) c.end.ensures.later) c.play_turns-played.ensures.device c.play_turns-played.ensures.sink
+
+pub returns-in-Err-Damaged-clause-cause : goal.returns-in-Err-Damaged-clause-cause
+returns-in-Err-Damaged-clause-cause g c = of_none IsDamaged
+
+pub returns-then-not-closes_script-clause-untold : goal.returns-then-not-closes_script-clause-untold
+returns-then-not-closes_script-clause-untold g c far at damaged =
+    script_undamaged_status c.play_turns-played.result c.play_turns-played.new.refused c.script_status-status.result _ far (KeepsState c.play_turns-played.new.cache) (c.play_turns-played.new.cache.notes) (2 * handle_names) _ _ c.script_status-status.ensures (c.play_turns-played.ensures.played far (2 * handle_names) at) damaged
+
+pub returns-in-Ok-clause-untold : goal.returns-in-Ok-clause-untold
+returns-in-Ok-clause-untold g c far at damaged =
+    script_undamaged_status c.play_turns-played.result c.play_turns-played.new.refused c.script_status-status.result _ far (KeepsState c.play_turns-played.new.cache) (c.play_turns-played.new.cache.notes) (2 * handle_names) _ _ c.script_status-status.ensures (c.play_turns-played.ensures.played far (2 * handle_names) at) damaged
+
+pub returns-in-Err-Damaged-clause-untold : goal.returns-in-Err-Damaged-clause-untold
+returns-in-Err-Damaged-clause-untold g c far at damaged =
+    let kept = script_kept c.play_turns-played.result _ far (KeepsState c.play_turns-played.new.cache) (c.play_turns-played.new.cache.notes) (2 * handle_names) _ _ (sym c.closes_script.ensures ∙ c.if-not-closes_script.false) (c.play_turns-played.ensures.played far (2 * handle_names) at) in
+    end_undamaged c.in-Err-Damaged.field-0 c.in-Err-Damaged.field-0-0 kept.0 _ _ _ c.in-Err-Damaged.field-0-is (c.in-Err-Damaged.ensures.ends kept.0 0 kept.1)
+
+pub end-requires : goal.end-requires
+end-requires g c = record {
+  is_open = done_open c.play_turns-played.result (ForSome (g.F.Folder.told c.play_turns-played.new.folder).files (IsOpen c.play_turns-played.new.cache.files)) (sym c.closes_script.ensures ∙ c.if-not-closes_script.false) c.play_turns-played.ensures.is_open;
+}

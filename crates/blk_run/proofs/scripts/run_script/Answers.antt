@@ -1,6 +1,6 @@
 use Rattle.blk_cache.specs.CacheKeeping.{KeepsState}
 use Rattle.blk_cache.proofs.Ends.{kept-open}
-use Rattle.std.proofs.Common.{◌≡◌, ◌≤◌, ◌<◌, ◌+◌, ◌*◌, ◌^◌, ◌⊎◌, inr, refl, arith}
+use Rattle.std.proofs.Common.{◌≡◌, ◌≤◌, ◌<◌, ◌+◌, ◌*◌, ◌^◌, ◌⊎◌, inr, List, [], Option, None, Some, refl, arith}
 use Rattle.blk_model.specs.Bounds.{bounds_of}
 use Rattle.blk_model.specs.Holding.{open_state}
 use Rattle.blk_model.specs.Sizes.{handle_names}
@@ -10,7 +10,8 @@ use Rattle.blk_run.specs.Scripts.{commands_in, script_of}
 use Rattle.blk_run.proofs.Assembling.{exit_unopened}
 use Rattle.blk_run.proofs.HeadlineBridge.{cache_stands, held_still}
 use Rattle.blk_run.proofs.ScriptEnds.{script_of_runs}
-use Rattle.blk_run.proofs.SessionEnds.{begins_at, opened_at}
+use Rattle.blk_run.proofs.Completeness.{complete_script}
+use Rattle.blk_run.proofs.SessionEnds.{begins_at, cause_since, device_cause, first_of, opened_at, rises_since, sink_cause}
 use Rattle.blk_run.proofs.scripts.run_script.Goals as goal
 
 pub play_script-requires-clause-is_open : goal.play_script-requires-clause-is_open
@@ -30,3 +31,22 @@ pub returns-in-Err-Device-clause-script : goal.returns-in-Err-Device-clause-scri
 returns-in-Err-Device-clause-script g c from there usable readings clock left =
     inr (exit_unopened from (bounds_of c.args.limits) readings (record { folder = g.F.Folder.told c.args.folder.now; written = g.K.Sink.written c.args.out.now; left = left; clock = g.C.Clock.readings c.args.clock.now }) there clock
     _ held_still (record { folder = g.F.Folder.told c.start.new.f; written = g.K.Sink.written c.args.out.now; left = left; clock = g.C.Clock.readings c.now.new.self }) usable (found-holding from (g.met.F.Folder.are_bytes c.args.folder.now from there)) (c.start.ensures.stops from there) refl refl)
+
+pub returns-in-Ok-clause-cause : goal.returns-in-Ok-clause-cause
+returns-in-Ok-clause-cause g c =
+    let few = c.requires.few in
+    cause_since c.play_script.result (g.F.Folder.told c.args.folder.now).files _ _ ⊥ _ ⊥ (rises_since (g.F.Folder.faults c.args.folder.now) (g.F.Folder.faults c.start.new.f) (g.F.Folder.faults c.play_script.new.folder) c.start.ensures.later)
+    (λ damaged from there. absurd (c.play_script.ensures.untold _
+    (begins_at from (bounds_of c.args.limits) (record { ahead = []; last = 0 }) (record { folder = g.F.Folder.told c.args.folder.now; written = None; left = None; clock = Some (record { ahead = []; last = 0 }) }) there refl
+    (KeepsState c.in-Ok.cache) (cache_stands c.in-Ok.cache) (g.F.Folder.told c.start.new.f) c.in-Ok.cache.notes (2 * handle_names + 2 * commands_in c.args.fixed) (c.in-Ok.ensures.checked from there) (c.start.ensures.stops from there) (c.in-Ok.ensures.last from there) (c.in-Ok.ensures.keeps from there) c.in-Ok.ensures.notes (omega (arith, few)))
+    damaged)) c.play_script.ensures.cause
+
+pub returns-in-Err-Damaged-clause-cause : goal.returns-in-Err-Damaged-clause-cause
+returns-in-Err-Damaged-clause-cause g c = first_of (Unit {0}) c.in-Err-Damaged.field-0 c.in-Err-Damaged.damage (g.F.Folder.told c.args.folder.now).files c.in-Err-Damaged.field-0-is c.in-Err-Damaged.ensures.first
+
+pub returns-in-Ok-clause-complete : goal.returns-in-Ok-clause-complete
+returns-in-Ok-clause-complete g c from there usable readings clock left no_device no_sink =
+    let cause = returns-in-Ok-clause-cause g c in
+    complete_script (script_of c.args.fixed) (bounds_of c.args.limits) from readings _ _ _ _ no_device no_sink c.play_script.result
+    (device_cause c.play_script.result (g.F.Folder.told c.args.folder.now).files _ ⊥ _ ⊥ cause) (sink_cause c.play_script.result (g.F.Folder.told c.args.folder.now).files _ ⊥ _ ⊥ cause)
+    (returns-in-Ok-clause-script g c from there usable readings clock left)
