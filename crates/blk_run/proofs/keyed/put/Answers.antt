@@ -1,0 +1,22 @@
+use Rattle.std.proofs.Common.{◌≡◌, ◌≤◌, ◌∙◌, ℕ, List, Option, length, take, ap, sym, refl}
+use Rattle.percent_encoding.specs.Percent.{percent_decode}
+use Rattle.blk_image.specs.Told.{Rises}
+use Rattle.blk_model.specs.Bounds.{bounds_of}
+use Rattle.blk_headline.specs.Script.{doom_script, get_script, put_script}
+use Rattle.blk_run.proofs.Performing.{put_performs, read_whole, same_key}
+use Rattle.blk_run.proofs.keyed.put.Goals as goal
+
+pub returns-in-Ok-read_input-clause-performs : goal.returns-in-Ok-read_input-clause-performs
+returns-in-Ok-read_input-clause-performs g c =
+    let key = same_key (c.in-Ok-decode_key.ensures ∙ c.requires.spelled) in
+    put_performs c.run_script.result (bounds_of c.args.limits) _ _ _ _
+    (record { folder = g.F.Folder.told c.args.folder.now; written = g.K.Sink.written c.args.out.now; left = g.S.Source.left c.args.input.now; clock = g.C.Clock.readings c.args.clock.now })
+    (record { folder = g.F.Folder.told c.run_script.new.folder; written = g.K.Sink.written c.run_script.new.out; left = g.S.Source.left c.read_input.new.input; clock = g.C.Clock.readings c.run_script.new.clock })
+    (put_script (percent_decode c.args.key.now) c.args.stream) (take c.in-Ok-read_input.len c.read_input.new.room) _ (ap (λ (k : List ℕ). put_script k c.args.stream (take c.in-Ok-read_input.len c.read_input.new.room)) key)
+    (read_whole c.in-Ok-read_input.len c.read_input.new.room _ _ c.in-Ok-read_input.ensures.reads.1)
+    (record {
+      plays = λ from there usable readings clock. c.run_script.ensures.script from there usable readings clock (g.S.Source.left c.read_input.new.input);
+      complete = λ from there usable readings clock no_device no_sink. c.run_script.ensures.complete from there usable readings clock (g.S.Source.left c.read_input.new.input) no_device no_sink;
+      damage = λ from there damage is. c.run_script.ensures.damage from there damage is (g.S.Source.left c.read_input.new.input);
+      cause = c.run_script.ensures.cause;
+    })

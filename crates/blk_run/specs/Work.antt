@@ -1,0 +1,100 @@
+-- What the program does for its words, by its status.
+use Rattle.std.specs.Prelude.{ℕ, ◌≡◌, ◌+◌, ◌<◌, ◌≤◌, ◌^◌, List, length}
+use Rattle.std.specs.Option.{ForSome}
+use Rattle.std.specs.declared.option.Option.{Option}
+use Rattle.std.specs.declared.option.Option.TheVariants.{None, Some}
+use Rattle.blk_image.specs.Checks.{Damage}
+use Rattle.blk_image.specs.Image.{Image}
+use Rattle.blk_image.specs.Told.{Rises}
+use Rattle.blk_io.specs.Streams.{Readings}
+use Rattle.blk_model.specs.State.{Bounds}
+use Rattle.blk_headline.specs.Opening.{IsUsable}
+use Rattle.blk_headline.specs.Script.{Script, count_script, doom_script, get_script, list_script, put_script, trim_script}
+use Rattle.blk_words.specs.Tasks.{Task, do_count, do_doom, do_get, do_list, do_put, do_session, do_trim}
+use Rattle.blk_words.specs.Words.{Invocation}
+use Rattle.blk_run.specs.declared.ending.Status.{Status}
+use Rattle.blk_run.specs.declared.ending.Status.TheVariants as status
+use Rattle.blk_run.specs.Inputs.{IsReadWhole, IsTakenUpTo}
+use Rattle.blk_run.specs.Session.{FixedScript, IsComplete, IsCompleteScript, IsDamagedBy, LeavesUnput, OnDamage, Outside, Put, Session}
+use Rattle.blk_run.specs.Statuses.{CauseOf}
+use Rattle.blk_run.specs.WholeInputs.{longest_input}
+
+-- a session of the program uses so many bytes of its input
+abbrev pub budget : ℕ
+budget = 2 ^ 40
+
+-- what is played for a task: the lines of the input; a script of the whole input, which is read before the opening; or a script that leaves the input unread
+pub data Work : Type 0 where
+  input_lines : Work
+  whole_input : (List ℕ → Script) → Work
+  no_input : Script → Work
+
+-- what each task plays
+abbrev pub work_of : Task → Work
+work_of do_session = input_lines
+work_of do_count = no_input count_script
+work_of do_list = no_input list_script
+work_of (do_get key stream) = no_input (get_script key stream)
+work_of (do_put key stream) = whole_input (put_script key stream)
+work_of (do_doom key) = no_input (doom_script key)
+work_of (do_trim bytes) = no_input (trim_script bytes)
+
+-- the work by its status, where it began with an image that is unfinished or well formed
+abbrev pub Plays : Work → Status → Bounds → Image → Readings → (source sink : Type 0) → Outside → Outside → Type 0
+Plays input_lines result limits from readings source sink old new = ForSome old.left (λ input. Session result limits budget from readings input source sink old new)
+Plays (whole_input script) result limits from readings source sink old new = ForSome old.left (λ input. Put result script limits from readings input sink old new)
+Plays (no_input script) result limits from readings source sink old new = FixedScript result script limits from readings sink old new
+
+-- where nothing failed and the input is as long as it may be: the whole output was printed, or there was no memory
+abbrev pub Completes : Work → Status → Bounds → Image → Readings → Outside → Outside → Type 0
+Completes input_lines result limits from readings old new = ForSome old.left (λ input. length input ≤ budget → IsComplete result limits from readings input old new)
+Completes (whole_input script) result limits from readings old new = ForSome old.left (λ input. length input ≤ longest_input → IsCompleteScript result (script input) limits from readings (record old { left = new.left }) new)
+Completes (no_input script) result limits from readings old new = IsCompleteScript result script limits from readings old new
+
+-- a script of the whole input on a folder of which a check fails: the input wasn't read whole, or there was no memory, and no more was done; or it was
+abbrev pub ReadsOnDamage : Status → Damage → (before now : ℕ) → Outside → Outside → Type 0
+ReadsOnDamage status.Source damage before now old new = LeavesUnput old new
+ReadsOnDamage status.TooLong damage before now old new = ForSome old.left (λ input. longest_input < length input) × LeavesUnput old new
+ReadsOnDamage status.Memory damage before now old new = LeavesUnput old new
+ReadsOnDamage result damage before now old new = ForSome old.left (λ input. IsReadWhole longest_input input new.left) × OnDamage result damage before now (record old { left = new.left }) new
+
+-- the work on a folder of which a check fails
+abbrev pub MeetsDamage : Work → Status → Damage → (before now : ℕ) → Outside → Outside → Type 0
+MeetsDamage input_lines result damage before now old new = OnDamage result damage before now old new
+MeetsDamage (whole_input script) result damage before now old new = ReadsOnDamage result damage before now old new
+MeetsDamage (no_input script) result damage before now old new = OnDamage result damage before now old new
+
+-- the input is longer than it may be
+abbrev pub IsTooLong : Work → Option (List ℕ) → Type 0
+IsTooLong input_lines left = ForSome left (λ input. budget < length input)
+IsTooLong (whole_input script) left = ForSome left (λ input. longest_input < length input)
+IsTooLong (no_input script) left = ⊥
+
+-- how much of the input is taken: of lines no more than the budget and one byte
+abbrev pub Takes : Work → (old new : Option (List ℕ)) → Type 0
+Takes input_lines old new = ForSome old (IsTakenUpTo (budget + 1) new)
+Takes (whole_input script) old new = Unit {0}
+Takes (no_input script) old new = new ≡ old
+
+-- the work was done; device and source say that the count of each rose, before and now are the sink's counts of faults
+pub record Performs (work : Work) (result : Status) (limits : Bounds) (device source : Type 0) (before now : ℕ) (old new : Outside) : Type 0 where
+  -- on a folder that is unfinished or well formed it is the run on the map model
+  pub plays : ForSome old.folder.files (λ from. IsUsable from → ForSome old.clock (λ readings. Plays work result limits from readings source (Rises before now) old new))
+  -- where nothing fails the whole output is printed, unless memory is wanting
+  pub complete : ForSome old.folder.files (λ from. IsUsable from → ForSome old.clock (λ readings. (device → ⊥) → (source → ⊥) → (Rises before now → ⊥) → Completes work result limits from readings old new))
+  -- on a finished folder of which a check fails that is printed, and no more is done
+  pub damage : ForSome old.folder.files (λ from. (damage : Damage) → IsDamagedBy damage from → MeetsDamage work result damage before now old new)
+  -- the cause of each status, on every folder
+  pub cause : CauseOf result old.folder.files device source (Rises before now) (IsTooLong work old.left)
+  pub takes : Takes work old.left new.left
+
+-- the work leaves the input unread
+abbrev pub IsUnread : Work → Type 0
+IsUnread input_lines = ⊥
+IsUnread (whole_input script) = ⊥
+IsUnread (no_input script) = Unit {0}
+
+-- what the words ask for does, if they ask for something
+abbrev pub LeavesInput : Option Invocation → Type 0
+LeavesInput None = Unit {0}
+LeavesInput (Some asked) = IsUnread (work_of asked.task)
