@@ -43,7 +43,7 @@ answers 'a folder with a file of another name' "$room/others" "0 $empty_line"
 is 'that file stays' kept "$(cat "$room/others/readme")"
 
 answers 'a folder that is not there' "$room/nowhere" '3 '
-run "$room/nowhere" session
+run "$room/nowhere" verify
 is 'it goes before words that are not built' '3 ' "$status $said$complained"
 printf x >"$room/file"
 answers 'a file in place of the folder' "$room/file" '3 '

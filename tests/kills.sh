@@ -1,0 +1,87 @@
+# A session is killed at some moment, and the folder is opened again: each entry whose last Close was answered, and that no later
+# line touched, is there with its bytes. The moments are drawn anew in each run; the seed is told where something fails.
+. "$(dirname "${BASH_SOURCE[0]}")/common.sh"
+
+seed=${KILLS_SEED:-$RANDOM$RANDOM}
+RANDOM=$((seed % 32768))
+entries=40
+rounds=60
+
+# The bytes that a round writes to an entry, as data: short ones, and some that have a file of their own.
+data_of() {
+    local round=$1 entry=$2 text=
+    printf -v text '%08x' $((round * 1000 + entry))
+    local count=$(((round * 7 + entry * 13) % 40 + 1))
+    [ $(((round + entry) % 9)) != 0 ] || count=4500
+    printf -v text "%${count}s" "$text"
+    echo "${text// /$(printf '%02x' $((round % 256)))}"
+}
+
+# The lines of the session: in each round each entry is opened, written anew and closed.
+declare -a data
+for ((round = 0; round < rounds; round++)); do
+    for ((entry = 0; entry < entries; entry++)); do
+        it=$(data_of "$round" "$entry")
+        data+=("$it")
+        [ "$round" = 0 ] && word=create || word=open
+        printf '%s 0 key/%d\ncut 0 0 0 %s\nclose 0\n' "$word" "$entry" "$it"
+    done
+done >"$room/lines"
+
+# Kills a session after a while, and asks for what has to be there.
+killed() {
+    local folder=$room/killed-$1 pause answered visits visit entry
+    mkdir "$folder"
+    printf -v pause '%d.%03d' $((RANDOM % 3)) $((RANDOM % 1000))
+    "$program" "$folder" session <"$room/lines" >"$room/replies" 2>"$room/complained" &
+    local session=$!
+    sleep "$pause"
+    kill -9 "$session" 2>/dev/null
+    wait "$session" 2>/dev/null
+    # Only whole lines count: the last may have been cut.
+    answered=$(tr -cd '\n' <"$room/replies" | wc -c)
+    visits=$((answered / 3))
+    told="$1, after $pause s and $answered replies (KILLS_SEED=$seed)"
+    is "every reply is one of success, $told" 0 "$(head -n "$answered" "$room/replies" | grep -cv '^ok')"
+    # The entry of the visit that was not answered whole may have been touched.
+    : >"$room/input"
+    : >"$room/wanted"
+    for ((entry = 0; entry < entries; entry++)); do
+        [ "$entry" != $((visits % entries)) ] || continue
+        [ "$visits" -gt "$entry" ] || continue
+        visit=$(((visits - 1 - entry) / entries))
+        it=${data[visit * entries + entry]}
+        printf 'open 0 key/%d\nread 0 0 0 100000\nclose 0\n' "$entry" >>"$room/input"
+        printf 'ok\ndata %d %s\nok\n' $((${#it} / 2)) "$it" >>"$room/wanted"
+    done
+    run "$folder" session
+    is "what was closed is there, $told" "0 $(cat "$room/wanted")" "$status $said$complained"
+    : >"$room/input"
+    run "$folder" list
+    is "the folder is listed, $told" 0 "$status$complained"
+    rm -rf "$folder"
+}
+for ((number = 0; number < 12; number++)); do
+    killed "$number"
+done
+
+# Stops in a row: the same folder is killed again and again, and what was closed in the first session stays.
+folder=$room/row
+mkdir "$folder"
+printf '%s\n' 'create 0 stays' 'write 0 0 0 616263' 'write 0 1 0 646566' 'close 0' >"$room/input"
+run "$folder" session
+is 'an entry is made' $'0 ok\nok 3\nok 3\nok' "$status $said"
+for ((number = 0; number < 6; number++)); do
+    sed "s,key/,$number/," "$room/lines" >"$room/input"
+    "$program" "$folder" session <"$room/input" >"$room/replies" 2>/dev/null &
+    session=$!
+    sleep "0.$((RANDOM % 900 + 100))"
+    kill -9 "$session" 2>/dev/null
+    wait "$session" 2>/dev/null
+done
+: >"$room/input"
+run "$folder" get stays 0
+is "it stays through six stops (KILLS_SEED=$seed)" $'0 ok\ndata 3 616263\nok' "$status $said"
+run "$folder" get stays 1
+is "both its streams stay (KILLS_SEED=$seed)" $'0 ok\ndata 3 646566\nok' "$status $said"
+finish
