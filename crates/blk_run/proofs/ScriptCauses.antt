@@ -9,7 +9,7 @@ use Rattle.blk_model.specs.State.{State}
 use Rattle.blk_headline.specs.Run.{Turn}
 use Rattle.blk_cache.specs.declared.fault.StepFault.{StepFault}
 use Rattle.blk_cache.specs.declared.fault.StepFault.TheVariants as step_fault
-use Rattle.blk_cache.specs.Stepping.{IfSink, IfStepDevice}
+use Rattle.blk_cache.specs.Stepping.{IfDone, IfSink, IfStepDevice}
 use Rattle.blk_run.specs.declared.ending.Status.{Status}
 use Rattle.blk_run.specs.declared.ending.Status.TheVariants as status
 use Rattle.blk_run.specs.Playing.{Around, PlaysPart, SoFar, StandsAt}
@@ -83,3 +83,10 @@ pub count_cause : (s : Status) (files : Option Image) (device sink : Type 0) →
 count_cause s files device sink (inl is) on_device on_sink = subst (λ (x : Status). CauseOf x files device ⊥ sink ⊥) (sym is) tt
 count_cause s files device sink (inr (inl is)) on_device on_sink = subst (λ (x : Status). CauseOf x files device ⊥ sink ⊥) (sym is) (on_sink is)
 count_cause s files device sink (inr (inr is)) on_device on_sink = subst (λ (x : Status). CauseOf x files device ⊥ sink ⊥) (sym is) (on_device is)
+
+-- where what is open may be closed, the script was done
+pub done_open : (r : Result (Unit {0}) StepFault) (P : Type 0) → closes_script r ≡ true → IfDone r P → P
+done_open (Ok done) P may p = p
+done_open (Err step_fault.Sink) P may p = p
+done_open (Err step_fault.Device) P may p = absurd (no_true may)
+done_open (Err (step_fault.Damaged damage)) P may p = absurd (no_true may)

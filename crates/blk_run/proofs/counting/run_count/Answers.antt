@@ -1,9 +1,10 @@
-use Rattle.std.proofs.Common.{◌≡◌, ◌<◌, ◌*◌, ◌^◌, ◌⊎◌, inr, refl, ◌∙◌, arith}
+use Rattle.std.proofs.Common.{◌≡◌, ◌≢◌, ◌<◌, ◌*◌, ◌^◌, ◌⊎◌, inl, inr, refl, sym, ◌∙◌, arith}
 use Rattle.blk_model.specs.Bounds.{bounds_of}
 use Rattle.blk_model.specs.Sizes.{handle_names}
 use Rattle.blk_repair_laws.proofs.FoundHolding.{found-holding}
 use Rattle.blk_headline.specs.Script.{count_script}
 use Rattle.blk_cache.specs.CacheKeeping.{KeepsState}
+use Rattle.blk_run.specs.declared.ending.Status.{Status}
 use Rattle.blk_run.specs.declared.ending.Status.TheVariants as status
 use Rattle.blk_run.proofs.Counted.{counted, first_is, left_same, none_printed, opened_open, passed, told_still, told_totals}
 use Rattle.blk_run.proofs.Assembling.{exit_unopened}
@@ -77,3 +78,21 @@ returns-in-Ok-clause-complete g c from there usable readings clock left no_devic
     complete_script count_script (bounds_of c.args.limits) from readings _ _ _ _ no_device no_sink c.count.result
     (device_cause c.count.result (g.F.Folder.told c.args.folder.now).files _ ⊥ _ ⊥ cause) (sink_cause c.count.result (g.F.Folder.told c.args.folder.now).files _ ⊥ _ ⊥ cause)
     (returns-in-Ok-clause-script g c from there usable readings clock left)
+
+-- nothing is refused
+none_refused : (s : Status) → (s ≡ status.Ok) ⊎ ((s ≡ status.Sink) ⊎ (s ≡ status.Device)) → s ≢ status.Refused
+none_refused s (inl is) refused = absurd (clash (sym is ∙ refused))
+  where
+    clash : status.Ok ≡ status.Refused → ⊥
+    clash e = cc
+none_refused s (inr (inl is)) refused = absurd (clash (sym is ∙ refused))
+  where
+    clash : status.Sink ≡ status.Refused → ⊥
+    clash e = cc
+none_refused s (inr (inr is)) refused = absurd (clash (sym is ∙ refused))
+  where
+    clash : status.Device ≡ status.Refused → ⊥
+    clash e = cc
+
+pub returns-in-Ok-clause-never : goal.returns-in-Ok-clause-never
+returns-in-Ok-clause-never g c = none_refused c.count.result c.count.ensures.answers

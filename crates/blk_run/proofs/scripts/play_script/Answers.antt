@@ -1,6 +1,8 @@
 use Rattle.blk_cache.specs.CacheKeeping.{KeepsState}
 use Rattle.std.proofs.Common.{◌≡◌, ◌*◌, [], Err, refl, sym, ◌∙◌, subst}
+use Rattle.std.specs.Option.{ForSome}
 use Rattle.blk_image.specs.Told.{Rises}
+use Rattle.blk_disk.specs.Open.{IsOpen}
 use Rattle.blk_model.specs.Holding.{open_state}
 use Rattle.blk_model.specs.Sizes.{handle_names}
 use Rattle.blk_volume.specs.Found.{found}
@@ -9,7 +11,7 @@ use Rattle.blk_io.specs.declared.fault.Fault.{Fault}
 use Rattle.blk_run.specs.Ending.{EndsRun}
 use Rattle.blk_run.specs.Scripts.{script_of}
 use Rattle.blk_run.specs.Session.{FixedRuns}
-use Rattle.blk_run.proofs.ScriptCauses.{of_none, rises_until, script_cause, script_kept, script_undamaged_status}
+use Rattle.blk_run.proofs.ScriptCauses.{done_open, of_none, rises_until, script_cause, script_kept, script_undamaged_status}
 use Rattle.blk_run.proofs.ScriptEnds.{script_closed, script_stopped, script_unclosed, script_undamaged}
 use Rattle.blk_run.proofs.SessionEnds.{end_undamaged}
 use Rattle.blk_run.specs.Count.{IsDamaged}
@@ -56,3 +58,8 @@ pub returns-in-Err-Damaged-clause-untold : goal.returns-in-Err-Damaged-clause-un
 returns-in-Err-Damaged-clause-untold g c far at damaged =
     let kept = script_kept c.play_turns-played.result _ far (KeepsState c.play_turns-played.new.cache) (c.play_turns-played.new.cache.notes) (2 * handle_names) _ _ (sym c.closes_script.ensures ∙ c.if-not-closes_script.false) (c.play_turns-played.ensures.played far (2 * handle_names) at) in
     end_undamaged c.in-Err-Damaged.field-0 c.in-Err-Damaged.field-0-0 kept.0 _ _ _ c.in-Err-Damaged.field-0-is (c.in-Err-Damaged.ensures.ends kept.0 0 kept.1)
+
+pub end-requires : goal.end-requires
+end-requires g c = record {
+  is_open = done_open c.play_turns-played.result (ForSome (g.F.Folder.told c.play_turns-played.new.folder).files (IsOpen c.play_turns-played.new.cache.files)) (sym c.closes_script.ensures ∙ c.if-not-closes_script.false) c.play_turns-played.ensures.is_open;
+}

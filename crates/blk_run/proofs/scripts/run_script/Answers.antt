@@ -41,8 +41,8 @@ returns-in-Ok-clause-cause g c =
     (KeepsState c.in-Ok.cache) (cache_stands c.in-Ok.cache) (g.F.Folder.told c.start.new.f) c.in-Ok.cache.notes (2 * handle_names + 2 * commands_in c.args.fixed) (c.in-Ok.ensures.checked from there) (c.start.ensures.stops from there) (c.in-Ok.ensures.last from there) (c.in-Ok.ensures.keeps from there) c.in-Ok.ensures.notes (omega (arith, few)))
     damaged)) c.play_script.ensures.cause
 
-pub returns-clause-cause : goal.returns-clause-cause
-returns-clause-cause g c = first_of (Unit {0}) c.in-Err-Damaged.field-0 c.in-Err-Damaged.damage (g.F.Folder.told c.args.folder.now).files c.in-Err-Damaged.field-0-is c.in-Err-Damaged.ensures.first
+pub returns-in-Err-Damaged-clause-cause : goal.returns-in-Err-Damaged-clause-cause
+returns-in-Err-Damaged-clause-cause g c = first_of (Unit {0}) c.in-Err-Damaged.field-0 c.in-Err-Damaged.damage (g.F.Folder.told c.args.folder.now).files c.in-Err-Damaged.field-0-is c.in-Err-Damaged.ensures.first
 
 pub returns-in-Ok-clause-complete : goal.returns-in-Ok-clause-complete
 returns-in-Ok-clause-complete g c from there usable readings clock left no_device no_sink =
