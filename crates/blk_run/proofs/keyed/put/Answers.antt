@@ -12,7 +12,7 @@ returns-in-Ok-read_input-clause-performs g c =
     put_performs c.run_script.result (bounds_of c.args.limits) _ _ _ _
     (record { folder = g.F.Folder.told c.args.folder.now; written = g.K.Sink.written c.args.out.now; left = g.S.Source.left c.args.input.now; clock = g.C.Clock.readings c.args.clock.now })
     (record { folder = g.F.Folder.told c.run_script.new.folder; written = g.K.Sink.written c.run_script.new.out; left = g.S.Source.left c.read_input.new.input; clock = g.C.Clock.readings c.run_script.new.clock })
-    (put_script (percent_decode c.args.key.now) c.args.stream) (take c.in-Ok-read_input.len c.read_input.new.room) _ (ap (λ (k : List ℕ). put_script k c.args.stream (take c.in-Ok-read_input.len c.read_input.new.room)) key)
+    (put_script (percent_decode c.args.key.now) c.args.stream) (take c.in-Ok-read_input.len c.read_input.new.room) _ (ap (λ (k : List ℕ). put_script k c.args.stream (take c.in-Ok-read_input.len c.deref.result.now)) key ∙ ap (λ (l : List ℕ). put_script (percent_decode c.args.key.now) c.args.stream (take c.in-Ok-read_input.len l)) c.deref.ensures.value)
     (read_whole c.in-Ok-read_input.len c.read_input.new.room _ _ c.in-Ok-read_input.ensures.reads.1)
     (record {
       plays = λ from there usable readings clock. c.run_script.ensures.script from there usable readings clock (g.S.Source.left c.read_input.new.input);
