@@ -1,9 +1,33 @@
-use Rattle.std.proofs.Common.{◌≡◌, ◌≤◌, ◌+◌, ◌*◌, ℕ, List, Option, None, Some, Ok, Err, refl, sym, ◌∙◌, ap}
+use Rattle.std.proofs.Common.{◌≡◌, ◌≤◌, ◌+◌, ◌*◌, ℕ, Bool, true, false, List, Option, None, Some, Result, Ok, Err, refl, sym, ◌∙◌, ap}
+use Rattle.std.specs.Option.{ForSome}
+use Rattle.blk_disk.specs.Open.{IsOpen}
+use Rattle.blk_cache.specs.declared.fault.StepFault.{StepFault}
+use Rattle.blk_cache.specs.declared.fault.StepFault.TheVariants as step_fault
+use Rattle.blk_cache.specs.Stepping.{IfDone}
+use Rattle.blk_run.specs.declared.input.InputEnd.{InputEnd}
 use Rattle.blk_model.specs.Sizes.{handle_names}
-use Rattle.blk_run.specs.Statuses.{status_after}
+use Rattle.blk_run.specs.Statuses.{may_close, status_after}
 use Rattle.blk_cache.specs.CacheKeeping.{KeepsState}
 use Rattle.blk_run.proofs.SessionEnds.{closed_runs, end_failed, end_undamaged, input_told, input_undamaged, kept_after, runs_as, stopped_runs, unclosed_runs}
 use Rattle.blk_run.proofs.sessions.play.Goals as goal
+
+-- where what is open may be closed, what was played was done
+open_of_done : (r : Result InputEnd StepFault) (P : Type 0) → may_close r ≡ true → IfDone r P → P
+open_of_done (Ok ended) P may p = p
+open_of_done (Err step_fault.Sink) P may p = p
+open_of_done (Err step_fault.Device) P may p = absurd (clash may)
+  where
+    clash : false ≡ true → ⊥
+    clash e = cc
+open_of_done (Err (step_fault.Damaged damage)) P may p = absurd (clash may)
+  where
+    clash : false ≡ true → ⊥
+    clash e = cc
+
+pub end-requires : goal.end-requires
+end-requires g c = record {
+  is_open = open_of_done c.play_input-ended.result (ForSome (g.F.Folder.told c.play_input-ended.new.folder).files (IsOpen c.play_input-ended.new.cache.files)) (sym c.closes_after.ensures ∙ c.if-not-closes_after.false) c.play_input-ended.ensures.is_open;
+}
 
 pub returns-then-not-closes_after-clause-runs : goal.returns-then-not-closes_after-clause-runs
 returns-then-not-closes_after-clause-runs g c from limits readings bytes start first there clock first_read left_is at =
