@@ -1,4 +1,5 @@
-use Rattle.std.proofs.Common.{◌≡◌, ◌≤◌, ◌∙◌, ℕ, List, Option, length, take, ap, sym, refl}
+use Rattle.std.proofs.Common.{rules, ◌++◌, ◌≡◌, ◌≤◌, ◌∙◌, ℕ, List, Option, length, take, ap, sym, refl}
+use Rattle.std.proofs.Math.Seq.{take-append_seam}
 use Rattle.percent_encoding.specs.Percent.{percent_decode}
 use Rattle.blk_image.specs.Told.{Rises}
 use Rattle.blk_model.specs.Bounds.{bounds_of}
@@ -6,13 +7,19 @@ use Rattle.blk_headline.specs.Script.{doom_script, get_script, put_script}
 use Rattle.blk_run.proofs.Performing.{put_performs, read_whole, same_key}
 use Rattle.blk_run.proofs.keyed.put.Goals as goal
 
+-- what was lent whole is given back whole
+lent : (n : ℕ) (front rest all : List ℕ) → all ≡ take n (front ++ rest) → length front ≡ n → all ≡ front
+lent n front rest all is long = is ∙ (ap (λ (k : ℕ). take k (front ++ rest)) (sym long) ∙ take-append_seam front rest)
+
 pub returns-in-Ok-read_input-clause-performs : goal.returns-in-Ok-read_input-clause-performs
 returns-in-Ok-read_input-clause-performs g c =
     let key = same_key (c.in-Ok-decode_key.ensures ∙ c.requires.spelled) in
+    let long : length c.read_input.new.room ≡ c.in-Ok-take_room.bytes.len = search rules in
+    let same = lent c.in-Ok-take_room.bytes.len c.read_input.new.room _ c.deref.result.now c.deref.ensures.value long in
     put_performs c.run_script.result (bounds_of c.args.limits) _ _ _ _
     (record { folder = g.F.Folder.told c.args.folder.now; written = g.K.Sink.written c.args.out.now; left = g.S.Source.left c.args.input.now; clock = g.C.Clock.readings c.args.clock.now })
     (record { folder = g.F.Folder.told c.run_script.new.folder; written = g.K.Sink.written c.run_script.new.out; left = g.S.Source.left c.read_input.new.input; clock = g.C.Clock.readings c.run_script.new.clock })
-    (put_script (percent_decode c.args.key.now) c.args.stream) (take c.in-Ok-read_input.len c.read_input.new.room) _ (ap (λ (k : List ℕ). put_script k c.args.stream (take c.in-Ok-read_input.len c.deref.result.now)) key ∙ ap (λ (l : List ℕ). put_script (percent_decode c.args.key.now) c.args.stream (take c.in-Ok-read_input.len l)) c.deref.ensures.value)
+    (put_script (percent_decode c.args.key.now) c.args.stream) (take c.in-Ok-read_input.len c.read_input.new.room) _ (ap (λ (k : List ℕ). put_script k c.args.stream (take c.in-Ok-read_input.len c.deref.result.now)) key ∙ ap (λ (l : List ℕ). put_script (percent_decode c.args.key.now) c.args.stream (take c.in-Ok-read_input.len l)) same)
     (read_whole c.in-Ok-read_input.len c.read_input.new.room _ _ c.in-Ok-read_input.ensures.reads.1)
     (record {
       plays = λ from there usable readings clock. c.run_script.ensures.script from there usable readings clock (g.S.Source.left c.read_input.new.input);

@@ -42,8 +42,8 @@ returns-in-Err-Device-clause-session g c from there usable readings clock bytes 
     inr (exit_unopened from (bounds_of c.args.limits) readings (record { folder = g.F.Folder.told c.args.folder.now; written = g.K.Sink.written c.args.out.now; left = g.S.Source.left c.args.input.now; clock = g.C.Clock.readings c.args.clock.now }) there clock
     _ held_still (record { folder = g.F.Folder.told c.start.new.f; written = g.K.Sink.written c.args.out.now; left = g.S.Source.left c.args.input.now; clock = g.C.Clock.readings c.now.new.self }) usable (found-holding from (g.met.F.Folder.are_bytes c.args.folder.now from there)) (c.start.ensures.stops from there) refl refl)
 
-pub returns-in-Err-Damaged-clause-cause : goal.returns-in-Err-Damaged-clause-cause
-returns-in-Err-Damaged-clause-cause g c = first_of (Unit {0}) c.in-Err-Damaged.field-0 c.in-Err-Damaged.damage (g.F.Folder.told c.args.folder.now).files c.in-Err-Damaged.field-0-is c.in-Err-Damaged.ensures.first
+pub returns-clause-cause : goal.returns-clause-cause
+returns-clause-cause g c = first_of (Unit {0}) c.in-Err-Damaged.field-0 c.in-Err-Damaged.damage (g.F.Folder.told c.args.folder.now).files c.in-Err-Damaged.field-0-is c.in-Err-Damaged.ensures.first
 
 pub returns-in-Ok-start-clause-complete : goal.returns-in-Ok-start-clause-complete
 returns-in-Ok-start-clause-complete g c from there usable readings clock bytes left_is within no_device no_source no_sink =

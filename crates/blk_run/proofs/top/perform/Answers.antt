@@ -1,3 +1,8 @@
+use Rattle.std.proofs.Common.{rules}
+use Rattle.percent_encoding.specs.Percent.{percent_decode}
+use Rattle.blk_image.specs.Told.{Rises}
+use Rattle.blk_model.specs.Bounds.{bounds_of}
+use Rattle.blk_headline.specs.Script.{doom_script, get_script}
 use Rattle.blk_run.proofs.Performing.{performs_wider}
 use Rattle.blk_run.proofs.top.perform.Goals as goal
 
@@ -17,7 +22,17 @@ returns-in-Count-clause-counts g c is = record {
 }
 
 pub returns-in-Get-clause-performs : goal.returns-in-Get-clause-performs
-returns-in-Get-clause-performs g c = performs_wider _ _ _ _ _ _ _ _ _ (c.get.ensures.performs (g.S.Source.left c.args.input.now))
+returns-in-Get-clause-performs g c =
+    let does = performs_wider c.get.result (bounds_of c.args.asked.limits) (Rises (g.F.Folder.faults c.args.folder.now) (g.F.Folder.faults c.get.new.folder)) (Rises (g.S.Source.faults c.args.input.now) (g.S.Source.faults c.args.input.now)) (g.K.Sink.faults c.args.out.now) (g.K.Sink.faults c.get.new.out)
+    (record { folder = g.F.Folder.told c.args.folder.now; written = g.K.Sink.written c.args.out.now; left = g.S.Source.left c.args.input.now; clock = g.C.Clock.readings c.args.clock.now })
+    (record { folder = g.F.Folder.told c.get.new.folder; written = g.K.Sink.written c.get.new.out; left = g.S.Source.left c.args.input.now; clock = g.C.Clock.readings c.get.new.clock })
+    (get_script (percent_decode c.in-Get.key.now) c.in-Get.stream) (c.get.ensures.performs (g.S.Source.left c.args.input.now)) in
+    search (rules, does)
 
 pub returns-in-Doom-clause-performs : goal.returns-in-Doom-clause-performs
-returns-in-Doom-clause-performs g c = performs_wider _ _ _ _ _ _ _ _ _ (c.doom.ensures.performs (g.S.Source.left c.args.input.now))
+returns-in-Doom-clause-performs g c =
+    let does = performs_wider c.doom.result (bounds_of c.args.asked.limits) (Rises (g.F.Folder.faults c.args.folder.now) (g.F.Folder.faults c.doom.new.folder)) (Rises (g.S.Source.faults c.args.input.now) (g.S.Source.faults c.args.input.now)) (g.K.Sink.faults c.args.out.now) (g.K.Sink.faults c.doom.new.out)
+    (record { folder = g.F.Folder.told c.args.folder.now; written = g.K.Sink.written c.args.out.now; left = g.S.Source.left c.args.input.now; clock = g.C.Clock.readings c.args.clock.now })
+    (record { folder = g.F.Folder.told c.doom.new.folder; written = g.K.Sink.written c.doom.new.out; left = g.S.Source.left c.args.input.now; clock = g.C.Clock.readings c.doom.new.clock })
+    (doom_script (percent_decode c.in-Doom.key.now)) (c.doom.ensures.performs (g.S.Source.left c.args.input.now)) in
+    search (rules, does)
