@@ -12,22 +12,22 @@ use Rattle.blk_cache.specs.CacheKeeping.{KeepsState}
 use Rattle.blk_cache.specs.Evicting.{KeepsInPlaces, OnlyItemsChange}
 use Rattle.blk_items.specs.EvictingGroups.{IsGroupOut}
 use Rattle.blk_items.specs.RoomLaws.{group_for}
-use Rattle.blk_items.specs.ListPlaces.{IsLastAt}
+use Rattle.blk_items.specs.ListPlaces.{MayGoAt}
 use Rattle.blk_items.proofs.RoomCounts.{counted-less}
 use Rattle.blk_cache.proofs.RoomKept.{evicted-kept}
 
-pub out-kept : (old new : Cache) (state : State) (from image : Image) (k : KeepsState old state from) (found : Unpinned) (last : IsLastAt state k.layout found) (gone : Gone) → IsGroupOut state k.layout (group_for last.item last.front) gone from image
+pub out-kept : (old new : Cache) (state : State) (from image : Image) (k : KeepsState old state from) (found : Unpinned) (at : MayGoAt state k.layout found) (gone : Gone) → IsGroupOut state k.layout (group_for at.item at.front) gone from image
     → new.items ≡ old.items - gone.items → new.bytes ≡ old.bytes - gone.bytes → OnlyItemsChange old new → Agrees new.files image
-    → KeepsInPlaces new (without (group_for last.item last.front ∷ []) state) k.layout image
-out-kept old new state from image k found last gone o items bytes only agrees =
-    let less = counted-less state last.front last.item last.rest k.kept.entries.valid last.last in
+    → KeepsInPlaces new (without (group_for at.item at.front ∷ []) state) k.layout image
+out-kept old new state from image k found at gone o items bytes only agrees =
+    let less = counted-less state at.front at.item at.rest k.kept.entries.valid at.goes in
     let fewer_items = less.items_left in
     let fewer_bytes = less.bytes_left in
     let items_were = k.items_are in
     let bytes_were = k.bytes_are in
     let told_items = o.told.items in
     let told_bytes = o.told.bytes in
-    let kept = evicted-kept state last.front last.item last.rest o.left old new from image k last.last (record {
+    let kept = evicted-kept state at.front at.item at.rest o.left old new from image k at.goes (record {
       kept = o.kept;
       stay = o.stay;
       fewer = record {

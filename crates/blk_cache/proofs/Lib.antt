@@ -18,6 +18,7 @@ pub mod Creates
 pub mod CreateSteps
 pub mod CreateRoom
 pub mod CreateRefusing
+pub mod CoveredParts
 pub mod CreateEnds
 pub mod Notes
 pub mod RoomPins

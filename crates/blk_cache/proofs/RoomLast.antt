@@ -1,5 +1,5 @@
 -- The items from the back of the use list, as their nodes are met.
-use Rattle.std.proofs.Common.{◌≡◌, ℕ, suc, ◌+◌, ◌≤◌, List, [], ◌∷◌, ◌++◌, length, Option, Some, None, true, false, refl, sym, ap, subst, ◌∙◌, arith, append_assoc}
+use Rattle.std.proofs.Common.{◌≡◌, ℕ, suc, ◌+◌, ◌≤◌, Bool, ◌||◌, List, [], ◌∷◌, ◌++◌, length, Option, Some, None, true, false, refl, sym, ap, subst, ◌∙◌, arith, append_assoc}
 use Rattle.std.specs.List.{AllByRecursion}
 use Rattle.std.proofs.lemmas.List.{map-append}
 use Rattle.blk_image.specs.Image.{Image}
@@ -21,19 +21,22 @@ use Rattle.blk_object.specs.ListedParts.{LoadsAt}
 use Rattle.blk_object.proofs.MakingRoom.{uses-few}
 use Rattle.blk_cache.specs.declared.cache.Cache.{Cache}
 use Rattle.blk_items.specs.declared.list_places.Unpinned.{Unpinned}
+use Rattle.blk_cache.specs.declared.covered.Covered.{Covered}
 use Rattle.blk_cache.specs.CacheKeeping.{KeepsState}
-use Rattle.blk_items.specs.RoomLaws.{AreAllPinned}
+use Rattle.blk_cache.specs.Covering.{LieCovered, covers}
+use Rattle.blk_items.specs.RoomLaws.{AreAllPinned, IsLastUnpinned}
 use Rattle.blk_items.specs.ListPlaces.{AreInFront, IsLastAt, IsPinnedFrom}
-use Rattle.blk_items.proofs.RoomGroups.{in-middle}
+use Rattle.blk_items.proofs.RoomGroups.{in-middle, last-goes}
+use Rattle.blk_cache.proofs.CoveredParts.{pinned-both}
 use Rattle.blk_cache.proofs.RoomBound.{record-pinned}
 
 -- so many items at least are pinned from a node on
-pub record IsPinnedSoFar (state : State) (layout : Layout) (behind : Option ℕ) (count : ℕ) : Type 0 where
-  pub from : IsPinnedFrom state layout behind
+pub record IsPinnedSoFar (state : State) (layout : Layout) (covered : List Item) (behind : Option ℕ) (count : ℕ) : Type 0 where
+  pub from : IsPinnedFrom state layout covered behind
   pub many : count ≤ length from.rest
 
-pub none-so-far : (state : State) (layout : Layout) (behind : Option ℕ) → IsPinnedFrom state layout behind → IsPinnedSoFar state layout behind 0
-none-so-far state layout behind from = record { from = from; many = omega arith }
+pub none-so-far : (state : State) (layout : Layout) (covered : List Item) (behind : Option ℕ) → IsPinnedFrom state layout covered behind → IsPinnedSoFar state layout covered behind 0
+none-so-far state layout covered behind from = record { from = from; many = omega arith }
 
 -- items that end with a node
 pub record EndWith (layout : Layout) (all : List Item) (node : ℕ) : Type 0 where
@@ -83,8 +86,8 @@ module _ (cache : Cache) (state : State) (image : Image) (kept : KeepsState cach
       said-contents image node n facts.node (subst (λ (w : ℕ). stands_as image rankings w ≡ true) facts.facts.node_is st.node) ∙ sym facts.facts.contents_is)
 
   -- these nodes are in front
-  pub front-is : (behind : Option ℕ) (p : IsPinnedFrom state kept.layout behind) → AreInFront (nodes_of kept.layout p.front) behind image
-  front-is behind p =
+  pub front-is : (covered : List Item) (behind : Option ℕ) (p : IsPinnedFrom state kept.layout covered behind) → AreInFront (nodes_of kept.layout p.front) behind image
+  front-is covered behind p =
       let nodes : order state kept.layout ≡ nodes_of kept.layout p.front ++ nodes_of kept.layout p.rest = ap (nodes_of kept.layout) p.listed ∙ map-append kept.layout.place p.front p.rest in
       record {
         rest = nodes_of kept.layout p.rest;
@@ -93,20 +96,20 @@ module _ (cache : Cache) (state : State) (image : Image) (kept : KeepsState cach
       }
 
   -- nothing is in front
-  pub none-left : (behind : Option ℕ) (p : IsPinnedFrom state kept.layout behind) → ◌≡◌ {A = Option ℕ} None (last_node_of (nodes_of kept.layout p.front)) → AreAllPinned state []
-  none-left behind p e = subst (λ (is : List Item). AllByRecursion (λ item. is_pinned state [] item ≡ true) is) (sym (p.listed ∙ ap (λ (f : List Item). f ++ p.rest) (ends-none kept.layout p.front e))) p.pinned
+  pub none-left : (covered : List Item) (behind : Option ℕ) (p : IsPinnedFrom state kept.layout covered behind) → ◌≡◌ {A = Option ℕ} None (last_node_of (nodes_of kept.layout p.front)) → AreAllPinned state covered
+  none-left covered behind p e = subst (λ (is : List Item). AllByRecursion (λ item. is_pinned state covered item ≡ true) is) (sym (p.listed ∙ ap (λ (f : List Item). f ++ p.rest) (ends-none kept.layout p.front e))) p.pinned
 
-  pub all-met : (behind : Option ℕ) (count : ℕ) → cache.items ≤ count → (p : IsPinnedSoFar state kept.layout behind count) → AreAllPinned state []
-  all-met behind count enough p =
+  pub all-met : (covered : List Item) (behind : Option ℕ) (count : ℕ) → cache.items ≤ count → (p : IsPinnedSoFar state kept.layout covered behind count) → AreAllPinned state covered
+  all-met covered behind count enough p =
       let few = uses-few state kept.layout [] image kept.kept.entries in
       let many = p.many in
       let are = kept.items_are in
       let long : length state.uses ≡ length (p.from.front ++ p.from.rest) = ap (λ (is : List Item). length is) p.from.listed in
       let none : p.from.front ≡ [] = no-front p.from.front p.from.rest (omega (arith, few, many, are, long, enough)) in
-      subst (λ (is : List Item). AllByRecursion (λ item. is_pinned state [] item ≡ true) is) (sym (p.from.listed ∙ ap (λ (f : List Item). f ++ p.from.rest) none)) p.from.pinned
+      subst (λ (is : List Item). AllByRecursion (λ item. is_pinned state covered item ≡ true) is) (sym (p.from.listed ∙ ap (λ (f : List Item). f ++ p.from.rest) none)) p.from.pinned
 
   -- a node is in front
-  module _ (behind : Option ℕ) (p : IsPinnedFrom state kept.layout behind) (node : ℕ) (e : ◌≡◌ {A = Option ℕ} (Some node) (last_node_of (nodes_of kept.layout p.front))) where
+  module _ (covered : List Item) (behind : Option ℕ) (p : IsPinnedFrom state kept.layout covered behind) (node : ℕ) (e : ◌≡◌ {A = Option ℕ} (Some node) (last_node_of (nodes_of kept.layout p.front))) where
     abbrev met : EndWith kept.layout p.front node
     met = ends-with kept.layout p.front node e
 
@@ -135,32 +138,41 @@ module _ (cache : Cache) (state : State) (image : Image) (kept : KeepsState cach
       }),
     )
 
-    pinned-is : (entry : ℕ) → entry ≡ (node_at image node).contents → is_open cache.handles entry ≡ is_pinned state [] met.item
-    pinned-is entry is = ap (is_open cache.handles) (is ∙ contents) ∙ record-pinned state kept.layout [] image kept.kept.entries cache.handles kept.names met.item loaded listed here
+    module _ (parts : Covered) (lie : LieCovered state kept.layout covered parts) where
+      pinned-is : (entry : ℕ) → entry ≡ (node_at image node).contents → (is_open cache.handles entry || covers parts node) ≡ is_pinned state covered met.item
+      pinned-is entry is =
+          ap (λ (b : Bool). b || covers parts node) (ap (is_open cache.handles) (is ∙ contents) ∙ record-pinned state kept.layout [] image kept.kept.entries cache.handles kept.names met.item loaded listed here)
+          ∙ ap (λ (b : Bool). is_pinned state [] met.item || b) (ap (covers parts) met.node_is ∙ lie.nodes met.item listed)
+          ∙ sym (pinned-both state met.item covered lie.of_named)
 
-    -- it isn't pinned
-    pub last-found : (found : Unpinned) → found.node ≡ node → found.entry ≡ (node_at image node).contents → found.behind ≡ behind → is_open cache.handles found.entry ≡ false → IsLastAt state kept.layout found
-    last-found found is entry next closed = record {
-      front = met.front;
-      item = met.item;
-      rest = p.rest;
-      last = record { listed = uses-are; unpinned = sym (pinned-is found.entry entry) ∙ closed; pinned_behind = p.pinned };
-      node = is ∙ met.node_is;
-      loaded = loaded;
-      here = here;
-      entry = entry ∙ contents;
-      next = next ∙ p.next;
-    }
+      -- it isn't pinned
+      pub last-found : (found : Unpinned) → found.node ≡ node → found.entry ≡ (node_at image node).contents → found.behind ≡ behind → (is_open cache.handles found.entry || covers parts node) ≡ false → IsLastAt state kept.layout covered found
+      last-found found is entry next closed =
+          let last : IsLastUnpinned state covered met.front met.item p.rest = record { listed = uses-are; unpinned = sym (pinned-is found.entry entry) ∙ closed; pinned_behind = p.pinned } in
+          record {
+            goes = record {
+              front = met.front;
+              item = met.item;
+              rest = p.rest;
+              goes = last-goes state covered met.front met.item p.rest lie.of_named last;
+              node = is ∙ met.node_is;
+              loaded = loaded;
+              here = here;
+              entry = entry ∙ contents;
+            };
+            last = last;
+            next = next ∙ p.next;
+          }
 
-    -- it is
-    pub more-so-far : (count : ℕ) → count ≤ length p.rest → (entry : ℕ) → entry ≡ (node_at image node).contents → is_open cache.handles entry ≡ true → (next : Option ℕ) → next ≡ Some node → IsPinnedSoFar state kept.layout next (count + 1)
-    more-so-far count many entry is open_ next next-is = record {
-      from = record {
-        front = met.front;
-        rest = met.item ∷ p.rest;
-        listed = uses-are;
-        pinned = (sym (pinned-is entry is) ∙ open_, p.pinned);
-        next = next-is ∙ ap Some met.node_is;
-      };
-      many = omega (arith, many);
-    }
+      -- it is
+      pub more-so-far : (count : ℕ) → count ≤ length p.rest → (entry : ℕ) → entry ≡ (node_at image node).contents → (is_open cache.handles entry || covers parts node) ≡ true → (next : Option ℕ) → next ≡ Some node → IsPinnedSoFar state kept.layout covered next (count + 1)
+      more-so-far count many entry is open_ next next-is = record {
+        from = record {
+          front = met.front;
+          rest = met.item ∷ p.rest;
+          listed = uses-are;
+          pinned = (sym (pinned-is entry is) ∙ open_, p.pinned);
+          next = next-is ∙ ap Some met.node_is;
+        };
+        many = omega (arith, many);
+      }

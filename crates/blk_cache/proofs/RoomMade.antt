@@ -5,6 +5,7 @@ use Rattle.blk_image.specs.Image.{Image}
 use Rattle.blk_image.specs.Told.{Passes, Told}
 use Rattle.blk_image.proofs.Runs.{passes_none, some_inj}
 use Rattle.blk_model.specs.Holding.{rest}
+use Rattle.blk_model.specs.Items.{Item}
 use Rattle.blk_script.specs.Reply.{evicted_text}
 use Rattle.blk_kept.specs.Changes.{Finds}
 use Rattle.blk_model.specs.Refusals.{evicted_for, is_full}
@@ -31,21 +32,21 @@ met-same : (bytes more : ℕ) (groups : List Group) (state : State) → is_met (
 met-same bytes more groups state = ap (λ (l : Bounds). nat_le (total (without groups state) + bytes) (l.max_bytes - l.max_bytes / free_share) && nat_le (items (without groups state) + more) (without groups state).limits.max_items) (limits-left groups state)
 
 -- so what is evicted until the goal is met is what the map evicts
-pub until-met : (bytes more : ℕ) (state : State) → evicted_until (is_met (goal.Room bytes more)) state [] ≡ evicted_until (fits (low state) bytes more) state []
+pub until-met : (bytes more : ℕ) (state : State) (covered : List Item) → evicted_until (is_met (goal.Room bytes more)) state covered ≡ evicted_until (fits (low state) bytes more) state covered
 unfolding evicted_until
-until-met bytes more state = ap (λ (enough : List Group → Bool). shortest enough [] (groups_from_back (is_pinned state []) (reverse state.uses))) (λ i groups. met-same bytes more groups state i)
+until-met bytes more state covered = ap (λ (enough : List Group → Bool). shortest enough [] (groups_from_back (is_pinned state covered) (reverse state.uses))) (λ i groups. met-same bytes more groups state i)
 
 -- where there is room and it is wanted, this is evicted
-pub wanted-goes : (state : State) (bytes more : ℕ) → is_full (room state [] bytes more) ≡ false → ((bytes == 0 && more == 0) || fits state.limits.max_bytes bytes more state) ≡ false → evicted_until (is_met (goal.Room bytes more)) state [] ≡ evicted_for (room state [] bytes more)
-wanted-goes state bytes more passes wanted = until-met bytes more state ∙ sym (ap (λ (b : Bool). if b then [] else evicted_until (fits (low state) bytes more) state []) wanted) ∙ sym (room-made state bytes more passes)
+pub wanted-goes : (state : State) (covered : List Item) (bytes more : ℕ) → is_full (room state covered bytes more) ≡ false → ((bytes == 0 && more == 0) || fits state.limits.max_bytes bytes more state) ≡ false → evicted_until (is_met (goal.Room bytes more)) state covered ≡ evicted_for (room state covered bytes more)
+wanted-goes state covered bytes more passes wanted = until-met bytes more state covered ∙ sym (ap (λ (b : Bool). if b then [] else evicted_until (fits (low state) bytes more) state covered) wanted) ∙ sym (room-made state covered bytes more passes)
 
 -- and where it isn't wanted, nothing
-pub none-goes : (state : State) (bytes more : ℕ) → is_full (room state [] bytes more) ≡ false → ((bytes == 0 && more == 0) || fits state.limits.max_bytes bytes more state) ≡ true → evicted_for (room state [] bytes more) ≡ []
-none-goes state bytes more passes wanted = room-made state bytes more passes ∙ ap (λ (b : Bool). if b then [] else evicted_until (fits (low state) bytes more) state []) wanted
+pub none-goes : (state : State) (covered : List Item) (bytes more : ℕ) → is_full (room state covered bytes more) ≡ false → ((bytes == 0 && more == 0) || fits state.limits.max_bytes bytes more state) ≡ true → evicted_for (room state covered bytes more) ≡ []
+none-goes state covered bytes more passes wanted = room-made state covered bytes more passes ∙ ap (λ (b : Bool). if b then [] else evicted_until (fits (low state) bytes more) state covered) wanted
 
 -- nothing is evicted where there is no room
-pub full-none : (state : State) (bytes more : ℕ) → is_full (room state [] bytes more) ≡ true → evicted_for (room state [] bytes more) ≡ []
-full-none state bytes more is = go (room state [] bytes more) is where
+pub full-none : (state : State) (covered : List Item) (bytes more : ℕ) → is_full (room state covered bytes more) ≡ true → evicted_for (room state covered bytes more) ≡ []
+full-none state covered bytes more is = go (room state covered bytes more) is where
   go : (r : Room) → is_full r ≡ true → evicted_for r ≡ []
   go full e = refl
   go (after groups) e = absurd (no e) where

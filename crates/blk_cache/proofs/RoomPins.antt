@@ -4,11 +4,12 @@ use Rattle.std.specs.Bool.{◌==◌}
 use Rattle.std.specs.List.{filter, list_any, sum_by}
 use Rattle.std.proofs.lemmas.List.Sums.{sum_by-cons}
 use Rattle.blk_model.specs.Bounds.{bounds_of}
-use Rattle.blk_model.specs.Items.{part, PartValue, same_item}
+use Rattle.blk_model.specs.Items.{Item, part, PartValue, same_item}
 use Rattle.blk_model.specs.State.{Bounds, Object, State, is_named, object_at}
 use Rattle.blk_model.specs.Refusals.{evicted_for, is_full}
 use Rattle.blk_model.specs.Room.{Group, Room, full, after, charge, count_of, evicted_until, fits, item_count, low, of_slot, own_charge, pinned, pinned_from, pinned_of, room, total_of}
 use Rattle.blk_cache.specs.CacheKeeping.{named_from}
+use Rattle.blk_cache.specs.Covering.{part_count}
 use Rattle.blk_cache.specs.RoomTold.{NamedObjectsArePinned, RoomIsMade, RoomIsTold, is_over}
 
 -- no part is covered
@@ -85,10 +86,10 @@ named-pinned state valid = record { bytes = total-from state 0 state.objects hel
 abbrev decided : Bool → Bool → Bool → List Group → Room
 decided none over all gone = cond none (after []) (cond over full (cond all (after []) (after gone)))
 
-room-is : (state : State) (bytes more : ℕ) → room state [] bytes more
-    ≡ decided (bytes == 0 && more == 0) (is_over state.limits (total_of (pinned state [])) (count_of (pinned state [])) bytes more) (fits state.limits.max_bytes bytes more state) (evicted_until (fits (low state) bytes more) state [])
+room-is : (state : State) (covered : List Item) (bytes more : ℕ) → room state covered bytes more
+    ≡ decided (bytes == 0 && more == 0) (is_over state.limits (total_of (pinned state covered)) (count_of (pinned state covered)) bytes more) (fits state.limits.max_bytes bytes more state) (evicted_until (fits (low state) bytes more) state covered)
 unfolding room
-room-is state bytes more = refl
+room-is state covered bytes more = refl
 
 full-is : (none over all : Bool) (gone : List Group) → is_full (decided none over all gone) ≡ not none && over
 full-is true over all gone = refl
@@ -103,16 +104,16 @@ made-is false false true gone e = refl
 made-is false false false gone e = refl
 
 pub room-told : RoomIsTold
-room-told cache state image bytes more k =
+room-told cache state image covered parts bytes more k are =
     let p = named-pinned state k.kept.entries.valid in
-    ap is_full (room-is state bytes more)
-    ∙ full-is (bytes == 0 && more == 0) (is_over state.limits (total_of (pinned state [])) (count_of (pinned state [])) bytes more) (fits state.limits.max_bytes bytes more state) (evicted_until (fits (low state) bytes more) state [])
-    ∙ ap (λ (l : Bounds). not (bytes == 0 && more == 0) && is_over l (total_of (pinned state [])) (count_of (pinned state [])) bytes more) k.limits
-    ∙ ap (λ (n : ℕ). not (bytes == 0 && more == 0) && is_over (bounds_of cache.limits) n (count_of (pinned state [])) bytes more) (p.bytes ∙ sym k.open_bytes)
-    ∙ ap (λ (n : ℕ). not (bytes == 0 && more == 0) && is_over (bounds_of cache.limits) cache.open_bytes n bytes more) (p.items ∙ sym k.open_objects)
+    ap is_full (room-is state covered bytes more)
+    ∙ full-is (bytes == 0 && more == 0) (is_over state.limits (total_of (pinned state covered)) (count_of (pinned state covered)) bytes more) (fits state.limits.max_bytes bytes more state) (evicted_until (fits (low state) bytes more) state covered)
+    ∙ ap (λ (l : Bounds). not (bytes == 0 && more == 0) && is_over l (total_of (pinned state covered)) (count_of (pinned state covered)) bytes more) k.limits
+    ∙ ap (λ (n : ℕ). not (bytes == 0 && more == 0) && is_over (bounds_of cache.limits) n (count_of (pinned state covered)) bytes more) (are.bytes ∙ ap (λ (n : ℕ). n + parts.bytes) (p.bytes ∙ sym k.open_bytes))
+    ∙ ap (λ (n : ℕ). not (bytes == 0 && more == 0) && is_over (bounds_of cache.limits) (cache.open_bytes + parts.bytes) n bytes more) (are.items ∙ ap (λ (n : ℕ). n + part_count parts) (p.items ∙ sym k.open_objects))
 
 pub room-made : RoomIsMade
-room-made state bytes more free =
-    ap evicted_for (room-is state bytes more)
-    ∙ made-is (bytes == 0 && more == 0) (is_over state.limits (total_of (pinned state [])) (count_of (pinned state [])) bytes more) (fits state.limits.max_bytes bytes more state) (evicted_until (fits (low state) bytes more) state [])
-    (sym (ap is_full (room-is state bytes more)) ∙ free)
+room-made state covered bytes more free =
+    ap evicted_for (room-is state covered bytes more)
+    ∙ made-is (bytes == 0 && more == 0) (is_over state.limits (total_of (pinned state covered)) (count_of (pinned state covered)) bytes more) (fits state.limits.max_bytes bytes more state) (evicted_until (fits (low state) bytes more) state covered)
+    (sym (ap is_full (room-is state covered bytes more)) ∙ free)

@@ -20,10 +20,13 @@ use Rattle.blk_kept.proofs.Stopping.{stop-evicted}
 use Rattle.blk_script.specs.Reply.{evicted_text}
 use Rattle.blk_cache.specs.declared.cache.Cache.{Cache}
 use Rattle.blk_cache.specs.declared.goal.Goal.TheVariants as goal
+use Rattle.blk_cache.specs.declared.covered.Covered.{Covered}
 use Rattle.blk_cache.specs.CacheKeeping.{KeepsState}
+use Rattle.blk_cache.specs.Covering.{ForCovered, no_parts}
 use Rattle.blk_cache.specs.Evicting.{IsEvicting, count_of_groups, is_met}
 use Rattle.blk_items.specs.RoomPrinting.{Prints}
 use Rattle.blk_cache.specs.Stepping.{SaysEvicted, SaysFront}
+use Rattle.blk_cache.proofs.CoveredParts.{for-none}
 
 module _ (moment bytes : ℕ) where
   trim-passes : (state : State) → refused moment (to_trim bytes) state ≡ None
@@ -46,24 +49,24 @@ module _ (moment bytes : ℕ) where
   unfolding reply
   trim-answer state = ap answer_of (passed state moment (to_trim bytes) (trim-passes state)).1 ∙ ap (λ (groups : List Group). answer.Trimmed (count_of_groups groups)) (trim-evicts state)
 
-  module _ (cache : Cache) (told now : Told) where
-    pub trim-stops : ForKept (KeepsState cache) told (λ state. Passes told now (IsEvicting (evicted_until (is_met (goal.Bytes bytes)) state []) state)) → MayStopAtEach (KeepsState cache) told now moment (to_trim bytes)
+  module _ (cache : Cache) (parts : Covered) (is : parts ≡ no_parts) (told now : Told) where
+    pub trim-stops : ForCovered cache parts told (λ state covered. Passes told now (IsEvicting (evicted_until (is_met (goal.Bytes bytes)) state covered) state)) → MayStopAtEach (KeepsState cache) told now moment (to_trim bytes)
     trim-stops evicting image there state k =
         let may : (i : Image) → IsEvicting (evicted_until (is_met (goal.Bytes bytes)) state []) state i → MayStop state moment (to_trim bytes) i
         = λ i e. stop-evicted state moment (to_trim bytes) e.first e.others i k.kept.entries.valid (record { passes = trim-passes state; groups = trim-evicts state ∙ e.split }) e.finds in
-        passes_weaker (evicting image there state k) may may
+        passes_weaker (for-none cache parts told (λ s covered. Passes told now (IsEvicting (evicted_until (is_met (goal.Bytes bytes)) s covered) s)) is evicting image there state k) may may
 
-    pub trim-does : (new : Cache) (count : ℕ) → ForKept (KeepsState cache) told (λ state. count ≡ count_of_groups (evicted_until (is_met (goal.Bytes bytes)) state []))
-        → ForKept (KeepsState cache) told (λ state. ForSome now.files (KeepsState new (without (evicted_until (is_met (goal.Bytes bytes)) state []) state)))
+    pub trim-does : (new : Cache) (count : ℕ) → ForCovered cache parts told (λ state covered. count ≡ count_of_groups (evicted_until (is_met (goal.Bytes bytes)) state covered))
+        → ForCovered cache parts told (λ state covered. ForSome now.files (KeepsState new (without (evicted_until (is_met (goal.Bytes bytes)) state covered) state)))
         → Does (KeepsState cache) (KeepsState new) told now moment (to_trim bytes) (answer.Trimmed count)
     trim-does new count counts left image there state k = record {
-      answered = ap answer.Trimmed (counts image there state k) ∙ sym (trim-answer state);
-      kept = λ i here. subst (λ (s : State). KeepsState new s i) (sym (trim-state state)) (left image there state k i here);
+      answered = ap answer.Trimmed (for-none cache parts told (λ s covered. count ≡ count_of_groups (evicted_until (is_met (goal.Bytes bytes)) s covered)) is counts image there state k) ∙ sym (trim-answer state);
+      kept = λ i here. subst (λ (s : State). KeepsState new s i) (sym (trim-state state)) (for-none cache parts told (λ s covered. ForSome now.files (KeepsState new (without (evicted_until (is_met (goal.Bytes bytes)) s covered) s))) is left image there state k i here);
     }
 
     module _ (failed_before failed : Bool) (old new : Option (List ℕ)) where
-      pub trim-says : ForKept (KeepsState cache) told (λ state. Prints failed_before failed old new (evicted_text (evicted_until (is_met (goal.Bytes bytes)) state []))) → SaysEvicted cache told moment (to_trim bytes) failed_before failed old new
-      trim-says prints image there state k = subst (λ (groups : List Group). Prints failed_before failed old new (evicted_text groups)) (sym (trim-groups state)) (prints image there state k)
+      pub trim-says : ForCovered cache parts told (λ state covered. Prints failed_before failed old new (evicted_text (evicted_until (is_met (goal.Bytes bytes)) state covered))) → SaysEvicted cache told moment (to_trim bytes) failed_before failed old new
+      trim-says prints image there state k = subst (λ (groups : List Group). Prints failed_before failed old new (evicted_text groups)) (sym (trim-groups state)) (for-none cache parts told (λ s covered. Prints failed_before failed old new (evicted_text (evicted_until (is_met (goal.Bytes bytes)) s covered))) is prints image there state k)
 
-      pub trim-front : ForKept (KeepsState cache) told (λ state. Appends old new (evicted_text (evicted_until (is_met (goal.Bytes bytes)) state []))) → SaysFront cache told moment (to_trim bytes) old new
-      trim-front front image there state k = subst (λ (groups : List Group). Appends old new (evicted_text groups)) (sym (trim-groups state)) (front image there state k)
+      pub trim-front : ForCovered cache parts told (λ state covered. Appends old new (evicted_text (evicted_until (is_met (goal.Bytes bytes)) state covered))) → SaysFront cache told moment (to_trim bytes) old new
+      trim-front front image there state k = subst (λ (groups : List Group). Appends old new (evicted_text groups)) (sym (trim-groups state)) (for-none cache parts told (λ s covered. Appends old new (evicted_text (evicted_until (is_met (goal.Bytes bytes)) s covered))) is front image there state k)

@@ -12,7 +12,7 @@ use Rattle.blk_cache.specs.declared.goal.Goal.TheVariants.{Bytes, Room}
 use Rattle.blk_items.specs.declared.list_places.Unpinned.{Unpinned}
 use Rattle.blk_cache.specs.CacheKeeping.{KeepsState}
 use Rattle.blk_items.specs.RoomLaws.{group_for}
-use Rattle.blk_items.specs.ListPlaces.{IsLastAt}
+use Rattle.blk_items.specs.ListPlaces.{MayGoAt}
 
 -- whether a goal is met: so many more bytes and items fit below the low-water mark, or no more bytes are left
 abbrev pub is_met : Goal → State → Bool
@@ -44,12 +44,12 @@ pub record KeepsInPlaces (cache : Cache) (state : State) (layout : Layout) (imag
   pub kept : KeepsState cache state image
   pub places : kept.layout.place ≡ layout.place
 
--- what holds of each state that a cache keeps in which this is the last item that isn't pinned: by its layout, and the group of the item
-abbrev pub ForEachLast : Cache → Unpinned → Image → (State → Layout → Group → Type 0) → Type 0
-ForEachLast cache found image P = (state : State) (kept : KeepsState cache state image) (last : IsLastAt state kept.layout found) → P state kept.layout (group_for last.item last.front)
+-- what holds of each state that a cache keeps in which this item may go: by its layout, and the group of the item
+abbrev pub ForEachThatMayGo : Cache → Unpinned → Image → (State → Layout → Group → Type 0) → Type 0
+ForEachThatMayGo cache found image P = (state : State) (kept : KeepsState cache state image) (at : MayGoAt state kept.layout found) → P state kept.layout (group_for at.item at.front)
 
--- a cache keeps some state in which this is the last item that isn't pinned
-pub record KeepsLastAt (cache : Cache) (found : Unpinned) (image : Image) : Type 0 where
+-- a cache keeps some state in which this item may go
+pub record KeepsThatMayGo (cache : Cache) (found : Unpinned) (image : Image) : Type 0 where
   pub state : State
   pub kept : KeepsState cache state image
-  pub last : IsLastAt state kept.layout found
+  pub at : MayGoAt state kept.layout found

@@ -6,6 +6,7 @@ pub mod OpeningLaws
 pub mod CommandClauses
 pub mod Creating
 pub mod CreatingLaws
+pub mod Covering
 pub mod RoomSearch
 pub mod RoomKept
 pub mod Evicting

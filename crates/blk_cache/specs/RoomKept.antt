@@ -13,7 +13,7 @@ use Rattle.blk_kept.specs.RemovalLaws.{layout_removed}
 use Rattle.blk_disk.specs.Tables.{Agrees}
 use Rattle.blk_cache.specs.declared.cache.Cache.{Cache}
 use Rattle.blk_cache.specs.CacheKeeping.{KeepsState}
-use Rattle.blk_items.specs.RoomLaws.{IsLastUnpinned, NamedObjectsStay, group_for, item_charge}
+use Rattle.blk_items.specs.RoomLaws.{MayGo, NamedObjectsStay, group_for, item_charge}
 
 -- a cache has so many items and bytes less; its names, its limits and its mark are as before
 pub record HasFewer (old new : Cache) (item_count charged : ℕ) : Type 0 where
@@ -37,21 +37,21 @@ pub record KeepsBy (cache : Cache) (state : State) (layout : Layout) (image : Im
   pub kept : KeepsState cache state image
   pub layout_is : kept.layout ≡ layout
 
--- then the cache keeps the state without the group by that layout, where it is the group of the last item that isn't pinned
+-- then the cache keeps the state without the group by that layout, where it is the group of an item that may go
 abbrev pub EvictedStatesAreKept : Type 0
 EvictedStatesAreKept =
     (state : State) (front : List Item) (item : Item) (behind : List Item) (left : Layout) (old new : Cache) (from image : Image) (k : KeepsState old state from)
-    → IsLastUnpinned state [] front item behind → IsEvicted state (group_for item front) k.layout left old new from image
+    → MayGo state front item behind → IsEvicted state (group_for item front) k.layout left old new from image
     → KeepsBy new (without (group_for item front ∷ []) state) left image
 
--- where an item goes alone that isn't pinned, each object that a handle names lies where it lay
+-- where an item goes alone that may go, each object that a handle names lies where it lay
 abbrev pub NamedObjectsLieApart : Type 0
 NamedObjectsLieApart =
-    (cache : Cache) (state : State) (image : Image) (front : List Item) (item : Item) (behind : List Item) (contents : ℕ) (k : KeepsState cache state image) → IsLastUnpinned state [] front item behind
+    (cache : Cache) (state : State) (image : Image) (front : List Item) (item : Item) (behind : List Item) (contents : ℕ) (k : KeepsState cache state image) → MayGo state front item behind
     → NamedObjectsStay (without (group_for item front ∷ []) state) k.layout (layout_removed k.layout (k.layout.place item) contents)
 
 -- and so where a whole object goes that no handle names, with its parts
 abbrev pub WholeGroupsLieApart : Type 0
 WholeGroupsLieApart =
-    (cache : Cache) (state : State) (image : Image) (front : List Item) (key : List ℕ) (behind : List Item) (chains : ℕ → List ℕ) (k : KeepsState cache state image) → IsLastUnpinned state [] front (main key) behind
+    (cache : Cache) (state : State) (image : Image) (front : List Item) (key : List ℕ) (behind : List Item) (chains : ℕ → List ℕ) (k : KeepsState cache state image) → MayGo state front (main key) behind
     → NamedObjectsStay (without (group_for (main key) front ∷ []) state) k.layout (layout_less k.layout (gone_nodes state k.layout (is_of_another key)) chains)

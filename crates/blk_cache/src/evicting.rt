@@ -8,22 +8,22 @@ ghost use Rattle.blk_model.specs.Room.{evicted_until, without};
 ghost use Rattle.blk_script.specs.Reply.{evicted_text};
 ghost use Rattle.blk_disk.specs.Open.{IsOpen};
 ghost use Rattle.blk_disk.specs.Tables.{is_node_among, is_record_among};
-ghost use Rattle.blk_kept.specs.Commands.{ForKept};
 ghost use Rattle.blk_object.specs.FailedChecks.{IsFailedCheck};
 ghost use Rattle.blk_object.specs.RemovingObjects.{FindsEither};
 ghost use Rattle.blk_cache.specs.CacheKeeping.{KeepsState};
-ghost use Rattle.blk_cache.specs.CommandClauses.{KeepsAny};
-ghost use Rattle.blk_cache.specs.Evicting.{ForEachLast, IsEvicting, KeepsInPlaces, KeepsLastAt, OnlyItemsChange, count_of_groups, is_met};
+ghost use Rattle.blk_cache.specs.Covering.{ForCovered, KeepsCovered};
+ghost use Rattle.blk_cache.specs.Evicting.{ForEachThatMayGo, IsEvicting, KeepsInPlaces, KeepsThatMayGo, OnlyItemsChange, count_of_groups, is_met};
 ghost use Rattle.blk_items.specs.RoomPrinting.{FailsWhereItRose, Prints};
 
 use crate::cache::Cache;
+use crate::covered::Covered;
 use crate::goal::Goal;
 use blk_io::{Fault, Folder, Sink};
 use blk_items::{Unpinned, evict_group};
 
 impl Cache {
     /// Evicts groups, each that of the last item that isn't pinned, until enough is evicted or each item is pinned, and
-    /// prints each item of them. It tells how many items went. No part is pinned here.
+    /// prints each item of them. It tells how many items went. The covered parts are pinned.
     ///
     /// After a fault nothing is promised of the cache but that it may be let go. Where the sink fails nothing more is
     /// printed, and the eviction goes on.
@@ -33,17 +33,18 @@ impl Cache {
         out: &mut K,
         failed: &mut bool,
         goal: &Goal,
+        parts: &Covered,
     ) -> Result<u64, Fault>
         requires is_open { ForSome (F.told f.old).files (IsOpen self.old.files) }
 
         // Each state that was kept is kept without the groups that go, and these are counted and printed.
-        ensures evicted { OnOk result (ForKept (KeepsState self.old) (F.told f.old) (λ state. ForSome (F.told f.new).files (KeepsState self.new (without (evicted_until (is_met goal.now) state []) state)))) }
-        ensures counts { IfOk result (λ count. ForKept (KeepsState self.old) (F.told f.old) (λ state. count ≡ count_of_groups (evicted_until (is_met goal.now) state []))) }
-        ensures prints { OnOk result (ForKept (KeepsState self.old) (F.told f.old) (λ state. Prints failed.old failed.new (K.written out.old) (K.written out.new) (evicted_text (evicted_until (is_met goal.now) state [])))) }
+        ensures evicted { OnOk result (ForCovered self.old parts.now (F.told f.old) (λ state covered. ForSome (F.told f.new).files (KeepsState self.new (without (evicted_until (is_met goal.now) state covered) state)))) }
+        ensures counts { IfOk result (λ count. ForCovered self.old parts.now (F.told f.old) (λ state covered. count ≡ count_of_groups (evicted_until (is_met goal.now) state covered))) }
+        ensures prints { OnOk result (ForCovered self.old parts.now (F.told f.old) (λ state covered. Prints failed.old failed.new (K.written out.old) (K.written out.new) (evicted_text (evicted_until (is_met goal.now) state covered)))) }
 
         // At each word the first of them are out; on any answer a front of their text was printed.
-        ensures stops { ForKept (KeepsState self.old) (F.told f.old) (λ state. Passes (F.told f.old) (F.told f.new) (IsEvicting (evicted_until (is_met goal.now) state []) state)) }
-        ensures front { ForKept (KeepsState self.old) (F.told f.old) (λ state. Appends (K.written out.old) (K.written out.new) (evicted_text (evicted_until (is_met goal.now) state []))) }
+        ensures stops { ForCovered self.old parts.now (F.told f.old) (λ state covered. Passes (F.told f.old) (F.told f.new) (IsEvicting (evicted_until (is_met goal.now) state covered) state)) }
+        ensures front { ForCovered self.old parts.now (F.told f.old) (λ state covered. Appends (K.written out.old) (K.written out.new) (evicted_text (evicted_until (is_met goal.now) state covered))) }
 
         // Where the sink failed before nothing is printed.
         ensures quiet { failed.old ≡ true → (failed.new ≡ true) × (K.written out.new ≡ K.written out.old) }
@@ -54,15 +55,15 @@ impl Cache {
         // A damage is a check that fails on what is read here; nothing is written after it.
         ensures damaged { IfDamaged result (IsFailedCheck self.new.files (F.told f.new)) }
 
-        // A folder that tells its files gives no damage where the cache keeps a state.
-        ensures untold { ForSome (F.told f.old).files (KeepsAny self.old) → IfDamaged result (λ _. (F.told f.old).files ≡ None) }
+        // A folder that tells its files gives no damage where the cache keeps a state, in which these parts are covered.
+        ensures untold { ForSome (F.told f.old).files (KeepsCovered self.old parts.now) → IfDamaged result (λ _. (F.told f.old).files ≡ None) }
         ensures silent { (F.told f.old).files ≡ None → (F.told f.new).files ≡ None }
         ensures later { F.faults f.old ≤ F.faults f.new }
         ensures sink_later { K.faults out.old ≤ K.faults out.new }
         ensures device { IfDevice result (Rises (F.faults f.old) (F.faults f.new)) }
     {
         let before = self.items;
-        self.evict_groups(f, out, failed, goal)?;
+        self.evict_groups(f, out, failed, goal, parts)?;
         Ok(before.saturating_sub(self.items))
     }
 
@@ -73,19 +74,20 @@ impl Cache {
         out: &mut K,
         failed: &mut bool,
         goal: &Goal,
+        parts: &Covered,
     ) -> Result<(), Fault>
         requires is_open { ForSome (F.told f.old).files (IsOpen self.old.files) }
-        ensures evicted { OnOk result (ForKept (KeepsState self.old) (F.told f.old) (λ state. ForSome (F.told f.new).files (KeepsState self.new (without (evicted_until (is_met goal.now) state []) state)))) }
-        ensures counts { OnOk result (ForKept (KeepsState self.old) (F.told f.old) (λ state. self.old.items ≡ self.new.items + count_of_groups (evicted_until (is_met goal.now) state []))) }
-        ensures prints { OnOk result (ForKept (KeepsState self.old) (F.told f.old) (λ state. Prints failed.old failed.new (K.written out.old) (K.written out.new) (evicted_text (evicted_until (is_met goal.now) state [])))) }
-        ensures stops { ForKept (KeepsState self.old) (F.told f.old) (λ state. Passes (F.told f.old) (F.told f.new) (IsEvicting (evicted_until (is_met goal.now) state []) state)) }
-        ensures front { ForKept (KeepsState self.old) (F.told f.old) (λ state. Appends (K.written out.old) (K.written out.new) (evicted_text (evicted_until (is_met goal.now) state []))) }
+        ensures evicted { OnOk result (ForCovered self.old parts.now (F.told f.old) (λ state covered. ForSome (F.told f.new).files (KeepsState self.new (without (evicted_until (is_met goal.now) state covered) state)))) }
+        ensures counts { OnOk result (ForCovered self.old parts.now (F.told f.old) (λ state covered. self.old.items ≡ self.new.items + count_of_groups (evicted_until (is_met goal.now) state covered))) }
+        ensures prints { OnOk result (ForCovered self.old parts.now (F.told f.old) (λ state covered. Prints failed.old failed.new (K.written out.old) (K.written out.new) (evicted_text (evicted_until (is_met goal.now) state covered)))) }
+        ensures stops { ForCovered self.old parts.now (F.told f.old) (λ state covered. Passes (F.told f.old) (F.told f.new) (IsEvicting (evicted_until (is_met goal.now) state covered) state)) }
+        ensures front { ForCovered self.old parts.now (F.told f.old) (λ state covered. Appends (K.written out.old) (K.written out.new) (evicted_text (evicted_until (is_met goal.now) state covered))) }
         ensures quiet { failed.old ≡ true → (failed.new ≡ true) × (K.written out.new ≡ K.written out.old) }
         ensures fails { FailsWhereItRose failed.old failed.new (K.faults out.old) (K.faults out.new) }
         ensures others { OnlyItemsChange self.old self.new }
         ensures is_open { ForSome (F.told f.new).files (IsOpen self.new.files) }
         ensures damaged { IfDamaged result (IsFailedCheck self.new.files (F.told f.new)) }
-        ensures untold { ForSome (F.told f.old).files (KeepsAny self.old) → IfDamaged result (λ _. (F.told f.old).files ≡ None) }
+        ensures untold { ForSome (F.told f.old).files (KeepsCovered self.old parts.now) → IfDamaged result (λ _. (F.told f.old).files ≡ None) }
         ensures silent { (F.told f.old).files ≡ None → (F.told f.new).files ≡ None }
         ensures later { F.faults f.old ≤ F.faults f.new }
         ensures sink_later { K.faults out.old ≤ K.faults out.new }
@@ -97,7 +99,7 @@ impl Cache {
             if self.is_met(goal) {
                 return Ok(());
             }
-            let Some(found) = self.last_unpinned(f, behind)? else {
+            let Some(found) = self.last_unpinned(f, behind, parts)? else {
                 return Ok(());
             };
             behind = found.behind;
@@ -118,17 +120,17 @@ impl Cache {
         requires record_stands { IsTrue (is_record_among self.old.files found.now.entry) }
         requires is_open { ForSome (F.told f.old).files (IsOpen self.old.files) }
 
-        // Where it is the last item that isn't pinned of a state that was kept, that is kept without its group.
-        ensures evicted { OnOk result (ForSome (F.told f.old).files (λ from. ForEachLast self.old found.now from (λ state layout group. ForSome (F.told f.new).files (KeepsInPlaces self.new (without (group ∷ []) state) layout)))) }
-        ensures prints { OnOk result (ForSome (F.told f.old).files (λ from. ForEachLast self.old found.now from (λ state layout group. Prints failed.old failed.new (K.written out.old) (K.written out.new) (evicted_text (group ∷ []))))) }
-        ensures stops { ForSome (F.told f.old).files (λ from. ForEachLast self.old found.now from (λ state layout group. Passes (F.told f.old) (F.told f.new) (FindsEither state (without (group ∷ []) state)))) }
-        ensures front { ForSome (F.told f.old).files (λ from. ForEachLast self.old found.now from (λ state layout group. Appends (K.written out.old) (K.written out.new) (evicted_text (group ∷ [])))) }
+        // Where it may go in a state that was kept, that is kept without its group.
+        ensures evicted { OnOk result (ForSome (F.told f.old).files (λ from. ForEachThatMayGo self.old found.now from (λ state layout group. ForSome (F.told f.new).files (KeepsInPlaces self.new (without (group ∷ []) state) layout)))) }
+        ensures prints { OnOk result (ForSome (F.told f.old).files (λ from. ForEachThatMayGo self.old found.now from (λ state layout group. Prints failed.old failed.new (K.written out.old) (K.written out.new) (evicted_text (group ∷ []))))) }
+        ensures stops { ForSome (F.told f.old).files (λ from. ForEachThatMayGo self.old found.now from (λ state layout group. Passes (F.told f.old) (F.told f.new) (FindsEither state (without (group ∷ []) state)))) }
+        ensures front { ForSome (F.told f.old).files (λ from. ForEachThatMayGo self.old found.now from (λ state layout group. Appends (K.written out.old) (K.written out.new) (evicted_text (group ∷ [])))) }
         ensures quiet { failed.old ≡ true → (failed.new ≡ true) × (K.written out.new ≡ K.written out.old) }
         ensures fails { FailsWhereItRose failed.old failed.new (K.faults out.old) (K.faults out.new) }
         ensures others { OnlyItemsChange self.old self.new }
         ensures is_open { ForSome (F.told f.new).files (IsOpen self.new.files) }
         ensures damaged { IfDamaged result (IsFailedCheck self.new.files (F.told f.new)) }
-        ensures untold { ForSome (F.told f.old).files (KeepsLastAt self.old found.now) → IfDamaged result (λ _. (F.told f.old).files ≡ None) }
+        ensures untold { ForSome (F.told f.old).files (KeepsThatMayGo self.old found.now) → IfDamaged result (λ _. (F.told f.old).files ≡ None) }
         ensures silent { (F.told f.old).files ≡ None → (F.told f.new).files ≡ None }
         ensures later { F.faults f.old ≤ F.faults f.new }
         ensures sink_later { K.faults out.old ≤ K.faults out.new }

@@ -4,6 +4,7 @@
 mod asking;
 mod cache;
 mod close;
+mod covered;
 mod create;
 mod create_laws;
 mod doom;

@@ -14,11 +14,13 @@ ghost use Rattle.blk_kept.specs.Commands.{ForKept};
 ghost use Rattle.blk_object.specs.FailedChecks.{IsFailedCheck};
 ghost use Rattle.blk_cache.specs.CacheKeeping.{KeepsState};
 ghost use Rattle.blk_cache.specs.CommandClauses.{KeepsAny};
+ghost use Rattle.blk_cache.specs.Covering.{ForCovered, KeepsCovered};
 ghost use Rattle.blk_cache.specs.Evicting.{IsEvicting, OnlyItemsChange};
 ghost use Rattle.blk_cache.specs.MakingRoom.{says_full};
 ghost use Rattle.blk_items.specs.RoomPrinting.{FailsWhereItRose, Prints};
 
 use crate::cache::Cache;
+use crate::covered::Covered;
 use crate::goal::Goal;
 use blk_io::{Fault, Folder, Sink};
 
@@ -35,8 +37,7 @@ impl Cache {
     /// Makes room for so many more bytes and items, where there can be room, and prints what is evicted for it. No part
     /// is covered.
     ///
-    /// Nothing is evicted where they fit, or nothing is asked for; and whether there can be room is told by what is kept
-    /// in memory. After a fault nothing is promised of the cache but that it may be let go.
+    /// After a fault nothing is promised of the cache but that it may be let go.
     pub(crate) fn make_room<F: Folder, K: Sink>(
         &mut self,
         f: &mut F,
@@ -77,13 +78,62 @@ impl Cache {
         ensures sink_later { K.faults out.old ≤ K.faults out.new }
         ensures device { IfDevice result (Rises (F.faults f.old) (F.faults f.new)) }
     {
-        if self.is_full(bytes, items) {
+        self.make_room_beside(f, out, failed, bytes, items, &Covered::none())
+    }
+
+    /// Makes room for so many more bytes and items, where there can be room, and prints what is evicted for it. The
+    /// covered parts stay.
+    ///
+    /// Nothing is evicted where they fit, or nothing is asked for; and whether there can be room is told by what is kept
+    /// in memory. After a fault nothing is promised of the cache but that it may be let go.
+    pub(crate) fn make_room_beside<F: Folder, K: Sink>(
+        &mut self,
+        f: &mut F,
+        out: &mut K,
+        failed: &mut bool,
+        bytes: u64,
+        items: u64,
+        parts: &Covered,
+    ) -> Result<Room, Fault>
+        requires is_open { ForSome (F.told f.old).files (IsOpen self.old.files) }
+
+        // There is no room exactly where the map has none; then nothing is done.
+        ensures full { IfOk result (λ answer. ForCovered self.old parts.now (F.told f.old) (λ state covered. says_full answer ≡ is_full_room (room state covered bytes items))) }
+        ensures stays { IfOk result (λ answer. says_full answer ≡ true → Stays (F.told f.old) (F.told f.new)) }
+        ensures unchanged { IfOk result (λ answer. says_full answer ≡ true → self.new ≡ self.old) }
+        ensures unprinted { IfOk result (λ answer. says_full answer ≡ true → K.written out.new ≡ K.written out.old) }
+
+        // Each state that was kept is kept without what is evicted for it, and that is printed.
+        ensures made { OnOk result (ForCovered self.old parts.now (F.told f.old) (λ state covered. ForSome (F.told f.new).files (KeepsState self.new (without (evicted_for (room state covered bytes items)) state)))) }
+        ensures prints { OnOk result (ForCovered self.old parts.now (F.told f.old) (λ state covered. Prints failed.old failed.new (K.written out.old) (K.written out.new) (evicted_text (evicted_for (room state covered bytes items))))) }
+
+        // At each word the first of that are out; on any answer a front of its text was printed.
+        ensures stops { ForCovered self.old parts.now (F.told f.old) (λ state covered. Passes (F.told f.old) (F.told f.new) (IsEvicting (evicted_for (room state covered bytes items)) state)) }
+        ensures front { ForCovered self.old parts.now (F.told f.old) (λ state covered. Appends (K.written out.old) (K.written out.new) (evicted_text (evicted_for (room state covered bytes items)))) }
+
+        // Where the sink failed before nothing is printed.
+        ensures quiet { failed.old ≡ true → (failed.new ≡ true) × (K.written out.new ≡ K.written out.old) }
+        ensures fails { FailsWhereItRose failed.old failed.new (K.faults out.old) (K.faults out.new) }
+        ensures others { OnlyItemsChange self.old self.new }
+        ensures is_open { ForSome (F.told f.new).files (IsOpen self.new.files) }
+
+        // A damage is a check that fails on what is read here; nothing is written after it.
+        ensures damaged { IfDamaged result (IsFailedCheck self.new.files (F.told f.new)) }
+
+        // A folder that tells its files gives no damage where the cache keeps a state, in which these parts are covered.
+        ensures untold { ForSome (F.told f.old).files (KeepsCovered self.old parts.now) → IfDamaged result (λ _. (F.told f.old).files ≡ None) }
+        ensures silent { (F.told f.old).files ≡ None → (F.told f.new).files ≡ None }
+        ensures later { F.faults f.old ≤ F.faults f.new }
+        ensures sink_later { K.faults out.old ≤ K.faults out.new }
+        ensures device { IfDevice result (Rises (F.faults f.old) (F.faults f.new)) }
+    {
+        if self.is_full(bytes, items, parts) {
             return Ok(Room::Full);
         }
         if self.wants_none(bytes, items) {
             return Ok(Room::Made);
         }
-        self.evict_until(f, out, failed, &Goal::Room { bytes, items })?;
+        self.evict_until(f, out, failed, &Goal::Room { bytes, items }, parts)?;
         Ok(Room::Made)
     }
 

@@ -1,38 +1,42 @@
 // Where there is room.
-ghost use Rattle.std.specs.Prelude.{◌≡◌, ◌&&◌, ◌+◌, ◌<◌, ◌==◌, ◌^◌, [], nat_le, nat_lt, not};
+ghost use Rattle.std.specs.Prelude.{◌≡◌, ◌&&◌, ◌+◌, ◌<◌, ◌==◌, ◌^◌, List, nat_le, nat_lt, not};
 ghost use Rattle.blk_image.specs.Image.{Image};
+ghost use Rattle.blk_model.specs.Items.{Item};
 ghost use Rattle.blk_model.specs.Refusals.{is_full};
 ghost use Rattle.blk_model.specs.Room.{fits, low, room};
 ghost use Rattle.blk_model.specs.State.{State};
 ghost use Rattle.blk_model.specs.Bounds.{bounds_of};
 ghost use Rattle.blk_handles.specs.Bindings.{open_count};
 ghost use Rattle.blk_cache.specs.CacheKeeping.{KeepsState};
+ghost use Rattle.blk_cache.specs.Covering.{AreCovered, part_count};
 ghost use Rattle.blk_cache.specs.RoomTold.{is_over};
 
 use crate::cache::Cache;
+use crate::covered::Covered;
 
 // A cache goes down to its limit less so much of it, once items are evicted.
 const FREE_SHARE: u64 = 16;
 
 impl Cache {
-    /// Whether there is no room for so many more bytes and items: the open objects and what is added exceed a limit. No
-    /// part is covered.
-    pub(crate) fn is_full(&self, bytes: u64, items: u64) -> bool
-        ensures full { (state : State) (image : Image) → KeepsState self.now state image → result ≡ is_full (room state [] bytes items) }
+    /// Whether there is no room for so many more bytes and items: the open objects, the covered parts and what is added
+    /// exceed a limit.
+    pub(crate) fn is_full(&self, bytes: u64, items: u64, parts: &Covered) -> bool
+        ensures full { (state : State) (image : Image) (kept : KeepsState self.now state image) (covered : List Item) → AreCovered state kept.layout covered parts.now → result ≡ is_full (room state covered bytes items) }
     {
-        self.asks_too_much(bytes, items)
+        self.asks_too_much(bytes, items, parts)
     }
 
-    // Whether something is asked for, and the open objects and what is added exceed a limit.
-    fn asks_too_much(&self, bytes: u64, items: u64) -> bool
-        ensures { result ≡ (not (bytes == 0 && items == 0) && is_over (bounds_of self.now.limits) self.now.open_bytes (open_count self.now.handles) bytes items) }
+    // Whether something is asked for, and the open objects, the covered parts and what is added exceed a limit.
+    fn asks_too_much(&self, bytes: u64, items: u64, parts: &Covered) -> bool
+        ensures { result ≡ (not (bytes == 0 && items == 0) && is_over (bounds_of self.now.limits) (self.now.open_bytes + parts.now.bytes) (open_count self.now.handles + part_count parts.now) bytes items) }
     {
         if bytes == 0 && items == 0 {
             return false;
         }
         let open = self.handles.open_objects() as u64;
         let most_items = u64::from(self.limits.max_items);
-        exceeds(self.open_bytes, bytes, self.limits.max_bytes) || exceeds(open, items, most_items)
+        exceed(self.open_bytes, parts.bytes, bytes, self.limits.max_bytes)
+            || exceed(open, parts.count(), items, most_items)
     }
 
     /// Whether so many more bytes and items fit.
@@ -67,6 +71,14 @@ pub(crate) fn exceeds(number: u64, more: u64, most: u64) -> bool
     ensures { result ≡ nat_lt most (number + more) }
 {
     number.saturating_add(more) > most
+}
+
+// Whether two numbers and one more exceed a limit.
+fn exceed(number: u64, other: u64, more: u64, most: u64) -> bool
+    requires small { most < 2 ^ 63 }
+    ensures { result ≡ nat_lt most (number + other + more) }
+{
+    number.saturating_add(other).saturating_add(more) > most
 }
 
 // Whether a number and one more are within a limit.

@@ -1,16 +1,20 @@
 // The last item of the use list that isn't pinned.
-ghost use Rattle.std.specs.Prelude.{◌≡◌, ◌≤◌, IfOk, IfSome, IsTrue, None};
+ghost use Rattle.std.specs.Prelude.{◌≡◌, ◌≤◌, ◌||◌, IfOk, IfSome, IsTrue, List, None};
 ghost use Rattle.std.specs.Option.{ForSome};
 ghost use Rattle.blk_image.specs.Told.{Rises, Stays};
 ghost use Rattle.blk_io.specs.Faults.{IfDamaged, IfDevice};
+ghost use Rattle.blk_model.specs.Items.{Item};
 ghost use Rattle.blk_model.specs.State.{State};
 ghost use Rattle.blk_disk.specs.Tables.{is_node_among, is_record_among};
+ghost use Rattle.blk_handles.specs.Bindings.{is_open};
 ghost use Rattle.blk_object.specs.FailedChecks.{IsFailedCheck};
 ghost use Rattle.blk_cache.specs.CacheKeeping.{KeepsState};
+ghost use Rattle.blk_cache.specs.Covering.{LieCovered, covers};
 ghost use Rattle.blk_items.specs.ListPlaces.{IsLast, IsPinnedFrom};
 ghost use Rattle.blk_cache.specs.RoomSearch.{KeepsPinnedFrom};
 
 use crate::cache::Cache;
+use crate::covered::Covered;
 use blk_addr::Addr;
 use blk_io::{Fault, Folder};
 use blk_items::{Unpinned, in_front};
@@ -18,14 +22,15 @@ use blk_object::entry_named;
 
 impl Cache {
     /// The last item of the use list that isn't pinned, of those in front of a node, from which on all are; without a
-    /// node, of all items. No part is pinned here. Nothing is written.
+    /// node, of all items. Nothing is written.
     pub(crate) fn last_unpinned<F: Folder>(
         &self,
         f: &mut F,
         behind: Option<Addr>,
+        parts: &Covered,
     ) -> Result<Option<Unpinned>, Fault>
         requires stands { IfSome behind (λ node. IsTrue (is_node_among self.now.files node)) }
-        ensures last { IfOk result (λ found. ForSome (F.told f.old).files (λ image. (state : State) (kept : KeepsState self.now state image) → IsPinnedFrom state kept.layout behind → IsLast state kept.layout found)) }
+        ensures last { IfOk result (λ found. ForSome (F.told f.old).files (λ image. (state : State) (kept : KeepsState self.now state image) (covered : List Item) → LieCovered state kept.layout covered parts.now → IsPinnedFrom state kept.layout covered behind → IsLast state kept.layout covered found)) }
         ensures node_stands { IfOk result (λ found. IfSome found (λ item. IsTrue (is_node_among self.now.files item.node))) }
         ensures record_stands { IfOk result (λ found. IfSome found (λ item. IsTrue (is_record_among self.now.files item.entry))) }
         ensures next_stands { IfOk result (λ found. IfSome found (λ item. IfSome item.behind (λ node. IsTrue (is_node_among self.now.files node)))) }
@@ -35,7 +40,7 @@ impl Cache {
         ensures damaged { IfDamaged result (IsFailedCheck self.now.files (F.told f.new)) }
 
         // A folder that tells its files gives no damage where the cache keeps a state.
-        ensures untold { ForSome (F.told f.old).files (KeepsPinnedFrom self.now behind) → IfDamaged result (λ _. (F.told f.old).files ≡ None) }
+        ensures untold { ForSome (F.told f.old).files (KeepsPinnedFrom self.now parts.now behind) → IfDamaged result (λ _. (F.told f.old).files ≡ None) }
 
         ensures later { F.faults f.old ≤ F.faults f.new }
         ensures device { IfDevice result (Rises (F.faults f.old) (F.faults f.new)) }
@@ -46,7 +51,7 @@ impl Cache {
                 return Ok(None);
             };
             let entry = entry_named(f, &self.files, node)?;
-            if !self.handles.is_pinned(entry) {
+            if !self.pins(entry, node, parts) {
                 return Ok(Some(Unpinned {
                     node,
                     entry,
@@ -56,5 +61,12 @@ impl Cache {
             behind = Some(node);
         }
         Ok(None)
+    }
+
+    // Whether the item with this record and node is pinned: a handle names its object, or it is a covered part.
+    fn pins(&self, entry: Addr, node: Addr, parts: &Covered) -> bool
+        ensures { result ≡ (is_open self.now.handles entry || covers parts.now node) }
+    {
+        self.handles.is_pinned(entry) || parts.has(node)
     }
 }

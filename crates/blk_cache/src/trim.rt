@@ -13,6 +13,7 @@ ghost use Rattle.blk_items.specs.RoomPrinting.{FailsWhereItRose};
 ghost use Rattle.blk_cache.specs.Stepping.{SaysEvicted, SaysFront};
 
 use crate::cache::Cache;
+use crate::covered::Covered;
 use crate::goal::Goal;
 use blk_io::{Fault, Folder, Sink};
 use blk_model::Answer;
@@ -53,7 +54,7 @@ impl Cache {
         ensures sink_later { K.faults out.old ≤ K.faults out.new }
         ensures device { IfDevice result (Rises (F.faults f.old) (F.faults f.new)) }
     {
-        let count = self.evict_until(f, out, failed, &Goal::Bytes(bytes))?;
+        let count = self.evict_until(f, out, failed, &Goal::Bytes(bytes), &Covered::none())?;
         Ok(Answer::Trimmed(count))
     }
 }

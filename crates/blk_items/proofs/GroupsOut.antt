@@ -59,10 +59,10 @@ use Rattle.blk_items.specs.declared.item_names.EntryKind.TheVariants as kinds
 use Rattle.blk_items.specs.declared.item_names.Named.{Named}
 use Rattle.blk_items.specs.declared.list_places.Unpinned.{Unpinned}
 use Rattle.blk_items.specs.EvictingGroups.{GoesAs, IsGroupOut, IsNamedAs, alone_kind, kind_of_role, kind_said}
-use Rattle.blk_items.specs.RoomLaws.{IsLastUnpinned, NamedObjectsStay, group_for, item_charge}
-use Rattle.blk_items.specs.ListPlaces.{IsLastAt}
+use Rattle.blk_items.specs.RoomLaws.{MayGo, NamedObjectsStay, group_for, item_charge}
+use Rattle.blk_items.specs.ListPlaces.{MayGoAt}
 use Rattle.blk_items.proofs.RoomApart.{alone-apart}
-use Rattle.blk_items.proofs.RoomGroups.{in-middle, parts-front}
+use Rattle.blk_items.proofs.RoomGroups.{in-middle}
 
 none-role : (role : Role) → ◌≡◌ {A = Option Role} None (Some role) → ⊥
 none-role role e = cc
@@ -211,22 +211,22 @@ pub record GoesSo (state : State) (layout : Layout) (group : Group) (item : Item
 
 -- the last item that isn't pinned, and what lies there
 module _ (state : State) (layout : Layout) (image : Image) (k : KeepsUncounted state layout [] image) (front behind : List Item) (loaded : Loaded) where
-  pub last-listed : (item : Item) → IsLastUnpinned state [] front item behind → is_listed state item ≡ true
+  pub last-listed : (item : Item) → MayGo state front item behind → is_listed state item ≡ true
   last-listed item is = ap (λ (l : List Item). is_in l item) is.listed ∙ in-middle front item behind
 
-  main-no-part : (key : List ℕ) (is : IsLastUnpinned state [] front (main key) behind) → layout.at (layout.place (main key)) ≡ Some loaded → kind_of_role loaded.role ≡ kinds.Part → ⊥
+  main-no-part : (key : List ℕ) (is : MayGo state front (main key) behind) → layout.at (layout.place (main key)) ≡ Some loaded → kind_of_role loaded.role ≡ kinds.Part → ⊥
   main-no-part key is here kind = no (part-is state layout [] image k (main key) loaded (last-listed (main key) is) here kind) where
     no : IsPartOf (main key) loaded → ⊥
     no p = let e : main key ≡ part p.name.key p.name.part = p.is in cc
 
   -- an entry without an index
-  main-plain : (key : List ℕ) (is : IsLastUnpinned state [] front (main key) behind) → layout.at (layout.place (main key)) ≡ Some loaded → (b : Bool) → kind_of_role loaded.role ≡ alone_kind b → kind_of_role loaded.role ≡ kinds.Plain
+  main-plain : (key : List ℕ) (is : MayGo state front (main key) behind) → layout.at (layout.place (main key)) ≡ Some loaded → (b : Bool) → kind_of_role loaded.role ≡ alone_kind b → kind_of_role loaded.role ≡ kinds.Plain
   main-plain key is here true kind = absurd (main-no-part key is here kind)
   main-plain key is here false kind = kind
 
   module _ (b : Bool) (kind : kind_of_role loaded.role ≡ alone_kind b) where
     -- the group is the item alone
-    pub group-alone : (item : Item) → IsLastUnpinned state [] front item behind → layout.at (layout.place item) ≡ Some loaded → items_of_group (group_for item front) ≡ item ∷ []
+    pub group-alone : (item : Item) → MayGo state front item behind → layout.at (layout.place item) ≡ Some loaded → items_of_group (group_for item front) ≡ item ∷ []
     group-alone (part key n) is here = refl
     group-alone (main key) is here =
         let listed = last-listed (main key) is in
@@ -234,15 +234,15 @@ module _ (state : State) (layout : Layout) (image : Image) (k : KeepsUncounted s
         let none : o.object.parts ≡ [] = plain-no-parts state layout [] image k (main key) loaded listed here key refl (main-plain key is here b kind) in
         let same : key ≡ o.object.key = owner_key o.object (main key) o.has in
         let never : (m : ℕ) → is_in state.uses (part key m) ≡ true → ⊥ = λ m there. no-listed state o.number o.object k.valid o.here (owner_live o.object (main key) o.has) none m (ap (λ (x : List ℕ). is_in state.uses (part x m)) (sym same) ∙ there) in
-        ap (λ (ns : List ℕ). main key ∷ map (part key) ns) (parts-front state front behind key is ∙ none-among key state.uses never)
+        ap (λ (ns : List ℕ). main key ∷ map (part key) ns) (is.parts key refl ∙ none-among key state.uses never)
 
-    pub text-alone : (item : Item) → IsLastUnpinned state [] front item behind → layout.at (layout.place item) ≡ Some loaded → evicted_text (group_for item front ∷ []) ≡ evicted_line item
+    pub text-alone : (item : Item) → MayGo state front item behind → layout.at (layout.place item) ≡ Some loaded → evicted_text (group_for item front ∷ []) ≡ evicted_line item
     text-alone item is here =
         ap (flat_map evicted_line) (append-nil (items_of_group (group_for item front)))
         ∙ ap (flat_map evicted_line) (group-alone item is here)
         ∙ append-nil (evicted_line item)
 
-    goes-main : (key : List ℕ) (is : IsLastUnpinned state [] front (main key) behind) → layout.at (layout.place (main key)) ≡ Some loaded → (node entry : ℕ) (before : Option ℕ) → layout.place (main key) ≡ node → loaded.contents ≡ entry → LiesBehind state layout (main key) loaded before → GoesSo state layout (group_for (main key) front) (main key) node entry before
+    goes-main : (key : List ℕ) (is : MayGo state front (main key) behind) → layout.at (layout.place (main key)) ≡ Some loaded → (node entry : ℕ) (before : Option ℕ) → layout.place (main key) ≡ node → loaded.contents ≡ entry → LiesBehind state layout (main key) loaded before → GoesSo state layout (group_for (main key) front) (main key) node entry before
     goes-main key is here node entry before node_is entry_is lies =
         let listed = last-listed (main key) is in
         let o = owner-is state layout [] image k (main key) loaded listed here in
@@ -265,7 +265,7 @@ module _ (state : State) (layout : Layout) (image : Image) (k : KeepsUncounted s
           same = sym pa.1 ∙ sym (whole-groups-go state o.number o.object (parts_among key front) k.valid o.here live unnamed) ∙ ap (λ (x : List ℕ). without (whole x (parts_among key front) ∷ []) state) (sym same);
         }
 
-    goes-part : (key : List ℕ) (n : ℕ) (is : IsLastUnpinned state [] front (part key n) behind) → layout.at (layout.place (part key n)) ≡ Some loaded → (node entry : ℕ) (before : Option ℕ) → layout.place (part key n) ≡ node → loaded.contents ≡ entry → LiesBehind state layout (part key n) loaded before → GoesSo state layout (group_for (part key n) front) (part key n) node entry before
+    goes-part : (key : List ℕ) (n : ℕ) (is : MayGo state front (part key n) behind) → layout.at (layout.place (part key n)) ≡ Some loaded → (node entry : ℕ) (before : Option ℕ) → layout.place (part key n) ≡ node → loaded.contents ≡ entry → LiesBehind state layout (part key n) loaded before → GoesSo state layout (group_for (part key n) front) (part key n) node entry before
     goes-part key n is here node entry before node_is entry_is lies =
         let listed = last-listed (part key n) is in
         let o = owner-is state layout [] image k (part key n) loaded listed here in
@@ -286,15 +286,15 @@ module _ (state : State) (layout : Layout) (image : Image) (k : KeepsUncounted s
           same = pg.1 ∙ ap (λ (x : List ℕ). without (single x n ∷ []) state) (sym same);
         }
 
-    pub goes-alone : (item : Item) → IsLastUnpinned state [] front item behind → layout.at (layout.place item) ≡ Some loaded → (node entry : ℕ) (before : Option ℕ) → layout.place item ≡ node → loaded.contents ≡ entry → LiesBehind state layout item loaded before → GoesSo state layout (group_for item front) item node entry before
+    pub goes-alone : (item : Item) → MayGo state front item behind → layout.at (layout.place item) ≡ Some loaded → (node entry : ℕ) (before : Option ℕ) → layout.place item ≡ node → loaded.contents ≡ entry → LiesBehind state layout item loaded before → GoesSo state layout (group_for item front) item node entry before
     goes-alone (main key) is here node entry before node_is entry_is lies = goes-main key is here node entry before node_is entry_is lies
     goes-alone (part key n) is here node entry before node_is entry_is lies = goes-part key n is here node entry before node_is entry_is lies
 
-    pub child-alone : (item : Item) → IsLastUnpinned state [] front item behind → layout.at (layout.place item) ≡ Some loaded → is_child_item item ≡ b
+    pub child-alone : (item : Item) → MayGo state front item behind → layout.at (layout.place item) ≡ Some loaded → is_child_item item ≡ b
     child-alone item is here = ap is_child_item (sym (said-is state layout [] image k item loaded (last-listed item is) here)) ∙ child-of loaded.key loaded.streams loaded.role b kind
 
     -- once it is removed its group is out
-    pub alone-out : (item : Item) (is : IsLastUnpinned state [] front item behind) → layout.at (layout.place item) ≡ Some loaded → (node entry : ℕ) (before : Option ℕ) → (g : GoesSo state layout (group_for item front) item node entry before) → layout.place item ≡ node
+    pub alone-out : (item : Item) (is : MayGo state front item behind) → layout.at (layout.place item) ≡ Some loaded → (node entry : ℕ) (before : Option ℕ) → (g : GoesSo state layout (group_for item front) item node entry before) → layout.place item ≡ node
         → (now : Image) → Keeps (without_items state g.objects g.keep) (layout_removed layout node entry) [] now → (charge : ℕ) → charge ≡ charge_of loaded → SameSession image now → IsGroupOut state layout (group_for item front) (record { items = 1; bytes = charge }) image now
     alone-out item is here node entry before g node_is now kept charge charged session = record {
       left = layout_removed layout node entry;
@@ -312,20 +312,20 @@ module _ (state : State) (layout : Layout) (image : Image) (k : KeepsUncounted s
 
 module _ (state : State) (layout : Layout) (image : Image) (found : Unpinned) (b : Bool) (key : List ℕ) (is : GoesAs state layout found (alone_kind b) key image) where
   pub as-listed : is_listed state is.last.item ≡ true
-  as-listed = last-listed state layout image is.kept.entries is.last.front is.last.rest is.last.loaded is.last.item is.last.last
+  as-listed = last-listed state layout image is.kept.entries is.last.front is.last.rest is.last.loaded is.last.item is.last.goes
 
   pub as-child : is_child_item is.last.item ≡ b
-  as-child = child-alone state layout image is.kept.entries is.last.front is.last.rest is.last.loaded b is.kind_is is.last.item is.last.last is.last.here
+  as-child = child-alone state layout image is.kept.entries is.last.front is.last.rest is.last.loaded b is.kind_is is.last.item is.last.goes is.last.here
 
   pub as-text : evicted_text (group_for is.last.item is.last.front ∷ []) ≡ evicted_line is.last.item
-  as-text = text-alone state layout image is.kept.entries is.last.front is.last.rest is.last.loaded b is.kind_is is.last.item is.last.last is.last.here
+  as-text = text-alone state layout image is.kept.entries is.last.front is.last.rest is.last.loaded b is.kind_is is.last.item is.last.goes is.last.here
 
   module _ (entry : ℕ) (before : Option ℕ) (entry_is : is.last.loaded.contents ≡ entry) (lies : LiesBehind state layout is.last.item is.last.loaded before) where
     pub as-goes : GoesSo state layout (group_for is.last.item is.last.front) is.last.item found.node entry before
-    as-goes = goes-alone state layout image is.kept.entries is.last.front is.last.rest is.last.loaded b is.kind_is is.last.item is.last.last is.last.here found.node entry before (sym is.last.node) entry_is lies
+    as-goes = goes-alone state layout image is.kept.entries is.last.front is.last.rest is.last.loaded b is.kind_is is.last.item is.last.goes is.last.here found.node entry before (sym is.last.node) entry_is lies
 
     pub as-out : (now : Image) → Keeps (without_items state as-goes.objects as-goes.keep) (layout_removed layout found.node entry) [] now → (charge : ℕ) → charge ≡ charge_of is.last.loaded → SameSession image now → IsGroupOut state layout (group_for is.last.item is.last.front) (record { items = 1; bytes = charge }) image now
-    as-out now kept charge charged session = alone-out state layout image is.kept.entries is.last.front is.last.rest is.last.loaded b is.kind_is is.last.item is.last.last is.last.here found.node entry before as-goes (sym is.last.node) now kept charge charged session
+    as-out now kept charge charged session = alone-out state layout image is.kept.entries is.last.front is.last.rest is.last.loaded b is.kind_is is.last.item is.last.goes is.last.here found.node entry before as-goes (sym is.last.node) now kept charge charged session
 
 -- a listed item of a kept state is found, where it stands in its chain
 module _ (state : State) (layout : Layout) (unlinked : List ℕ) (image : Image) (k : KeepsUncounted state layout unlinked image) (item : Item) (was : Loaded) (listed : is_listed state item ≡ true) (here : layout.at (layout.place item) ≡ Some was) (name : List ℕ) (is_child : Bool) (key_is : was.key ≡ name) (child_is : is_child_item item ≡ is_child) where
@@ -397,13 +397,13 @@ key-read image entry loaded old new len with_record room piece =
     all-piece loaded.key old new len (omega (arith, short, room)) (piece loaded.key (key-there image entry loaded with_record))
 
 -- the last item that isn't pinned, as its record says
-abbrev pub goes-as : (state : State) (layout : Layout) (image : Image) (found : Unpinned) → Keeps state layout [] image → (last : IsLastAt state layout found) (named : Named) (bytes : List ℕ) → IsNamedAs last.loaded named bytes → (kind : EntryKind) → named.kind ≡ kind → GoesAs state layout found kind (take named.len bytes) image
+abbrev pub goes-as : (state : State) (layout : Layout) (image : Image) (found : Unpinned) → Keeps state layout [] image → (last : MayGoAt state layout found) (named : Named) (bytes : List ℕ) → IsNamedAs last.loaded named bytes → (kind : EntryKind) → named.kind ≡ kind → GoesAs state layout found kind (take named.len bytes) image
 goes-as state layout image found k last named bytes is kind kind_is = record { kept = k; last = last; kind_is = sym is.kind ∙ kind_is; key_is = sym is.key }
 
-abbrev pub goes-with : (state : State) (layout : Layout) (image : Image) (found : Unpinned) → Keeps state layout [] image → (last : IsLastAt state layout found) (named : Named) (bytes : List ℕ) → IsNamedAs last.loaded named bytes → (kind : EntryKind) → named.kind ≡ kind
+abbrev pub goes-with : (state : State) (layout : Layout) (image : Image) (found : Unpinned) → Keeps state layout [] image → (last : MayGoAt state layout found) (named : Named) (bytes : List ℕ) → IsNamedAs last.loaded named bytes → (kind : EntryKind) → named.kind ≡ kind
     → (key : List ℕ) → key ≡ take named.len bytes → GoesAs state layout found kind key image
 goes-with state layout image found k last named bytes is kind kind_is key same = record { kept = k; last = last; kind_is = sym is.kind ∙ kind_is; key_is = sym is.key ∙ sym same }
 
-pub loads-last : (state : State) (layout : Layout) (image : Image) (found : Unpinned) → Keeps state layout [] image → (last : IsLastAt state layout found) → LoadsWith found.entry last.loaded image
+pub loads-last : (state : State) (layout : Layout) (image : Image) (found : Unpinned) → Keeps state layout [] image → (last : MayGoAt state layout found) → LoadsWith found.entry last.loaded image
 loads-last state layout image found k last =
-    loads-there state layout [] image k.entries last.item last.loaded (last-listed state layout image k.entries last.front last.rest last.loaded last.item last.last) last.here found.entry (sym last.entry)
+    loads-there state layout [] image k.entries last.item last.loaded (last-listed state layout image k.entries last.front last.rest last.loaded last.item last.goes) last.here found.entry (sym last.entry)

@@ -24,7 +24,7 @@ use Rattle.blk_laws.proofs.states.Changing.{same-place}
 use Rattle.blk_laws.proofs.states.Laid.{IsNodeOf, is_among-node, node-of}
 use Rattle.blk_laws.proofs.states.Settling.{main-listed, main-owned}
 use Rattle.blk_object.specs.Writing.{node_of_object}
-use Rattle.blk_items.specs.RoomLaws.{IsLastUnpinned, NamedObjectsStay, group_for}
+use Rattle.blk_items.specs.RoomLaws.{MayGo, NamedObjectsStay, group_for}
 use Rattle.blk_items.proofs.RoomGroups.{in-middle, loose-for}
 
 clash : true ≡ false → ⊥
@@ -74,7 +74,7 @@ unfolding without
 named-as-before state group number named = named
 
 -- where an item goes alone
-pub alone-apart : (state : State) (layout : Layout) (unlinked : List ℕ) (image : Image) (front : List Item) (item : Item) (behind : List Item) (contents : ℕ) → KeepsUncounted state layout unlinked image → IsLastUnpinned state [] front item behind
+pub alone-apart : (state : State) (layout : Layout) (unlinked : List ℕ) (image : Image) (front : List Item) (item : Item) (behind : List Item) (contents : ℕ) → KeepsUncounted state layout unlinked image → MayGo state front item behind
     → NamedObjectsStay (without (group_for item front ∷ []) state) layout (layout_removed layout (layout.place item) contents)
 alone-apart state layout unlinked image front item behind contents k is number object here named =
     let listed : is_listed state item ≡ true = ap (λ (l : List Item). is_in l item) is.listed ∙ in-middle front item behind in
@@ -95,7 +95,7 @@ not-not : (b : Bool) → not (not b) ≡ true → b ≡ true
 not-not true e = refl
 not-not false e = e
 
-module _ (state : State) (layout : Layout) (unlinked : List ℕ) (image : Image) (front : List Item) (key : List ℕ) (behind : List Item) (k : KeepsUncounted state layout unlinked image) (is : IsLastUnpinned state [] front (main key) behind) where
+module _ (state : State) (layout : Layout) (unlinked : List ℕ) (image : Image) (front : List Item) (key : List ℕ) (behind : List Item) (k : KeepsUncounted state layout unlinked image) (is : MayGo state front (main key) behind) where
   -- no item of the key is pinned
   its-unpinned : (item : Item) → key_of item ≡ key → is_pinned state [] item ≡ false
   its-unpinned (main other) same = ap (λ (x : List ℕ). is_pinned state [] (main x)) same ∙ is.unpinned
@@ -112,7 +112,7 @@ module _ (state : State) (layout : Layout) (unlinked : List ℕ) (image : Image)
       (cases_Bool (is_among (gone_nodes state layout (is_of_another key)) (node_of_object layout number object)))
 
 -- where a whole object goes
-pub key-apart : (state : State) (layout : Layout) (unlinked : List ℕ) (image : Image) (front : List Item) (key : List ℕ) (behind : List Item) (chains : ℕ → List ℕ) → KeepsUncounted state layout unlinked image → IsLastUnpinned state [] front (main key) behind
+pub key-apart : (state : State) (layout : Layout) (unlinked : List ℕ) (image : Image) (front : List Item) (key : List ℕ) (behind : List Item) (chains : ℕ → List ℕ) → KeepsUncounted state layout unlinked image → MayGo state front (main key) behind
     → NamedObjectsStay (without (group_for (main key) front ∷ []) state) layout (layout_less layout (gone_nodes state layout (is_of_another key)) chains)
 key-apart state layout unlinked image front key behind chains k is number object here named =
     let w = was-there state (group_for (main key) front) number object here in

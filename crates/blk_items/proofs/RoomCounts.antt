@@ -17,8 +17,8 @@ use Rattle.blk_model.proofs.Slots.{owners-first_none}
 use Rattle.blk_model.proofs.Sums.{totals_are_sums}
 use Rattle.blk_model.proofs.Times.{times-cons}
 use Rattle.blk_laws.proofs.claims.Owner.{IsOwned, its-key, owned}
-use Rattle.blk_items.specs.RoomLaws.{GroupsAreCountedLess, IsLastUnpinned, group_for, item_charge}
-use Rattle.blk_items.proofs.RoomGroups.{first-same, loose-for, parts-front}
+use Rattle.blk_items.specs.RoomLaws.{GroupsAreCountedLess, MayGo, group_for, item_charge}
+use Rattle.blk_items.proofs.RoomGroups.{first-same, loose-for}
 
 -- ---- sums over lists
 
@@ -280,7 +280,7 @@ is-out-no : (b : Bool) → not b ≡ true → b ≡ false
 is-out-no true e = cc
 is-out-no false e = refl
 
-module _ (state : State) (front : List Item) (item : Item) (behind : List Item) (valid : IsValidState state) (is : IsLastUnpinned state [] front item behind) where
+module _ (state : State) (front : List Item) (item : Item) (behind : List Item) (valid : IsValidState state) (is : MayGo state front item behind) where
   abbrev group : Group
   group = group_for item front
 
@@ -293,8 +293,8 @@ module _ (state : State) (front : List Item) (item : Item) (behind : List Item) 
   once : times item state.uses ≡ 1
   once = let there = subst (λ (l : List Item). 1 ≤ times item l) (sym is.listed) (stands-middle front item behind) in let few = valid.once item in omega (arith, there, few)
 
-  has-parts : (i : Item) → IsLastUnpinned state [] front i behind → HasParts i front state.uses
-  has-parts (main key) last = parts-front state front behind key last
+  has-parts : (i : Item) → MayGo state front i behind → HasParts i front state.uses
+  has-parts (main key) last = last.parts key refl
   has-parts (part key n) last = tt
 
   gone-sum : (w : Item → ℕ) → sum_by w state.uses ≡ sum_by w (not_out (group ∷ []) state.uses) + sum_by w (items_of_group group)

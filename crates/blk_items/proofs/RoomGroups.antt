@@ -1,20 +1,27 @@
 -- Groups that are evicted one after another, from the back of the use list as it is then.
-use Rattle.std.proofs.Common.{◌≡◌, inl, inr, ℕ, ◌+◌, Bool, true, false, ◌||◌, cond, List, [], ◌∷◌, ◌++◌, Some, None, Option, refl, sym, ap, subst, ◌∙◌, reverse, append-nil, append_assoc, map}
+use Rattle.std.proofs.Common.{◌≡◌, inl, inr, ℕ, ◌+◌, Bool, true, false, ◌||◌, cond, List, [], ◌∷◌, ◌++◌, Some, None, Option, refl, sym, ap, subst, ◌∙◌, reverse, append-nil, append_assoc, map, ⊎_elim}
 use mathlib.Core.List.{reverse-cons}
-use Rattle.std.specs.List.{AllByRecursion, cons_option}
+use Rattle.std.specs.List.{AllByRecursion, cons_option, list_any}
 use Rattle.std.specs.Option.{option_and_then, option_map_or}
 use Rattle.std.specs.Str.{bytes_eq}
-use Rattle.std.proofs.lemmas.Bool.{or_left, or_right}
+use Rattle.std.proofs.lemmas.Bool.{cases_Bool, or_cases, or_left, or_right}
 use Rattle.std.proofs.lemmas.List.{reverse-append}
 use Rattle.std.proofs.lemmas.List.Elements.{filter_map-append}
 use Rattle.blk_model.specs.Items.{Item, main, part, key_of, same_item}
 use Rattle.blk_model.specs.State.{Object, State, first_with, is_named, slot_has_item}
 use Rattle.blk_model.specs.Room.{Group, whole, single, evicted_until, groups_from_back, is_out, is_pinned, left_of, part_number, parts_among, shortest, without}
 use Rattle.blk_model.proofs.Evicted.{IsLoose, left_slot_has, evicted_are_loose}
-use Rattle.blk_model.proofs.Same.{same_item_self}
+use Rattle.blk_model.proofs.Same.{one_item, same_bytes, same_item_self}
 use Rattle.blk_volume.specs.Layout.{is_in}
 use Rattle.blk_kept.proofs.RestRoom.{others-go}
-use Rattle.blk_items.specs.RoomLaws.{IsLastUnpinned, ItemsThatStayArePinnedAsBefore, NothingMoreGoes, PartsAreInFront, TheLastUnpinnedGoesNext, TheOthersGoFromWhatIsLeft, group_for}
+use Rattle.blk_items.specs.RoomLaws.{AreOfNamed, CoveredPartsStayOfNamed, IsLastUnpinned, IsOfNamed, ItemsThatStayArePinnedAsBefore, MayGo, NothingMoreGoes, TheLastUnpinnedGoesNext, TheLastUnpinnedMayGo, TheOthersGoFromWhatIsLeft, group_for}
+
+clash : true ≡ false → ⊥
+clash h = cc
+
+or-none : (b : Bool) → b ≡ false → (b || false) ≡ false
+or-none true e = e
+or-none false e = refl
 
 -- ---- from the back
 
@@ -147,18 +154,64 @@ pinned-before state covered [] item stays = refl
 pinned-before state covered (group ∷ groups) (main key) stays = ap (λ (o : Option ℕ). option_map_or (is_named state) o false) (first-same (group ∷ groups) (main key) 0 state.objects stays)
 pinned-before state covered (group ∷ groups) (part key n) stays = refl
 
--- behind it are no parts
-no-parts : (state : State) (key : List ℕ) (behind : List Item) → AllByRecursion (λ other. is_pinned state [] other ≡ true) behind → parts_among key behind ≡ []
-no-parts state key [] all = refl
-no-parts state key (main other ∷ behind) all = no-parts state key behind all.1
-no-parts state key (part other n ∷ behind) all = absurd (let e : false ≡ true = all.0 in cc)
+-- an item that is covered is one of these
+pub covered-one : (item : Item) (covered : List Item) (P : Item → Type 0) → AllByRecursion P covered → list_any (same_item item) covered ≡ true → P item
+covered-one item [] P all e = absurd (clash (sym e))
+covered-one item (other ∷ covered) P all e = ⊎_elim
+    (λ (h : same_item item other ≡ true). subst P (sym (one_item item other h)) all.0)
+    (λ (h : list_any (same_item item) covered ≡ true). covered-one item covered P all.1 h)
+    (or_cases (same_item item other) (list_any (same_item item) covered) e)
 
-pub parts-front : PartsAreInFront
-parts-front state front behind key is =
+-- behind a main item that isn't pinned are no parts of its key, where all there is pinned
+no-parts : (state : State) (covered : List Item) (key : List ℕ) (behind : List Item) → AreOfNamed state covered → is_pinned state [] (main key) ≡ false → AllByRecursion (λ other. is_pinned state covered other ≡ true) behind → parts_among key behind ≡ []
+no-parts state covered key [] named un all = refl
+no-parts state covered key (main other ∷ behind) named un all = no-parts state covered key behind named un all.1
+no-parts state covered key (part other n ∷ behind) named un all = ⊎_elim
+    (λ (e : bytes_eq key other ≡ true).
+    let its : is_pinned state [] (main other) ≡ true = covered-one (part other n) covered (IsOfNamed state) named all.0 in
+    absurd (clash (sym its ∙ ap (λ (k : List ℕ). is_pinned state [] (main k)) (sym (same_bytes key other e)) ∙ un)))
+    (λ (e : bytes_eq key other ≡ false). ap (λ (b : Bool). cons_option (cond b (Some n) None) (parts_among key behind)) e ∙ no-parts state covered key behind named un all.1)
+    (cases_Bool (bytes_eq key other))
+
+-- the parts of a main item that isn't pinned are in front of it
+front-parts : (state : State) (covered front : List Item) (key : List ℕ) (behind : List Item) → AreOfNamed state covered → IsLastUnpinned state covered front (main key) behind → parts_among key front ≡ parts_among key state.uses
+front-parts state covered front key behind named is =
     sym (ap (parts_among key) is.listed
     ∙ filter_map-append (part_number key) front (main key ∷ behind)
-    ∙ ap (λ (l : List ℕ). parts_among key front ++ l) (no-parts state key behind is.pinned_behind)
+    ∙ ap (λ (l : List ℕ). parts_among key front ++ l) (no-parts state covered key behind named is.unpinned is.pinned_behind)
     ∙ append-nil (parts_among key front))
+
+pub last-goes : TheLastUnpinnedMayGo
+last-goes state covered front (part key n) behind named is = record {
+  listed = is.listed;
+  unpinned = refl;
+  parts = λ other e. absurd (apart other e);
+} where
+  apart : (other : List ℕ) → part key n ≡ main other → ⊥
+  apart other e = cc
+last-goes state covered front (main key) behind named is = record {
+  listed = is.listed;
+  unpinned = is.unpinned;
+  parts = λ other e. subst (λ (k : List ℕ). parts_among k front ≡ parts_among k state.uses) (same other e) (front-parts state covered front key behind named is);
+} where
+  same : (other : List ℕ) → main key ≡ main other → key ≡ other
+  same other e = ap key_of e
+
+-- a main item that is pinned isn't in the group of an item that may go
+pinned-stays : (state : State) (front : List Item) (item : Item) (behind : List Item) (key : List ℕ) → MayGo state front item behind → is_pinned state [] (main key) ≡ true → is_out (group_for item front ∷ []) (main key) ≡ false
+pinned-stays state front (part other n) behind key goes pinned = refl
+pinned-stays state front (main other) behind key goes pinned = or-none (bytes_eq other key) (⊎_elim
+    (λ (e : bytes_eq other key ≡ true). absurd (clash (sym pinned ∙ ap (λ (k : List ℕ). is_pinned state [] (main k)) (sym (same_bytes other key e)) ∙ goes.unpinned)))
+    (λ (e : bytes_eq other key ≡ false). e)
+    (cases_Bool (bytes_eq other key)))
+
+one-of-named : (state : State) (front : List Item) (item : Item) (behind : List Item) (other : Item) → MayGo state front item behind → IsOfNamed state other → IsOfNamed (without (group_for item front ∷ []) state) other
+one-of-named state front item behind (main key) goes named = named
+one-of-named state front item behind (part key n) goes named = pinned-before state [] (group_for item front ∷ []) (main key) (pinned-stays state front item behind key goes named) ∙ named
+
+pub of-named-stay : CoveredPartsStayOfNamed
+of-named-stay state [] front item behind named goes = tt
+of-named-stay state (other ∷ covered) front item behind named goes = (one-of-named state front item behind other goes named.0, of-named-stay state covered front item behind named.1 goes)
 
 -- an item is among those in front of it, itself, and those behind
 pub in-middle : (front : List Item) (item : Item) (rest : List Item) → is_in (front ++ item ∷ rest) item ≡ true

@@ -33,11 +33,10 @@ use Rattle.blk_sparse.specs.declared.dropping.Gone.{Gone}
 use Rattle.blk_items.specs.declared.item_names.EntryKind.TheVariants as kinds
 use Rattle.blk_items.specs.declared.list_places.Unpinned.{Unpinned}
 use Rattle.blk_items.specs.EvictingGroups.{GoesAs, IsGroupOut, kind_of_role, text_of_parts}
-use Rattle.blk_items.specs.RoomLaws.{IsLastUnpinned, NamedObjectsStay, group_for, item_charge}
+use Rattle.blk_items.specs.RoomLaws.{MayGo, NamedObjectsStay, group_for, item_charge}
 use Rattle.blk_sparse.specs.Parents.{IsGoneWhole, IsGroupTold, MayGoWhole}
 use Rattle.blk_items.proofs.GroupsOut.{charged-is, last-listed, main-is, owner-is, owner-unnamed}
 use Rattle.blk_items.proofs.RoomApart.{key-apart}
-use Rattle.blk_items.proofs.RoomGroups.{parts-front}
 
 -- ---- what the items of a group are charged
 
@@ -80,13 +79,13 @@ module _ (state : State) (layout : Layout) (image : Image) (found : Unpinned) (k
   k = is.kept.entries
 
   whole-listed : is_listed state is.last.item ≡ true
-  whole-listed = last-listed state layout image is.kept.entries is.last.front is.last.rest is.last.loaded is.last.item is.last.last
+  whole-listed = last-listed state layout image is.kept.entries is.last.front is.last.rest is.last.loaded is.last.item is.last.goes
 
   pub whole-item : is.last.item ≡ main key
   whole-item = main-is state layout [] image is.kept.entries is.last.item is.last.loaded whole-listed is.last.here (λ e. apart-kinds (sym is.kind_is ∙ e)) ∙ ap main is.key_is
 
-  pub whole-last : IsLastUnpinned state [] is.last.front (main key) is.last.rest
-  whole-last = subst (λ (i : Item). IsLastUnpinned state [] is.last.front i is.last.rest) whole-item is.last.last
+  pub whole-last : MayGo state is.last.front (main key) is.last.rest
+  whole-last = subst (λ (i : Item). MayGo state is.last.front i is.last.rest) whole-item is.last.goes
 
   pub whole-child : is_child_item is.last.item ≡ false
   whole-child = ap is_child_item whole-item
@@ -107,7 +106,7 @@ module _ (state : State) (layout : Layout) (image : Image) (found : Unpinned) (k
   own-key = owner_key whole-owner.object (main key) whole-owner.has
 
   parts-same : parts_among key is.last.front ≡ parts_among key state.uses
-  parts-same = parts-front state is.last.front is.last.rest key whole-last
+  parts-same = whole-last.parts key refl
 
   pub group-is : group_for is.last.item is.last.front ≡ whole key (parts_among key state.uses)
   group-is = ap (λ (i : Item). group_for i is.last.front) whole-item ∙ ap (whole key) parts-same

@@ -22,7 +22,7 @@ use Rattle.blk_items.specs.declared.item_names.EntryKind.TheVariants.{Parent, Pa
 use Rattle.blk_items.specs.declared.item_names.Named.{Named}
 use Rattle.blk_items.specs.declared.list_places.Unpinned.{Unpinned}
 use Rattle.blk_items.specs.RoomLaws.{NamedObjectsStay, group_for, item_charge}
-use Rattle.blk_items.specs.ListPlaces.{IsLastAt}
+use Rattle.blk_items.specs.ListPlaces.{MayGoAt}
 
 -- Items by their records.
 
@@ -54,10 +54,10 @@ ForEachListed key is_child image P =
 
 -- The group.
 
--- the last item that isn't pinned lies in a kept state, with an entry of this kind and this key or name
+-- an item that may go lies in a kept state, with an entry of this kind and this key or name
 pub record GoesAs (state : State) (layout : Layout) (found : Unpinned) (kind : EntryKind) (key : List ℕ) (image : Image) : Type 0 where
   pub kept : Keeps state layout [] image
-  pub last : IsLastAt state layout found
+  pub last : MayGoAt state layout found
   pub kind_is : kind_of_role last.loaded.role ≡ kind
   pub key_is : last.loaded.key ≡ key
 
@@ -67,7 +67,7 @@ ForEachOfKind found kind key image P = (state : State) (layout : Layout) (is : G
 
 -- what holds wherever it lies in a kept state
 abbrev pub ForEachGoing : Unpinned → Image → (State → Layout → Group → Type 0) → Type 0
-ForEachGoing found image P = (state : State) (layout : Layout) → Keeps state layout [] image → (last : IsLastAt state layout found) → P state layout (group_for last.item last.front)
+ForEachGoing found image P = (state : State) (layout : Layout) → Keeps state layout [] image → (last : MayGoAt state layout found) → P state layout (group_for last.item last.front)
 
 -- what kind of entry goes alone: one without an index, or a part
 abbrev pub alone_kind : Bool → EntryKind

@@ -1,5 +1,5 @@
 -- Places of the use list as they are found in a folder, and the last item that isn't pinned.
-use Rattle.std.specs.Prelude.{◌≡◌, ℕ, List, [], ◌++◌, true}
+use Rattle.std.specs.Prelude.{◌≡◌, ℕ, List, ◌++◌, true}
 use Rattle.std.specs.List.{AllByRecursion}
 use Rattle.std.specs.declared.option.Option.{Option}
 use Rattle.std.specs.declared.option.Option.TheVariants.{None, Some}
@@ -12,7 +12,7 @@ use Rattle.blk_volume.specs.ListImages.{HasListAtRest}
 use Rattle.blk_volume.specs.Loads.{Loaded}
 use Rattle.blk_lru.specs.Lists.{first_node_of}
 use Rattle.blk_items.specs.declared.list_places.Unpinned.{Unpinned}
-use Rattle.blk_items.specs.RoomLaws.{AreAllPinned, IsLastUnpinned}
+use Rattle.blk_items.specs.RoomLaws.{AreAllPinned, IsLastUnpinned, MayGo}
 
 -- these nodes are in front of a place of the list, where this node is next behind it; none is at the end
 pub record AreInFront (front : List ℕ) (behind : Option ℕ) (image : Image) : Type 0 where
@@ -24,27 +24,32 @@ pub record AreInFront (front : List ℕ) (behind : Option ℕ) (image : Image) :
 abbrev pub IsPlaceInList : Option ℕ → Image → Type 0
 IsPlaceInList behind image = (front : List ℕ) × AreInFront front behind image
 
--- the items from a node on are pinned; none is at the end
-pub record IsPinnedFrom (state : State) (layout : Layout) (behind : Option ℕ) : Type 0 where
+-- the items from a node on are pinned, where these parts are covered; none is at the end
+pub record IsPinnedFrom (state : State) (layout : Layout) (covered : List Item) (behind : Option ℕ) : Type 0 where
   pub front : List Item
   pub rest : List Item
   pub listed : state.uses ≡ front ++ rest
-  pub pinned : AllByRecursion (λ item. is_pinned state [] item ≡ true) rest
+  pub pinned : AllByRecursion (λ item. is_pinned state covered item ≡ true) rest
   pub next : behind ≡ first_node_of (nodes_of layout rest)
 
--- the last item that isn't pinned, by its node and its record, and by the node next behind it
-pub record IsLastAt (state : State) (layout : Layout) (found : Unpinned) : Type 0 where
+-- an item that may go, by its node and its record
+pub record MayGoAt (state : State) (layout : Layout) (found : Unpinned) : Type 0 where
   pub front : List Item
   pub item : Item
   pub rest : List Item
-  pub last : IsLastUnpinned state [] front item rest
+  pub goes : MayGo state front item rest
   pub node : found.node ≡ layout.place item
   pub loaded : Loaded
   pub here : layout.at (layout.place item) ≡ Some loaded
   pub entry : found.entry ≡ loaded.contents
-  pub next : found.behind ≡ first_node_of (nodes_of layout rest)
+
+-- the last item that isn't pinned, where these parts are covered; it may go, and the node next behind it is told
+pub record IsLastAt (state : State) (layout : Layout) (covered : List Item) (found : Unpinned) : Type 0 where
+  pub goes : MayGoAt state layout found
+  pub last : IsLastUnpinned state covered goes.front goes.item goes.rest
+  pub next : found.behind ≡ first_node_of (nodes_of layout goes.rest)
 
 -- what is found: nothing where each item is pinned
-abbrev pub IsLast : State → Layout → Option Unpinned → Type 0
-IsLast state layout None = AreAllPinned state []
-IsLast state layout (Some found) = IsLastAt state layout found
+abbrev pub IsLast : State → Layout → List Item → Option Unpinned → Type 0
+IsLast state layout covered None = AreAllPinned state covered
+IsLast state layout covered (Some found) = IsLastAt state layout covered found

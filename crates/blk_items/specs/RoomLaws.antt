@@ -24,6 +24,21 @@ pub record IsLastUnpinned (state : State) (covered front : List Item) (item : It
   pub unpinned : is_pinned state covered item ≡ false
   pub pinned_behind : AllByRecursion (λ other. is_pinned state covered other ≡ true) behind
 
+-- an item is a part of an object that a handle names
+abbrev pub IsOfNamed : State → Item → Type 0
+IsOfNamed state (main key) = ⊥
+IsOfNamed state (part key n) = is_pinned state [] (main key) ≡ true
+
+-- each of these items is a part of an object that a handle names, as the parts that a command covers are
+abbrev pub AreOfNamed : State → List Item → Type 0
+AreOfNamed state covered = AllByRecursion (IsOfNamed state) covered
+
+-- an item may go with its group: no handle names its object, or it is a part; and of a main item all parts are in front of it
+pub record MayGo (state : State) (front : List Item) (item : Item) (behind : List Item) : Type 0 where
+  pub listed : state.uses ≡ front ++ item ∷ behind
+  pub unpinned : is_pinned state [] item ≡ false
+  pub parts : (key : List ℕ) → item ≡ main key → parts_among key front ≡ parts_among key state.uses
+
 -- each item is pinned
 abbrev pub AreAllPinned : State → List Item → Type 0
 AreAllPinned state covered = AllByRecursion (λ item. is_pinned state covered item ≡ true) state.uses
@@ -46,9 +61,13 @@ TheOthersGoFromWhatIsLeft = (enough : State → Bool) (state : State) (covered :
 abbrev pub ItemsThatStayArePinnedAsBefore : Type 0
 ItemsThatStayArePinnedAsBefore = (state : State) (covered : List Item) (groups : List Group) (item : Item) → is_out groups item ≡ false → is_pinned (without groups state) covered item ≡ is_pinned state covered item
 
--- where no part is covered, all parts of such a main item are in front of it
-abbrev pub PartsAreInFront : Type 0
-PartsAreInFront = (state : State) (front behind : List Item) (key : List ℕ) → IsLastUnpinned state [] front (main key) behind → parts_among key front ≡ parts_among key state.uses
+-- where the covered parts are those of an object that a handle names, the last item that isn't pinned may go
+abbrev pub TheLastUnpinnedMayGo : Type 0
+TheLastUnpinnedMayGo = (state : State) (covered front : List Item) (item : Item) (behind : List Item) → AreOfNamed state covered → IsLastUnpinned state covered front item behind → MayGo state front item behind
+
+-- and such parts are so still where a group is out that may go
+abbrev pub CoveredPartsStayOfNamed : Type 0
+CoveredPartsStayOfNamed = (state : State) (covered front : List Item) (item : Item) (behind : List Item) → AreOfNamed state covered → MayGo state front item behind → AreOfNamed (without (group_for item front ∷ []) state) covered
 
 -- What a group leaves.
 
@@ -61,9 +80,9 @@ pub record IsLessBy (state : State) (group : Group) : Type 0 where
   pub items_left : items state ≡ items (without (group ∷ []) state) + length (items_of_group group)
   pub bytes_left : total state ≡ total (without (group ∷ []) state) + sum_by (item_charge state) (items_of_group group)
 
--- so it is of the group of the last item that isn't pinned
+-- so it is of the group of an item that may go
 abbrev pub GroupsAreCountedLess : Type 0
-GroupsAreCountedLess = (state : State) (front : List Item) (item : Item) (behind : List Item) → IsValidState state → IsLastUnpinned state [] front item behind → IsLessBy state (group_for item front)
+GroupsAreCountedLess = (state : State) (front : List Item) (item : Item) (behind : List Item) → IsValidState state → MayGo state front item behind → IsLessBy state (group_for item front)
 
 -- each object that a handle names lies where it lay
 abbrev pub NamedObjectsStay : State → (old new : Layout) → Type 0

@@ -1,5 +1,5 @@
 //! The laws of groups that go and of texts that are printed, each the contract of a function with an empty body.
-ghost use Rattle.blk_items.specs.RoomLaws.{GroupsAreCountedLess, ItemsThatStayArePinnedAsBefore, NothingMoreGoes, PartsAreInFront, TheLastUnpinnedGoesNext, TheOthersGoFromWhatIsLeft};
+ghost use Rattle.blk_items.specs.RoomLaws.{CoveredPartsStayOfNamed, GroupsAreCountedLess, ItemsThatStayArePinnedAsBefore, NothingMoreGoes, TheLastUnpinnedMayGo, TheLastUnpinnedGoesNext, TheOthersGoFromWhatIsLeft};
 ghost use Rattle.blk_items.specs.RoomPrinting.{FaultsGoOn, NothingIsPrinted, PrintsGoOn};
 
 /// Groups are evicted one after another: each is that of the last item that isn't pinned, in the use list as it is then,
@@ -9,7 +9,8 @@ pub fn groups_go_one_after_another()
     ensures next { TheLastUnpinnedGoesNext }
     ensures others { TheOthersGoFromWhatIsLeft }
     ensures pinned { ItemsThatStayArePinnedAsBefore }
-    ensures parts { PartsAreInFront }
+    ensures goes { TheLastUnpinnedMayGo }
+    ensures stay { CoveredPartsStayOfNamed }
 {}
 
 /// Texts are printed one after another, unless the sink failed.
@@ -19,7 +20,7 @@ pub fn prints_go_on()
     ensures faults { FaultsGoOn }
 {}
 
-/// Without the group of the last item that isn't pinned there are fewer items, and fewer bytes by what these are charged.
+/// Without the group of an item that may go there are fewer items, and fewer bytes by what these are charged.
 pub fn groups_are_counted_less()
     ensures { GroupsAreCountedLess }
 {}

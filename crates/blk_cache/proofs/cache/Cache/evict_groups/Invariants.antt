@@ -1,10 +1,12 @@
-use Rattle.std.proofs.Common.{◌≡◌, ◌≤◌, ℕ, None, true}
+use Rattle.std.proofs.Common.{◌≡◌, ◌≤◌, ℕ, List, None, true}
 use Rattle.std.specs.Prelude.{IfSome, IsTrue}
 use Rattle.std.specs.Option.{ForSome}
+use Rattle.blk_model.specs.Items.{Item}
 use Rattle.blk_model.specs.State.{State}
 use Rattle.blk_disk.specs.Open.{IsOpen}
 use Rattle.blk_disk.specs.Tables.{is_node_among}
 use Rattle.blk_cache.specs.CacheKeeping.{KeepsState}
+use Rattle.blk_cache.specs.Covering.{AreCovered}
 use Rattle.blk_cache.specs.Evicting.{OnlyItemsChange, is_met}
 use Rattle.blk_items.specs.RoomPrinting.{FailsWhereItRose}
 use Rattle.blk_cache.proofs.Evictions.{HasEvicted}
@@ -21,5 +23,5 @@ invariant-loop g l = record {
   sink_later : g.K.Sink.faults l.fn.out ≤ g.K.Sink.faults l.out;
   quiet : l.fn.failed ≡ true → (l.failed ≡ true) × (g.K.Sink.written l.out ≡ g.K.Sink.written l.fn.out);
   fails : FailsWhereItRose l.fn.failed l.failed (g.K.Sink.faults l.fn.out) (g.K.Sink.faults l.out);
-  evicted : ForSome (g.F.Folder.told l.fn.f).files (λ image. (state : State) → KeepsState l.fn.self state image → HasEvicted (is_met l.fn.goal) state l.fn.self l.self l.behind l.counter (g.F.Folder.told l.fn.f) (g.F.Folder.told l.f) l.fn.failed l.failed (g.K.Sink.written l.fn.out) (g.K.Sink.written l.out));
+  evicted : ForSome (g.F.Folder.told l.fn.f).files (λ image. (state : State) (kept : KeepsState l.fn.self state image) (covered : List Item) → AreCovered state kept.layout covered l.fn.parts → HasEvicted (is_met l.fn.goal) state covered l.fn.parts l.fn.self l.self l.behind l.counter (g.F.Folder.told l.fn.f) (g.F.Folder.told l.f) l.fn.failed l.failed (g.K.Sink.written l.fn.out) (g.K.Sink.written l.out));
 }

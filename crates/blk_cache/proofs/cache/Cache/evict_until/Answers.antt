@@ -8,6 +8,6 @@ returns-in_err-evict_groups-clause-untold g c any =
     (c.evict_groups.ensures.untold any)
 
 pub returns-clause-counts : goal.returns-clause-counts
-returns-clause-counts g c image there state k =
-    let e = c.in_ok-evict_groups.ensures.counts image there state k in
+returns-clause-counts g c image there state k covered are =
+    let e = c.in_ok-evict_groups.ensures.counts image there state k covered are in
     omega (arith, e)

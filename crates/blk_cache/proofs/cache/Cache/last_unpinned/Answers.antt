@@ -1,4 +1,4 @@
-use Rattle.std.proofs.Common.{rules, refl, ◌≡◌, ◌∙◌, sym, subst, arith, ℕ, Option, Some, None, true, false}
+use Rattle.std.proofs.Common.{rules, refl, ◌≡◌, ◌∙◌, sym, subst, arith, ℕ, ◌||◌, Option, Some, None, true, false}
 use Rattle.std.specs.Prelude.{IfSome, IsTrue}
 use Rattle.std.specs.Option.{ForSome}
 use Rattle.blk_image.specs.Told.{Told}
@@ -14,6 +14,7 @@ use Rattle.blk_lru.proofs.Conditions.{told_now}
 use Rattle.blk_object.specs.ListedParts.{LoadsAt}
 use Rattle.blk_object.proofs.MakingMade.{among-names}
 use Rattle.blk_items.specs.ListPlaces.{IsPlaceInList}
+use Rattle.blk_cache.specs.Covering.{covers}
 use Rattle.blk_cache.proofs.Ends.{kept-open}
 use Rattle.blk_cache.proofs.RoomLast.{all-met, front-is, last-found, more-so-far, none-left, node-loads}
 use Rattle.blk_cache.proofs.cache.Cache.last_unpinned.Goals as goal
@@ -25,15 +26,15 @@ returns-in_err-node-clause-untold g c holds =
     (λ image there. let h = holds image there in kept-open c.args.self.now h.state image h.kept)
     (λ image there.
     let h = holds image there in
-    let p = c.loop.invariant.pinned image there h.state h.kept h.pinned in
-    (nodes_of h.kept.layout p.from.front, front-is c.args.self.now h.state image h.kept c.loop.behind p.from)))
+    let p = c.loop.invariant.pinned image there h.state h.kept h.covered h.lie h.pinned in
+    (nodes_of h.kept.layout p.from.front, front-is c.args.self.now h.state image h.kept h.covered c.loop.behind p.from)))
 
 pub returns-in_default-clause-last : goal.returns-in_default-clause-last
-returns-in_default-clause-last g c image there state kept pinned =
-    let p = c.loop.invariant.pinned image there state kept pinned in
+returns-in_default-clause-last g c image there state kept covered lie pinned =
+    let p = c.loop.invariant.pinned image there state kept covered lie pinned in
     let none : c.in_ok-node.field-0 ≡ None = search rules in
-    none-left c.args.self.now state image kept c.loop.behind p.from
-    (sym none ∙ c.in_ok-node.ensures.node image (told_now image c.loop.invariant.told there) kept.files (nodes_of kept.layout p.from.front) (front-is c.args.self.now state image kept c.loop.behind p.from))
+    none-left c.args.self.now state image kept covered c.loop.behind p.from
+    (sym none ∙ c.in_ok-node.ensures.node image (told_now image c.loop.invariant.told there) kept.files (nodes_of kept.layout p.from.front) (front-is c.args.self.now state image kept covered c.loop.behind p.from))
 
 pub returns-in_err-entry-clause-untold : goal.returns-in_err-entry-clause-untold
 returns-in_err-entry-clause-untold g c holds =
@@ -43,40 +44,42 @@ returns-in_err-entry-clause-untold g c holds =
     (λ image there. let h = holds image there in h.kept.files)
     (λ image there.
     let h = holds image there in
-    let p = c.loop.invariant.pinned image there h.state h.kept h.pinned in
-    node-loads c.args.self.now h.state image h.kept c.loop.behind p.from c.in-Some.node
-    (sym some ∙ c.in_ok-node.ensures.node image (told_now image c.loop.invariant.told there) h.kept.files (nodes_of h.kept.layout p.from.front) (front-is c.args.self.now h.state image h.kept c.loop.behind p.from))))
+    let p = c.loop.invariant.pinned image there h.state h.kept h.covered h.lie h.pinned in
+    node-loads c.args.self.now h.state image h.kept h.covered c.loop.behind p.from c.in-Some.node
+    (sym some ∙ c.in_ok-node.ensures.node image (told_now image c.loop.invariant.told there) h.kept.files (nodes_of h.kept.layout p.from.front) (front-is c.args.self.now h.state image h.kept h.covered c.loop.behind p.from))))
 
-pub returns-then-not-is_pinned-clause-last : goal.returns-then-not-is_pinned-clause-last
-returns-then-not-is_pinned-clause-last g c image there state kept pinned =
-    let p = c.loop.invariant.pinned image there state kept pinned in
+pub returns-then-not-pins-clause-last : goal.returns-then-not-pins-clause-last
+returns-then-not-pins-clause-last g c image there state kept covered lie pinned =
+    let p = c.loop.invariant.pinned image there state kept covered lie pinned in
     let some : c.in_ok-node.field-0 ≡ Some c.in-Some.node = search rules in
-    let closed : is_open c.args.self.now.handles c.in_ok-entry.entry ≡ false = search rules in
-    last-found c.args.self.now state image kept c.loop.behind p.from c.in-Some.node
-    (sym some ∙ c.in_ok-node.ensures.node image (told_now image c.loop.invariant.told there) kept.files (nodes_of kept.layout p.from.front) (front-is c.args.self.now state image kept c.loop.behind p.from))
+    let closed : (is_open c.args.self.now.handles c.in_ok-entry.entry || covers c.args.parts.now c.in-Some.node) ≡ false = sym c.pins.ensures ∙ (let e : c.pins.result ≡ false = search rules in e) in
+    last-found c.args.self.now state image kept covered c.loop.behind p.from c.in-Some.node
+    (sym some ∙ c.in_ok-node.ensures.node image (told_now image c.loop.invariant.told there) kept.files (nodes_of kept.layout p.from.front) (front-is c.args.self.now state image kept covered c.loop.behind p.from))
+    c.args.parts.now lie
     (record { node = c.in-Some.node; entry = c.in_ok-entry.entry; behind = c.loop.behind }) refl
     (c.in_ok-entry.ensures.entry image (told_now image (c.in_ok-node.ensures.stays ∙ c.loop.invariant.told) there)) refl closed
 
-pub returns-then-not-is_pinned-clause-record_stands : goal.returns-then-not-is_pinned-clause-record_stands
-returns-then-not-is_pinned-clause-record_stands g c =
+pub returns-then-not-pins-clause-record_stands : goal.returns-then-not-pins-clause-record_stands
+returns-then-not-pins-clause-record_stands g c =
     let address : is_address c.in_ok-entry.entry ≡ true = search rules in
     among-names c.args.self.now.files blocks_256 c.in_ok-entry.entry address c.in_ok-entry.ensures.kind c.in_ok-entry.ensures.stands
 
 pub loop-preserved : goal.loop-preserved
 loop-preserved g c =
     let some : c.in_ok-node.field-0 ≡ Some c.in-Some.node = search rules in
-    let open_ : is_open c.args.self.now.handles c.in_ok-entry.entry ≡ true = search rules in
+    let open_ : (is_open c.args.self.now.handles c.in_ok-entry.entry || covers c.args.parts.now c.in-Some.node) ≡ true = sym c.pins.ensures ∙ (let e : c.pins.result ≡ true = search rules in e) in
     record {
       stands = subst (λ (o : Option ℕ). IfSome o (λ node. IsTrue (is_node_among c.args.self.now.files node))) some c.in_ok-node.ensures.stands;
       told = c.in_ok-entry.ensures.stays ∙ (c.in_ok-node.ensures.stays ∙ c.loop.invariant.told);
       later = omega (arith, c.loop.invariant.later, c.in_ok-node.ensures.later, c.in_ok-entry.ensures.later);
-      pinned = λ image there state kept pinned.
-          let p = c.loop.invariant.pinned image there state kept pinned in
-          more-so-far c.args.self.now state image kept c.loop.behind p.from c.in-Some.node
-          (sym some ∙ c.in_ok-node.ensures.node image (told_now image c.loop.invariant.told there) kept.files (nodes_of kept.layout p.from.front) (front-is c.args.self.now state image kept c.loop.behind p.from))
+      pinned = λ image there state kept covered lie pinned.
+          let p = c.loop.invariant.pinned image there state kept covered lie pinned in
+          more-so-far c.args.self.now state image kept covered c.loop.behind p.from c.in-Some.node
+          (sym some ∙ c.in_ok-node.ensures.node image (told_now image c.loop.invariant.told there) kept.files (nodes_of kept.layout p.from.front) (front-is c.args.self.now state image kept covered c.loop.behind p.from))
+          c.args.parts.now lie
           c.loop.counter p.many c.in_ok-entry.entry (c.in_ok-entry.ensures.entry image (told_now image (c.in_ok-node.ensures.stays ∙ c.loop.invariant.told) there)) open_ (Some c.in-Some.node) refl;
     }
 
 pub returns-clause-last : goal.returns-clause-last
-returns-clause-last g c image there state kept pinned =
-    all-met c.args.self.now state image kept c.loop.behind c.loop.counter (omega (arith, c.loop-test.false)) (c.loop.invariant.pinned image there state kept pinned)
+returns-clause-last g c image there state kept covered lie pinned =
+    all-met c.args.self.now state image kept covered c.loop.behind c.loop.counter (omega (arith, c.loop-test.false)) (c.loop.invariant.pinned image there state kept covered lie pinned)

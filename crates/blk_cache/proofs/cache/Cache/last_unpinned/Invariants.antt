@@ -1,9 +1,11 @@
-use Rattle.std.proofs.Common.{◌≡◌, ◌≤◌}
+use Rattle.std.proofs.Common.{◌≡◌, ◌≤◌, List}
 use Rattle.std.specs.Prelude.{IfSome, IsTrue}
 use Rattle.std.specs.Option.{ForSome}
+use Rattle.blk_model.specs.Items.{Item}
 use Rattle.blk_model.specs.State.{State}
 use Rattle.blk_disk.specs.Tables.{is_node_among}
 use Rattle.blk_cache.specs.CacheKeeping.{KeepsState}
+use Rattle.blk_cache.specs.Covering.{LieCovered}
 use Rattle.blk_items.specs.ListPlaces.{IsPinnedFrom}
 use Rattle.blk_cache.proofs.RoomLast.{IsPinnedSoFar}
 use Rattle.blk_cache.proofs.cache.Cache.last_unpinned.Given as goal
@@ -13,5 +15,5 @@ invariant-loop g l = record {
   stands : IfSome l.behind (λ node. IsTrue (is_node_among l.self.files node));
   told : g.F.Folder.told l.f ≡ g.F.Folder.told l.fn.f;
   later : g.F.Folder.faults l.fn.f ≤ g.F.Folder.faults l.f;
-  pinned : ForSome (g.F.Folder.told l.fn.f).files (λ image. (state : State) (kept : KeepsState l.fn.self state image) → IsPinnedFrom state kept.layout l.fn.behind → IsPinnedSoFar state kept.layout l.behind l.counter);
+  pinned : ForSome (g.F.Folder.told l.fn.f).files (λ image. (state : State) (kept : KeepsState l.fn.self state image) (covered : List Item) → LieCovered state kept.layout covered l.fn.parts → IsPinnedFrom state kept.layout covered l.fn.behind → IsPinnedSoFar state kept.layout covered l.behind l.counter);
 }

@@ -1,125 +1,48 @@
-use Rattle.std.proofs.Common.{rules, ◌≡◌, ◌∙◌, sym, subst, [], List, None, true, false}
-use Rattle.std.specs.Prelude.{◌==◌, ◌&&◌, ◌||◌}
+use Rattle.std.proofs.Common.{◌≡◌, List, [], None, sym, subst}
+use Rattle.std.proofs.lemmas.Result.{on_ok_weaker}
 use Rattle.std.specs.Option.{ForSome}
 use Rattle.blk_image.specs.Told.{Passes}
-use Rattle.blk_image.proofs.Runs.{some_inj}
-use Rattle.blk_io.proofs.Carried.{carried}
 use Rattle.blk_io.specs.Streams.{Appends}
+use Rattle.blk_lru.proofs.Results.{if_ok_weaker}
+use Rattle.blk_model.specs.Items.{Item}
 use Rattle.blk_model.specs.Refusals.{evicted_for, is_full}
-use Rattle.blk_model.specs.Room.{Group, fits, room, without}
+use Rattle.blk_model.specs.Room.{room, without}
+use Rattle.blk_model.specs.State.{State}
 use Rattle.blk_script.specs.Reply.{evicted_text}
 use Rattle.blk_cache.specs.CacheKeeping.{KeepsState}
+use Rattle.blk_cache.specs.Covering.{AreCovered}
 use Rattle.blk_cache.specs.Evicting.{IsEvicting}
+use Rattle.blk_cache.specs.MakingRoom.{says_full}
 use Rattle.blk_items.specs.RoomPrinting.{Prints}
-use Rattle.blk_cache.proofs.RoomMade.{full-none, none-goes, none-kept, none-printed-of, none-stops, wanted-goes}
+use Rattle.blk_cache.proofs.CoveredParts.{for-none, none-covered}
 use Rattle.blk_cache.proofs.cache.Cache.make_room.Goals as goal
 
-pub returns-then-is_full-clause-full : goal.returns-then-is_full-clause-full
-returns-then-is_full-clause-full g c image there state k =
-    let full : is_full (room state [] c.args.bytes c.args.items) ≡ true = sym (c.is_full.ensures.full state image k) ∙ (let e : c.is_full.result ≡ true = search rules in e) in
-    let none = full-none state c.args.bytes c.args.items full in
-    sym full
-
-pub returns-then-is_full-clause-made : goal.returns-then-is_full-clause-made
-returns-then-is_full-clause-made g c image there state k now then_there =
-    let full : is_full (room state [] c.args.bytes c.args.items) ≡ true = sym (c.is_full.ensures.full state image k) ∙ (let e : c.is_full.result ≡ true = search rules in e) in
-    let none = full-none state c.args.bytes c.args.items full in
-    none-kept c.args.self.now state (evicted_for (room state [] c.args.bytes c.args.items)) now none (subst (KeepsState c.args.self.now state) (some_inj (sym there ∙ then_there)) k)
-
-pub returns-then-is_full-clause-prints : goal.returns-then-is_full-clause-prints
-returns-then-is_full-clause-prints g c image there state k =
-    let full : is_full (room state [] c.args.bytes c.args.items) ≡ true = sym (c.is_full.ensures.full state image k) ∙ (let e : c.is_full.result ≡ true = search rules in e) in
-    let none = full-none state c.args.bytes c.args.items full in
-    none-printed-of (evicted_for (room state [] c.args.bytes c.args.items)) c.args.failed.now (g.K.Sink.written c.args.out.now) none
-
-pub returns-then-is_full-clause-stops : goal.returns-then-is_full-clause-stops
-returns-then-is_full-clause-stops g c image there state k =
-    none-stops (g.F.Folder.told c.args.f.now) c.args.self.now state (evicted_for (room state [] c.args.bytes c.args.items)) image there k
-
-pub returns-then-is_full-clause-front : goal.returns-then-is_full-clause-front
-returns-then-is_full-clause-front g c image there state k =
-    let full : is_full (room state [] c.args.bytes c.args.items) ≡ true = sym (c.is_full.ensures.full state image k) ∙ (let e : c.is_full.result ≡ true = search rules in e) in
-    let none = full-none state c.args.bytes c.args.items full in
-    (none-printed-of (evicted_for (room state [] c.args.bytes c.args.items)) c.args.failed.now (g.K.Sink.written c.args.out.now) none).front
-
-pub returns-then-wants_none-clause-full : goal.returns-then-wants_none-clause-full
-returns-then-wants_none-clause-full g c image there state k =
-    let passes : is_full (room state [] c.args.bytes c.args.items) ≡ false = sym (c.is_full.ensures.full state image k) ∙ (let e : c.is_full.result ≡ false = search rules in e) in
-    sym passes
-
-pub returns-then-wants_none-clause-made : goal.returns-then-wants_none-clause-made
-returns-then-wants_none-clause-made g c image there state k now then_there =
-    let passes : is_full (room state [] c.args.bytes c.args.items) ≡ false = sym (c.is_full.ensures.full state image k) ∙ (let e : c.is_full.result ≡ false = search rules in e) in
-    let wanted : ((c.args.bytes == 0 && c.args.items == 0) || fits state.limits.max_bytes c.args.bytes c.args.items state) ≡ true = sym (c.wants_none.ensures.none state image k) ∙ (let e : c.wants_none.result ≡ true = search rules in e) in
-    let none = none-goes state c.args.bytes c.args.items passes wanted in
-    none-kept c.args.self.now state (evicted_for (room state [] c.args.bytes c.args.items)) now none (subst (KeepsState c.args.self.now state) (some_inj (sym there ∙ then_there)) k)
-
-pub returns-then-wants_none-clause-prints : goal.returns-then-wants_none-clause-prints
-returns-then-wants_none-clause-prints g c image there state k =
-    let passes : is_full (room state [] c.args.bytes c.args.items) ≡ false = sym (c.is_full.ensures.full state image k) ∙ (let e : c.is_full.result ≡ false = search rules in e) in
-    let wanted : ((c.args.bytes == 0 && c.args.items == 0) || fits state.limits.max_bytes c.args.bytes c.args.items state) ≡ true = sym (c.wants_none.ensures.none state image k) ∙ (let e : c.wants_none.result ≡ true = search rules in e) in
-    let none = none-goes state c.args.bytes c.args.items passes wanted in
-    none-printed-of (evicted_for (room state [] c.args.bytes c.args.items)) c.args.failed.now (g.K.Sink.written c.args.out.now) none
-
-pub returns-then-wants_none-clause-stops : goal.returns-then-wants_none-clause-stops
-returns-then-wants_none-clause-stops g c image there state k =
-    none-stops (g.F.Folder.told c.args.f.now) c.args.self.now state (evicted_for (room state [] c.args.bytes c.args.items)) image there k
-
-pub returns-then-wants_none-clause-front : goal.returns-then-wants_none-clause-front
-returns-then-wants_none-clause-front g c image there state k =
-    let passes : is_full (room state [] c.args.bytes c.args.items) ≡ false = sym (c.is_full.ensures.full state image k) ∙ (let e : c.is_full.result ≡ false = search rules in e) in
-    let wanted : ((c.args.bytes == 0 && c.args.items == 0) || fits state.limits.max_bytes c.args.bytes c.args.items state) ≡ true = sym (c.wants_none.ensures.none state image k) ∙ (let e : c.wants_none.result ≡ true = search rules in e) in
-    let none = none-goes state c.args.bytes c.args.items passes wanted in
-    (none-printed-of (evicted_for (room state [] c.args.bytes c.args.items)) c.args.failed.now (g.K.Sink.written c.args.out.now) none).front
-
-pub returns-in_err-evict_until-clause-stops : goal.returns-in_err-evict_until-clause-stops
-returns-in_err-evict_until-clause-stops g c image there state k =
-    let passes : is_full (room state [] c.args.bytes c.args.items) ≡ false = sym (c.is_full.ensures.full state image k) ∙ (let e : c.is_full.result ≡ false = search rules in e) in
-    let wanted : ((c.args.bytes == 0 && c.args.items == 0) || fits state.limits.max_bytes c.args.bytes c.args.items state) ≡ false = sym (c.wants_none.ensures.none state image k) ∙ (let e : c.wants_none.result ≡ false = search rules in e) in
-    let goes = wanted-goes state c.args.bytes c.args.items passes wanted in
-    subst (λ (gs : List Group). Passes (g.F.Folder.told c.args.f.now) (g.F.Folder.told c.evict_until.new.f) (IsEvicting gs state)) goes (c.in_err-evict_until.ensures.stops image there state k)
-
-pub returns-in_err-evict_until-clause-front : goal.returns-in_err-evict_until-clause-front
-returns-in_err-evict_until-clause-front g c image there state k =
-    let passes : is_full (room state [] c.args.bytes c.args.items) ≡ false = sym (c.is_full.ensures.full state image k) ∙ (let e : c.is_full.result ≡ false = search rules in e) in
-    let wanted : ((c.args.bytes == 0 && c.args.items == 0) || fits state.limits.max_bytes c.args.bytes c.args.items state) ≡ false = sym (c.wants_none.ensures.none state image k) ∙ (let e : c.wants_none.result ≡ false = search rules in e) in
-    let goes = wanted-goes state c.args.bytes c.args.items passes wanted in
-    subst (λ (gs : List Group). Appends (g.K.Sink.written c.args.out.now) (g.K.Sink.written c.evict_until.new.out) (evicted_text gs)) goes (c.in_err-evict_until.ensures.front image there state k)
-
-pub returns-in_err-evict_until-clause-untold : goal.returns-in_err-evict_until-clause-untold
-returns-in_err-evict_until-clause-untold g c any =
-    carried c.evict_until.result c.from_residual.result c.in_err-evict_until.field-0.0 (λ _. (g.F.Folder.told c.args.f.now).files ≡ None) c.in_err-evict_until.was c.from_residual.ensures.1
-    (c.evict_until.ensures.untold any)
-
 pub returns-clause-full : goal.returns-clause-full
-returns-clause-full g c image there state k =
-    let passes : is_full (room state [] c.args.bytes c.args.items) ≡ false = sym (c.is_full.ensures.full state image k) ∙ (let e : c.is_full.result ≡ false = search rules in e) in
-    sym passes
+returns-clause-full g c = if_ok_weaker c.make_room_beside.result
+    (λ answer. for-none c.args.self.now c.none.result (g.F.Folder.told c.args.f.now) (λ state covered. says_full answer ≡ is_full (room state covered c.args.bytes c.args.items)) c.none.ensures)
+    c.make_room_beside.ensures.full
 
 pub returns-clause-made : goal.returns-clause-made
-returns-clause-made g c image there state k =
-    let passes : is_full (room state [] c.args.bytes c.args.items) ≡ false = sym (c.is_full.ensures.full state image k) ∙ (let e : c.is_full.result ≡ false = search rules in e) in
-    let wanted : ((c.args.bytes == 0 && c.args.items == 0) || fits state.limits.max_bytes c.args.bytes c.args.items state) ≡ false = sym (c.wants_none.ensures.none state image k) ∙ (let e : c.wants_none.result ≡ false = search rules in e) in
-    let goes = wanted-goes state c.args.bytes c.args.items passes wanted in
-    subst (λ (gs : List Group). ForSome (g.F.Folder.told c.evict_until.new.f).files (KeepsState c.evict_until.new.self (without gs state))) goes (c.in_ok-evict_until.ensures.evicted image there state k)
+returns-clause-made g c = on_ok_weaker c.make_room_beside.result
+    (for-none c.args.self.now c.none.result (g.F.Folder.told c.args.f.now) (λ state covered. ForSome (g.F.Folder.told c.make_room_beside.new.f).files (KeepsState c.make_room_beside.new.self (without (evicted_for (room state covered c.args.bytes c.args.items)) state))) c.none.ensures)
+    c.make_room_beside.ensures.made
 
 pub returns-clause-prints : goal.returns-clause-prints
-returns-clause-prints g c image there state k =
-    let passes : is_full (room state [] c.args.bytes c.args.items) ≡ false = sym (c.is_full.ensures.full state image k) ∙ (let e : c.is_full.result ≡ false = search rules in e) in
-    let wanted : ((c.args.bytes == 0 && c.args.items == 0) || fits state.limits.max_bytes c.args.bytes c.args.items state) ≡ false = sym (c.wants_none.ensures.none state image k) ∙ (let e : c.wants_none.result ≡ false = search rules in e) in
-    let goes = wanted-goes state c.args.bytes c.args.items passes wanted in
-    subst (λ (gs : List Group). Prints c.args.failed.now c.evict_until.new.failed (g.K.Sink.written c.args.out.now) (g.K.Sink.written c.evict_until.new.out) (evicted_text gs)) goes (c.in_ok-evict_until.ensures.prints image there state k)
+returns-clause-prints g c = on_ok_weaker c.make_room_beside.result
+    (for-none c.args.self.now c.none.result (g.F.Folder.told c.args.f.now) (λ state covered. Prints c.args.failed.now c.make_room_beside.new.failed (g.K.Sink.written c.args.out.now) (g.K.Sink.written c.make_room_beside.new.out) (evicted_text (evicted_for (room state covered c.args.bytes c.args.items)))) c.none.ensures)
+    c.make_room_beside.ensures.prints
 
 pub returns-clause-stops : goal.returns-clause-stops
-returns-clause-stops g c image there state k =
-    let passes : is_full (room state [] c.args.bytes c.args.items) ≡ false = sym (c.is_full.ensures.full state image k) ∙ (let e : c.is_full.result ≡ false = search rules in e) in
-    let wanted : ((c.args.bytes == 0 && c.args.items == 0) || fits state.limits.max_bytes c.args.bytes c.args.items state) ≡ false = sym (c.wants_none.ensures.none state image k) ∙ (let e : c.wants_none.result ≡ false = search rules in e) in
-    let goes = wanted-goes state c.args.bytes c.args.items passes wanted in
-    subst (λ (gs : List Group). Passes (g.F.Folder.told c.args.f.now) (g.F.Folder.told c.evict_until.new.f) (IsEvicting gs state)) goes (c.in_ok-evict_until.ensures.stops image there state k)
+returns-clause-stops g c =
+    for-none c.args.self.now c.none.result (g.F.Folder.told c.args.f.now) (λ state covered. Passes (g.F.Folder.told c.args.f.now) (g.F.Folder.told c.make_room_beside.new.f) (IsEvicting (evicted_for (room state covered c.args.bytes c.args.items)) state)) c.none.ensures
+    c.make_room_beside.ensures.stops
 
 pub returns-clause-front : goal.returns-clause-front
-returns-clause-front g c image there state k =
-    let passes : is_full (room state [] c.args.bytes c.args.items) ≡ false = sym (c.is_full.ensures.full state image k) ∙ (let e : c.is_full.result ≡ false = search rules in e) in
-    let wanted : ((c.args.bytes == 0 && c.args.items == 0) || fits state.limits.max_bytes c.args.bytes c.args.items state) ≡ false = sym (c.wants_none.ensures.none state image k) ∙ (let e : c.wants_none.result ≡ false = search rules in e) in
-    let goes = wanted-goes state c.args.bytes c.args.items passes wanted in
-    subst (λ (gs : List Group). Appends (g.K.Sink.written c.args.out.now) (g.K.Sink.written c.evict_until.new.out) (evicted_text gs)) goes (c.in_ok-evict_until.ensures.front image there state k)
+returns-clause-front g c =
+    for-none c.args.self.now c.none.result (g.F.Folder.told c.args.f.now) (λ state covered. Appends (g.K.Sink.written c.args.out.now) (g.K.Sink.written c.make_room_beside.new.out) (evicted_text (evicted_for (room state covered c.args.bytes c.args.items)))) c.none.ensures
+    c.make_room_beside.ensures.front
+
+pub returns-clause-untold : goal.returns-clause-untold
+returns-clause-untold g c any = c.make_room_beside.ensures.untold (λ image there.
+    let a = any image there in
+    record { state = a.0; kept = a.1; covered = []; are = subst (AreCovered a.0 a.1.layout []) (sym c.none.ensures) (none-covered a.0 a.1.layout) })

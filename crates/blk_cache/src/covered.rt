@@ -1,0 +1,52 @@
+// The parts that a command covers.
+ghost use Rattle.std.specs.Prelude.{◌≡◌};
+ghost use Rattle.blk_cache.specs.Covering.{covers, no_parts, one_if_some, part_count};
+
+use blk_addr::Addr;
+
+/// The parts of an open object that a command covers, as they lie in the folder: none of them goes while it runs.
+#[derive(Clone, Copy, Debug)]
+pub(crate) struct Covered {
+    /// The nodes of those that there are, two at most.
+    pub first: Option<Addr>,
+    pub second: Option<Addr>,
+    /// What these are charged.
+    pub bytes: u64,
+}
+
+impl Covered {
+    /// No part is covered.
+    pub(crate) fn none() -> Covered
+        ensures { result ≡ no_parts }
+    {
+        Covered {
+            first: None,
+            second: None,
+            bytes: 0,
+        }
+    }
+
+    /// Whether a node is that of a covered part.
+    pub(crate) fn has(&self, node: Addr) -> bool
+        ensures { result ≡ covers self.now node }
+    {
+        self.first == Some(node) || self.second == Some(node)
+    }
+
+    /// How many parts there are.
+    pub(crate) fn count(&self) -> u64
+        ensures { result ≡ part_count self.now }
+    {
+        one_if_some(&self.first) + one_if_some(&self.second)
+    }
+}
+
+// One where there is a node.
+fn one_if_some(node: &Option<Addr>) -> u64
+    ensures { result ≡ one_if_some node.now }
+{
+    match node {
+        Some(_) => 1,
+        None => 0,
+    }
+}
