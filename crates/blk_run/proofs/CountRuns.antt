@@ -12,7 +12,7 @@ use Rattle.blk_model.specs.Holding.{open_state}
 use Rattle.blk_model.specs.Sizes.{handle_names}
 use Rattle.blk_model.specs.State.{Bounds, State}
 use Rattle.blk_volume.specs.Found.{found}
-use Rattle.blk_headline.specs.Script.{count_script, totals_text}
+use Rattle.blk_headline.specs.Script.{count_script, totals_line, totals_text}
 use Rattle.blk_headline.specs.Run.{turns}
 use Rattle.blk_cache.specs.declared.cache.Cache.{Cache}
 use Rattle.blk_cache.specs.declared.fault.StepFault.{StepFault}
@@ -28,7 +28,6 @@ use Rattle.blk_run.specs.Errors.{IsOnlySink}
 use Rattle.blk_run.specs.Playing.{PlaysPart, SoFar, StandsAt}
 use Rattle.blk_run.specs.Scripts.{closes_script, script_status}
 use Rattle.blk_run.specs.Session.{FixedRuns, Outside}
-use Rattle.blk_run.specs.Texts.{totals_line}
 use Rattle.blk_run.proofs.Asking.{around}
 use Rattle.blk_run.proofs.Assembling.{ends_closed, ends_unfinished}
 use Rattle.blk_run.proofs.ClosingAll.{all_closed, none_so_far}

@@ -21,9 +21,9 @@ use Rattle.blk_cache.specs.Opening.{EndsSession, HoldsStill, IfOpenDamaged, open
 use Rattle.blk_cache.proofs.Ends.{kept-open}
 use Rattle.blk_disk.specs.Open.{IsOpen}
 use Rattle.blk_model.specs.State.{Bounds, State}
+use Rattle.blk_headline.specs.Script.{totals_line}
 use Rattle.blk_run.specs.declared.ending.Status.{Status}
 use Rattle.blk_run.specs.Count.{AreTotalsOf, EndsSame, IsDamaged, PrintsAt, ShowsTotals, opened_on}
-use Rattle.blk_run.specs.Texts.{totals_line}
 
 -- nothing is a front of each text
 pub none_printed : (line : List ℕ) (old : Option (List ℕ)) → Appends old old line

@@ -1,7 +1,7 @@
 -- What is asked for is done, by what the call that does it says.
-use Rattle.std.proofs.Common.{ℕ, ◌+◌, ◌^◌, ◌<◌, ◌≤◌, ◌≡◌, List, length, take, Option, None, Some, Result, Ok, Err, refl, sym, ◌∙◌, ap, subst, arith}
+use Rattle.std.proofs.Common.{ℕ, ◌+◌, ◌^◌, ◌<◌, ◌≤◌, ◌≡◌, inr, inl, List, [], ◌∷◌, ◌++◌, length, take, Option, None, Some, Result, Ok, Err, refl, sym, ◌∙◌, ap, subst, arith, append_assoc}
 use Rattle.std.specs.Option.{ForSome}
-use Rattle.std.proofs.lemmas.List.{length-take}
+use Rattle.std.proofs.lemmas.List.{append-nil, length-append, length-take}
 use Rattle.blk_image.specs.Checks.{Damage}
 use Rattle.blk_image.specs.Image.{Image}
 use Rattle.blk_image.specs.Told.{Rises, Stays}
@@ -11,12 +11,11 @@ use Rattle.blk_headline.specs.Opening.{IsUsable}
 use Rattle.blk_headline.specs.Script.{Script}
 use Rattle.blk_run.specs.declared.ending.Status.{Status}
 use Rattle.blk_run.specs.declared.ending.Status.TheVariants as status
-use Rattle.blk_run.specs.Inputs.{IsReadWhole}
+use Rattle.blk_run.specs.Inputs.{IsReadWhole, IsTakenPast, IsTakenUpTo}
 use Rattle.blk_run.specs.Session.{DoesNothing, FixedScript, IsCompleteScript, IsDamagedBy, LeavesUnput, OnDamage, Outside, Put}
 use Rattle.blk_run.specs.Statuses.{CauseOf}
 use Rattle.blk_script.specs.declared.fault.LineFault.{LineFault}
-use Rattle.blk_run.specs.WholeInputs.{longest_input}
-use Rattle.blk_run.specs.WholeInputs as whole_inputs
+use Rattle.blk_run.specs.WholeInputs.{IsWholeInRoom, longest_input}
 use Rattle.blk_run.specs.Work.{Performs, ReadsOnDamage, no_input, whole_input}
 
 -- a cause, where the source can't have failed and nothing is too long
@@ -40,13 +39,47 @@ pub same_key : {a b : List ℕ} → ◌≡◌ {A = Result (List ℕ) LineFault} 
 same_key e = cc
 
 -- the whole input is in the front of a room
-pub read_whole : (len : ℕ) (room : List ℕ) (old_left new_left : Option (List ℕ)) → ForSome old_left (whole_inputs.IsReadWhole len new_left room) → ForSome old_left (λ input. (take len room ≡ input) × IsReadWhole longest_input input new_left)
+pub read_whole : (len : ℕ) (room : List ℕ) (old_left new_left : Option (List ℕ)) → ForSome old_left (IsWholeInRoom len new_left room) → ForSome old_left (λ input. (take len room ≡ input) × IsReadWhole longest_input input new_left)
 read_whole len room old_left new_left read input left =
     let so = read input left in
     let t = length-take len room in
     let s = ap (λ (l : List ℕ). length l) so.are in
     let w = so.within in
     (so.are, record { within = omega (arith, t, s, w); none_left = so.none_left })
+
+-- What is taken of an input.
+
+-- none yet
+pub none_yet : (most : ℕ) (old new : Option (List ℕ)) → new ≡ old → ForSome old (IsTakenUpTo most new)
+none_yet most old new same input left = ([], record { behind = input; split = refl; left_is = same ∙ left; within = omega arith })
+
+-- no more than so many bytes are no more than more bytes
+up_to_more : (most more : ℕ) (left : Option (List ℕ)) (input : List ℕ) → most ≤ more → IsTakenUpTo most left input → IsTakenUpTo more left input
+up_to_more most more left input few taken = (taken.0, record { behind = taken.1.behind; split = taken.1.split; left_is = taken.1.left_is; within = let w = taken.1.within in omega (arith, w, few) })
+
+-- all of it
+all_taken : (most : ℕ) (input : List ℕ) (left : Option (List ℕ)) → IsReadWhole most input left → IsTakenUpTo most left input
+all_taken most input left whole = (input, record { behind = []; split = sym (append-nil input); left_is = whole.none_left; within = whole.within })
+
+-- one byte more than may be
+past_taken : (most : ℕ) (left : Option (List ℕ)) (input : List ℕ) → IsTakenPast most left input → IsTakenUpTo (most + 1) left input
+past_taken most left input past = (
+  past.0 ++ past.1.byte_more ∷ [],
+  record {
+    behind = past.1.behind;
+    split = past.1.split ∙ sym (append_assoc past.0 (past.1.byte_more ∷ []) past.1.behind);
+    left_is = past.1.left_is;
+    within = let a = length-append past.0 (past.1.byte_more ∷ []) in let w = past.1.whole in omega (arith, a, w);
+  },
+)
+
+-- then the input is longer than it may be
+past_long : (most : ℕ) (left : Option (List ℕ)) (input : List ℕ) → IsTakenPast most left input → most < length input
+past_long most left input past =
+    let s = ap (λ (l : List ℕ). length l) past.1.split in
+    let a = length-append past.0 (past.1.byte_more ∷ past.1.behind) in
+    let w = past.1.whole in
+    omega (arith, s, a, w)
 
 -- what a script says that was run
 pub record RunsScript (script : Script) (result : Status) (limits : Bounds) (device : Type 0) (before now : ℕ) (old new : Outside) : Type 0 where
@@ -86,7 +119,7 @@ module _ (result : Status) (limits : Bounds) (device source : Type 0) (before no
   put_of status.Device script from readings input sink whole runs = (whole, runs)
   put_of status.Source script from readings input sink whole runs = absurd runs.may_end
   put_of status.Sink script from readings input sink whole runs = (whole, runs)
-  put_of status.Memory script from readings input sink whole runs = record { unwritten = runs.unwritten; unprinted = runs.unprinted }
+  put_of status.Memory script from readings input sink whole runs = (inr whole, record { unwritten = runs.unwritten; unprinted = runs.unprinted })
   put_of status.Damaged script from readings input sink whole runs = (whole, runs)
   put_of status.TooLong script from readings input sink whole runs = absurd runs.may_end
 
@@ -97,7 +130,7 @@ module _ (result : Status) (limits : Bounds) (device source : Type 0) (before no
   reads_of status.Device damage whole on = (whole, on)
   reads_of status.Source damage whole on = absurd on
   reads_of status.Sink damage whole on = absurd on
-  reads_of status.Memory damage whole on = record { unwritten = on.unwritten; unprinted = on.unprinted }
+  reads_of status.Memory damage whole on = (λ input left. inr (whole input left), record { unwritten = on.unwritten; unprinted = on.unprinted })
   reads_of status.Damaged damage whole on = (whole, on)
   reads_of status.TooLong damage whole on = absurd on
 
@@ -112,7 +145,7 @@ module _ (result : Status) (limits : Bounds) (device source : Type 0) (before no
         subst (λ (s : Script). IsCompleteScript result s limits from readings (record old { left = new.left }) new) (same ∙ ap script (whole input left).0) (runs.complete from there usable readings clock no_device no_sink);
     damage = λ from there damage is. reads_of result damage (λ input left. (whole input left).1) (runs.damage from there damage is);
     cause = cause_wider result old.folder.files device source (Rises before now) (ForSome old.left (λ input. longest_input < length input)) runs.cause;
-    takes = tt;
+    takes = λ input left. up_to_more longest_input (longest_input + 1) new.left input (omega arith) (all_taken longest_input input new.left (whole input left).1);
   }
 
 -- Where nothing was done.
@@ -129,32 +162,33 @@ idle_script script limits device source before now old new nothing = record {
 
 pub idle_put : (script : List ℕ → Script) (limits : Bounds) (device source : Type 0) (before now : ℕ) (old new : Outside) → DoesNothing old new → Performs (whole_input script) status.Memory limits device source before now old new
 idle_put script limits device source before now old new nothing = record {
-  plays = λ from there usable readings clock input left. record { unwritten = nothing.unwritten; unprinted = nothing.unprinted };
+  plays = λ from there usable readings clock input left. (inl nothing.unread, record { unwritten = nothing.unwritten; unprinted = nothing.unprinted });
   complete = λ from there usable readings clock no_device no_source no_sink input left within. record { unwritten = nothing.unwritten; unread = refl; unprinted = nothing.unprinted };
-  damage = λ from there damage is. record { unwritten = nothing.unwritten; unprinted = nothing.unprinted };
+  damage = λ from there damage is. (λ input left. inl nothing.unread, record { unwritten = nothing.unwritten; unprinted = nothing.unprinted });
   cause = tt;
-  takes = tt;
+  takes = none_yet (longest_input + 1) old.left new.left nothing.unread;
 }
 
 -- the input failed
-pub unread_put : (script : List ℕ → Script) (limits : Bounds) (device source : Type 0) (before now : ℕ) (old new : Outside) → source → LeavesUnput old new → Performs (whole_input script) status.Source limits device source before now old new
-unread_put script limits device source before now old new rose nothing = record {
-  plays = λ from there usable readings clock input left. nothing;
+pub unread_put : (script : List ℕ → Script) (limits : Bounds) (device source : Type 0) (before now : ℕ) (old new : Outside) → source → ForSome old.left (IsTakenUpTo longest_input new.left) → LeavesUnput old new
+    → Performs (whole_input script) status.Source limits device source before now old new
+unread_put script limits device source before now old new rose taken nothing = record {
+  plays = λ from there usable readings clock input left. (taken input left, nothing);
   complete = λ from there usable readings clock no_device no_source no_sink input left within. no_source rose;
-  damage = λ from there damage is. nothing;
+  damage = λ from there damage is. (taken, nothing);
   cause = rose;
-  takes = tt;
+  takes = λ input left. up_to_more longest_input (longest_input + 1) new.left input (omega arith) (taken input left);
 }
 
 -- it has too many bytes
-pub long_put : (script : List ℕ → Script) (limits : Bounds) (device source : Type 0) (before now : ℕ) (old new : Outside) → ForSome old.left (λ input. longest_input < length input) → LeavesUnput old new
+pub long_put : (script : List ℕ → Script) (limits : Bounds) (device source : Type 0) (before now : ℕ) (old new : Outside) → ForSome old.left (IsTakenPast longest_input new.left) → LeavesUnput old new
     → Performs (whole_input script) status.TooLong limits device source before now old new
-long_put script limits device source before now old new long nothing = record {
-  plays = λ from there usable readings clock input left. (long input left, nothing);
-  complete = λ from there usable readings clock no_device no_source no_sink input left within. too_many (length input) within (long input left);
-  damage = λ from there damage is. (long, nothing);
-  cause = long;
-  takes = tt;
+long_put script limits device source before now old new past nothing = record {
+  plays = λ from there usable readings clock input left. (past input left, nothing);
+  complete = λ from there usable readings clock no_device no_source no_sink input left within. too_many (length input) within (past_long longest_input new.left input (past input left));
+  damage = λ from there damage is. (past, nothing);
+  cause = λ input left. past_long longest_input new.left input (past input left);
+  takes = λ input left. past_taken longest_input new.left input (past input left);
 }
   where
     too_many : (n : ℕ) → n ≤ longest_input → longest_input < n → ⊥

@@ -7,7 +7,7 @@ use Rattle.blk_image.specs.Told.{Told}
 use Rattle.blk_io.specs.Streams.{Appends, Readings}
 use Rattle.blk_model.specs.Room.{items, total}
 use Rattle.blk_model.specs.State.{State}
-use Rattle.blk_headline.specs.Script.{ended, says, totals_text}
+use Rattle.blk_headline.specs.Script.{ended, says, totals_line, totals_text}
 use Rattle.blk_headline.specs.Run.{clock_after, text_turn, turns}
 use Rattle.blk_cache.specs.declared.cache.Cache.{Cache}
 use Rattle.blk_cache.specs.declared.fault.StepFault.{StepFault}
@@ -15,7 +15,6 @@ use Rattle.blk_cache.specs.declared.fault.StepFault.TheVariants as fault
 use Rattle.blk_cache.specs.CacheKeeping.{KeepsState}
 use Rattle.blk_run.specs.Errors.{IsOnlySink}
 use Rattle.blk_run.specs.Playing.{SoFar, StandsAt, Plays, PlaysPart, state_now}
-use Rattle.blk_run.specs.Texts.{totals_line}
 use Rattle.blk_run.proofs.Asking.{around}
 use Rattle.blk_run.proofs.Parts.{stands_none}
 use Rattle.blk_run.proofs.RunLaws.{or_none}

@@ -1,12 +1,13 @@
 -- The whole input is read, piece by piece.
-use Rattle.std.proofs.Common.{◌≡◌, ℕ, ◌+◌, ◌-◌, ◌<◌, ◌≤◌, List, [], ◌++◌, Option, None, Some, length, take, drop, refl, sym, ◌∙◌, ap, subst, arith, append_assoc}
+use Rattle.std.proofs.Common.{◌≡◌, ℕ, ◌+◌, ◌-◌, ◌<◌, ◌≤◌, List, [], ◌∷◌, ◌++◌, Option, None, Some, get_or, length, take, drop, refl, sym, ◌∙◌, ap, subst, arith, append_assoc}
 use Rattle.std.specs.Option.{ForSome, option_map}
 use Rattle.std.proofs.Math.Seq.{take-append-add}
-use Rattle.std.proofs.lemmas.List.{append-nil, drop-drop, drop_all, length-append, length-drop, length-take, take-append-drop, take-append-le, take_all}
+use Rattle.std.proofs.lemmas.List.{append-nil, drop-drop, drop_all, length-append, length-drop, length-take, take-append-drop, take-append-le, take_all, take_more}
 use Rattle.std.proofs.lemmas.Slice.{take-put_mid_below}
 use borrow.Rule.Slice.PartMut.{mid_of, put_mid}
 use Rattle.blk_io.specs.Streams.{Moves}
-use Rattle.blk_run.specs.WholeInputs.{IsReadWhole, IsTakenSoFar}
+use Rattle.blk_run.specs.Inputs.{IsTakenPast, IsTakenUpTo}
+use Rattle.blk_run.specs.WholeInputs.{IsTakenSoFar, IsWholeInRoom}
 
 -- the room that is left
 pub room_left : (len : ℕ) (room : List ℕ) → len ≤ length room → length (mid_of len (length room - len) room) ≡ length room - len
@@ -37,7 +38,7 @@ module _ (len n : ℕ) (room old new bytes : List ℕ) (within : len < length ro
           sym (take-append-add (take len bytes) (drop len bytes) n) ∙ ap (λ (k : ℕ). take (k + n) (take len bytes ++ drop len bytes)) have ∙ ap (take (len + n)) (take-append-drop len bytes)
 
   -- none is left
-  pub taken_all : {left : Option (List ℕ)} {next : Option (List ℕ)} → IsTakenSoFar len left room bytes → len ≤ 1048576 → n ≡ 0 → 0 < length old → next ≡ option_map (drop n) left → IsReadWhole len next (put_mid len (length room - len) room new) bytes
+  pub taken_all : {left : Option (List ℕ)} {next : Option (List ℕ)} → IsTakenSoFar len left room bytes → len ≤ 1048576 → n ≡ 0 → 0 < length old → next ≡ option_map (drop n) left → IsWholeInRoom len next (put_mid len (length room - len) room new) bytes
   taken_all so few none some is =
       let end : drop len bytes ≡ [] = moves.end none some in
       let long : length bytes ≤ len = (let d = length-drop len bytes in let z : length (drop len bytes) ≡ 0 = ap length end in omega (arith, d, z)) in
@@ -51,3 +52,31 @@ module _ (len n : ℕ) (room old new bytes : List ℕ) (within : len < length ro
 pub placed_length : (len : ℕ) (room new : List ℕ) → len ≤ length room → length new ≡ length room - len → length (put_mid len (length room - len) room new) ≡ length room
 placed_length len room new within same =
     ap length (no_rest len room new within) ∙ (let a = length-append (take len room) new in let t = length-take len room in omega (arith, a, t, same, within))
+
+-- what was taken is a front of the input
+pub taken_front : (most len : ℕ) (room bytes : List ℕ) {left next : Option (List ℕ)} → IsTakenSoFar len left room bytes → len ≤ most → next ≡ left → IsTakenUpTo most next bytes
+taken_front most len room bytes so few same = (
+  take len bytes,
+  record {
+    behind = drop len bytes;
+    split = sym (take-append-drop len bytes);
+    left_is = same ∙ so.left_is;
+    within = let t = length-take len bytes in let w = so.within in omega (arith, t, w, few);
+  },
+)
+
+-- and it is one byte more than may be
+pub taken_past : (most len : ℕ) (room bytes : List ℕ) {left : Option (List ℕ)} → IsTakenSoFar len left room bytes → len ≡ most + 1 → IsTakenPast most left bytes
+taken_past most len room bytes so past =
+    let within : most < length bytes = let w = so.within in omega (arith, w, past) in
+    let byte = get_or bytes most 0 in
+    let front : take len bytes ≡ take most bytes ++ byte ∷ [] = ap (λ (k : ℕ). take k bytes) past ∙ take_more bytes most 0 within in (
+      take most bytes,
+      record {
+        byte_more = byte;
+        behind = drop len bytes;
+        split = sym (take-append-drop len bytes) ∙ ap (λ (l : List ℕ). l ++ drop len bytes) front ∙ append_assoc (take most bytes) (byte ∷ []) (drop len bytes);
+        whole = let t = length-take most bytes in omega (arith, t, within);
+        left_is = so.left_is;
+      },
+    )

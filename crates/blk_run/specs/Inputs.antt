@@ -37,6 +37,10 @@ pub record IsPastBudget (budget : ℕ) (input bytes : List ℕ) (left : Option (
 abbrev pub IsTakenUpTo : ℕ → (left : Option (List ℕ)) → (input : List ℕ) → Type 0
 IsTakenUpTo most left input = (bytes : List ℕ) × IsTaken most input bytes left
 
+-- so many bytes were taken, and one more
+abbrev pub IsTakenPast : ℕ → (left : Option (List ℕ)) → (input : List ℕ) → Type 0
+IsTakenPast most left input = (bytes : List ℕ) × IsPastBudget most input bytes left
+
 -- where the answer is that the input failed, this holds
 abbrev pub IfFailed : {E : Type 0} → Result InputEnd E → Type 0 → Type 0
 IfFailed (Ok end.Failed) P = P

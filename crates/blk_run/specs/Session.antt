@@ -19,8 +19,9 @@ use Rattle.blk_headline.specs.Script.{Script, session_script}
 use Rattle.blk_cache.specs.Opening.{EndsSession}
 use Rattle.blk_run.specs.declared.ending.Status.{Status}
 use Rattle.blk_run.specs.declared.ending.Status.TheVariants as status
-use Rattle.blk_run.specs.Inputs.{IsPastBudget, IsReadWhole, IsTaken, IsTakenUpTo}
+use Rattle.blk_run.specs.Inputs.{IsPastBudget, IsReadWhole, IsTaken, IsTakenPast, IsTakenUpTo}
 use Rattle.blk_run.specs.Texts.{Prints, damage_line}
+use Rattle.blk_run.specs.WholeInputs.{longest_input}
 
 -- what is told of what lies outside: the folder, what is printed, what is left of the input, and the readings to come
 pub record Outside : Type 0 where
@@ -202,14 +203,23 @@ FixedScript status.Damaged script limits from readings sink old new = ⊥
 FixedScript status.Device script limits from readings sink old new = FixedRuns status.Device script limits from readings sink old new ⊎ IsUnopened limits from old new
 FixedScript result script limits from readings sink old new = FixedRuns result script limits from readings sink old new
 
--- the input of `put` was not read whole, as it has too many bytes or the source failed: nothing was done but that
+-- The script of the whole input.
+
+-- how much of its input `put` took where it does nothing: what came before the source failed; one byte more than it may write; and for want of memory nothing, or all of it
+abbrev pub TakesUnput : Status → (input : List ℕ) → (old new : Option (List ℕ)) → Type 0
+TakesUnput status.Source input old new = IsTakenUpTo longest_input new input
+TakesUnput status.TooLong input old new = IsTakenPast longest_input new input
+TakesUnput status.Memory input old new = (new ≡ old) ⊎ IsReadWhole longest_input input new
+TakesUnput _ input old new = Unit {0}
+
+-- but for the input nothing was done
 pub record LeavesUnput (old new : Outside) : Type 0 where
   pub unwritten : Stays old.folder new.folder
   pub unprinted : new.written ≡ old.written
 
 -- `put` by its status: its whole input is written, which is read before the opening
 abbrev pub Put : Status → (List ℕ → Script) → Bounds → Image → Readings → (input : List ℕ) → (sink : Type 0) → Outside → Outside → Type 0
-Put status.Source script limits from readings input sink old new = LeavesUnput old new
-Put status.TooLong script limits from readings input sink old new = (1048576 < length input) × LeavesUnput old new
-Put status.Memory script limits from readings input sink old new = LeavesUnput old new
-Put result script limits from readings input sink old new = IsReadWhole 1048576 input new.left × FixedScript result (script input) limits from readings sink (record old { left = new.left }) new
+Put status.Source script limits from readings input sink old new = TakesUnput status.Source input old.left new.left × LeavesUnput old new
+Put status.TooLong script limits from readings input sink old new = TakesUnput status.TooLong input old.left new.left × LeavesUnput old new
+Put status.Memory script limits from readings input sink old new = TakesUnput status.Memory input old.left new.left × LeavesUnput old new
+Put result script limits from readings input sink old new = IsReadWhole longest_input input new.left × FixedScript result (script input) limits from readings sink (record old { left = new.left }) new

@@ -1,5 +1,5 @@
 -- The lines that are printed.
-use Rattle.std.specs.Prelude.{ℕ, ◌≡◌, List, ◌++◌, codes, decimal, Option}
+use Rattle.std.specs.Prelude.{ℕ, ◌≡◌, List, ◌++◌, codes, Option}
 use Rattle.std.specs.Option.{option_map}
 use Rattle.blk_image.specs.Checks.{Damage}
 use Rattle.blk_image.specs.Told.{Rises}
@@ -9,10 +9,6 @@ use Rattle.blk_io.specs.Texts.{damage_text}
 -- the usage
 abbrev pub usage_text : List ℕ
 usage_text = codes "usage\n"
-
--- so many items, with so many bytes, on a line
-abbrev pub totals_line : ℕ → ℕ → List ℕ
-totals_line items bytes = codes "items " ++ (decimal items ++ (codes " bytes " ++ (decimal bytes ++ codes "\n")))
 
 -- a damage, on a line
 abbrev pub damage_line : Damage → List ℕ

@@ -1,26 +1,27 @@
 -- The whole input is read.
-use Rattle.std.specs.Prelude.{ℕ, ◌≡◌, ◌≤◌, ◌<◌, List, [], length, take, drop, Result, Ok, Err}
+use Rattle.std.specs.Prelude.{ℕ, ◌≡◌, ◌≤◌, List, [], length, take, drop, Result, Ok, Err}
 use Rattle.std.specs.Option.{ForSome}
 use Rattle.std.specs.declared.option.Option.{Option}
 use Rattle.std.specs.declared.option.Option.TheVariants.{None, Some}
 use Rattle.blk_run.specs.declared.whole_input.InputFault.{InputFault}
 use Rattle.blk_run.specs.declared.whole_input.InputFault.TheVariants as fault
+use Rattle.blk_run.specs.Inputs.{IsTakenPast, IsTakenUpTo}
 
 -- `put` writes no more bytes
 abbrev pub longest_input : ℕ
 longest_input = 1048576
 
 -- all bytes of the input are in the front of the room, and none is left
-pub record IsReadWhole (len : ℕ) (left : Option (List ℕ)) (room bytes : List ℕ) : Type 0 where
+pub record IsWholeInRoom (len : ℕ) (left : Option (List ℕ)) (room bytes : List ℕ) : Type 0 where
   pub are : take len room ≡ bytes
   pub within : len ≤ longest_input
   pub none_left : left ≡ Some []
 
--- as an answer tells: at Ok the whole input is read, and it is too long exactly where it has more bytes than may be
+-- as an answer tells: at Ok the whole input is read; it is too long where one byte more than may be was taken; and where the source failed no more than may be was taken
 abbrev pub Reads : Result ℕ InputFault → (old new : Option (List ℕ)) → (room : List ℕ) → Type 0
-Reads (Ok len) old new room = (len ≤ longest_input) × ForSome old (IsReadWhole len new room)
-Reads (Err fault.TooLong) old new room = ForSome old (λ bytes. longest_input < length bytes)
-Reads (Err fault.Source) old new room = Unit {0}
+Reads (Ok len) old new room = (len ≤ longest_input) × ForSome old (IsWholeInRoom len new room)
+Reads (Err fault.TooLong) old new room = ForSome old (IsTakenPast longest_input new)
+Reads (Err fault.Source) old new room = ForSome old (IsTakenUpTo longest_input new)
 
 -- where the source failed, this holds
 abbrev pub IfSource : Result ℕ InputFault → Type 0 → Type 0

@@ -15,7 +15,7 @@ use Rattle.blk_words.specs.Words.{Invocation}
 use Rattle.blk_run.specs.declared.ending.Status.{Status}
 use Rattle.blk_run.specs.declared.ending.Status.TheVariants as status
 use Rattle.blk_run.specs.Inputs.{IsReadWhole, IsTakenUpTo}
-use Rattle.blk_run.specs.Session.{FixedScript, IsComplete, IsCompleteScript, IsDamagedBy, LeavesUnput, OnDamage, Outside, Put, Session}
+use Rattle.blk_run.specs.Session.{FixedScript, IsComplete, IsCompleteScript, IsDamagedBy, LeavesUnput, OnDamage, Outside, Put, Session, TakesUnput}
 use Rattle.blk_run.specs.Statuses.{CauseOf}
 use Rattle.blk_run.specs.WholeInputs.{longest_input}
 
@@ -53,9 +53,9 @@ Completes (no_input script) result limits from readings old new = IsCompleteScri
 
 -- a script of the whole input on a folder of which a check fails: the input wasn't read whole, or there was no memory, and no more was done; or it was
 abbrev pub ReadsOnDamage : Status → Damage → (before now : ℕ) → Outside → Outside → Type 0
-ReadsOnDamage status.Source damage before now old new = LeavesUnput old new
-ReadsOnDamage status.TooLong damage before now old new = ForSome old.left (λ input. longest_input < length input) × LeavesUnput old new
-ReadsOnDamage status.Memory damage before now old new = LeavesUnput old new
+ReadsOnDamage status.Source damage before now old new = ForSome old.left (λ input. TakesUnput status.Source input old.left new.left) × LeavesUnput old new
+ReadsOnDamage status.TooLong damage before now old new = ForSome old.left (λ input. TakesUnput status.TooLong input old.left new.left) × LeavesUnput old new
+ReadsOnDamage status.Memory damage before now old new = ForSome old.left (λ input. TakesUnput status.Memory input old.left new.left) × LeavesUnput old new
 ReadsOnDamage result damage before now old new = ForSome old.left (λ input. IsReadWhole longest_input input new.left) × OnDamage result damage before now (record old { left = new.left }) new
 
 -- the work on a folder of which a check fails
@@ -70,10 +70,10 @@ IsTooLong input_lines left = ForSome left (λ input. budget < length input)
 IsTooLong (whole_input script) left = ForSome left (λ input. longest_input < length input)
 IsTooLong (no_input script) left = ⊥
 
--- how much of the input is taken: of lines no more than the budget and one byte
+-- how much of the input is taken: no more than it may have and one byte
 abbrev pub Takes : Work → (old new : Option (List ℕ)) → Type 0
 Takes input_lines old new = ForSome old (IsTakenUpTo (budget + 1) new)
-Takes (whole_input script) old new = Unit {0}
+Takes (whole_input script) old new = ForSome old (IsTakenUpTo (longest_input + 1) new)
 Takes (no_input script) old new = new ≡ old
 
 -- the work was done; device and source say that the count of each rose, before and now are the sink's counts of faults

@@ -13,7 +13,7 @@ ghost use Rattle.blk_model.specs.State.{Bounds, State};
 ghost use Rattle.blk_volume.specs.Found.{found};
 ghost use Rattle.blk_disk.specs.Open.{IsOpen};
 ghost use Rattle.blk_headline.specs.Opening.{IsUsable};
-ghost use Rattle.blk_headline.specs.Script.{count_script};
+ghost use Rattle.blk_headline.specs.Script.{count_script, totals_line};
 ghost use Rattle.blk_cache.specs.BoundNames.{AreAllFree};
 ghost use Rattle.blk_cache.specs.CacheKeeping.{KeepsState};
 ghost use Rattle.blk_cache.specs.Opening.{EndsSession, HoldsStill, WasMadeAt};
@@ -23,7 +23,6 @@ ghost use Rattle.blk_run.specs.Errors.{IsOnlySink};
 ghost use Rattle.blk_run.specs.Playing.{StandsAt};
 ghost use Rattle.blk_run.specs.Session.{FixedRuns, FixedScript, IsCompleteScript, IsDamagedBy, OnDamage};
 ghost use Rattle.blk_run.specs.Statuses.{CauseOf};
-ghost use Rattle.blk_run.specs.Texts.{totals_line};
 
 use crate::ending::Status;
 use crate::printing::{print_damage, print_totals};

@@ -6,7 +6,8 @@ ghost use Rattle.blk_image.specs.Told.{Rises};
 ghost use Rattle.blk_io.specs.Streams.{Appends};
 ghost use Rattle.blk_io.specs.Faults.{damage_of};
 ghost use Rattle.blk_io.specs.Texts.{hex_text};
-ghost use Rattle.blk_run.specs.Texts.{damage_line, totals_line};
+ghost use Rattle.blk_headline.specs.Script.{totals_line};
+ghost use Rattle.blk_run.specs.Texts.{damage_line};
 
 use blk_io::{Damage, Failed, FileId, Sink};
 use itoa::Buffer;

@@ -74,7 +74,12 @@ const COUNTS: [(&[Change], Status, &[u8]); 8] = [
 ];
 
 // Runs with a word over a folder.
-fn run_on(alloc: Global, f: &mut Mem, word: &str, out: &mut MemSink) -> Result<Status, Fail> {
+pub(crate) fn run_on<F: Folder>(
+    alloc: Global,
+    f: &mut F,
+    word: &str,
+    out: &mut MemSink,
+) -> Result<Status, Fail> {
     let words = vec![in alloc; String::from_str(alloc, word)?]?;
     let mut input = MemSource::new(alloc, b"")?;
     let mut clock = ListClock::new(alloc, &[50])?;

@@ -1,5 +1,6 @@
-// Whole sessions over a folder in memory: how they end, what they print, and what is held then.
-use crate::repairs::Mem;
+// Whole sessions over a folder in memory: how they end, what they print, and what is held then, also where they are stopped.
+use crate::counting::run_on;
+use crate::repairs::{Mem, again};
 use crate::sessions::{LIMITS, empty, held};
 use blk_io::{ListClock, MemSink, MemSource};
 use blk_run::{Status, session};
@@ -34,8 +35,8 @@ const QUIET: Row<'static> = Row {
 };
 
 // The lines that are no command, and the three on sparse data; a last line without an end, and none; more bytes than the budget;
-// a source that fails at its second take, behind a part of a line; and a sink that fails at its first put, and in the second reply: the
-// command is done all the same, and the next is not begun.
+// a source that fails at its second take, behind a part of a line; and a sink that fails at its first put, and at its third: the command
+// is done all the same, and the next is not begun. A reply is put in two pieces, so the third put is the first of the second reply.
 const ROWS: [Row<'static>; 8] = [
     Row {
         input: b"\nfly 1\ncreate 0\ncreate x a\nwrite 0 0 0 6\ncreate 0 a%2\nsread 0 0 1\n",
@@ -108,5 +109,119 @@ fn sessions_end_and_print_as_their_lines_ask(rt: HostRuntime) -> Result<(), Fail
         let (items, bytes, _) = held(rt.alloc(), f)?;
         assert_eq!(rt; (items, bytes), row.held);
     }
+    Ok(())
+}
+
+// Twelve commands that make two entries, use and change the first, doom the second and evict the first.
+const TWELVE: &[u8] =
+    b"create 0 a\nwrite 0 0 0 6161\nclose 0\ncreate 1 b\nwrite 1 1 0 62626262\nclose 1\n\
+    open 2 a\nread 2 0 0 9\nwrite 2 0 2 6161\nclose 2\ndoomkey b\ntrim 0\n";
+
+// The reply to each of them.
+const REPLIES: [&[u8]; 12] = [
+    b"ok\n",
+    b"ok 2\n",
+    b"ok\n",
+    b"ok\n",
+    b"ok 4\n",
+    b"ok\n",
+    b"ok\n",
+    b"data 2 6161\n",
+    b"ok 2\n",
+    b"ok\n",
+    b"ok\n",
+    b"evicted a\nok 1\n",
+];
+
+// The rows of a list of the settled entries, the last used first.
+const NONE: &[u8] = b"end 0\n";
+
+const A: &[u8] = b"main a 2 0 0\nend 1\n";
+
+const B_A: &[u8] = b"main b 0 4 0\nmain a 2 0 0\nend 2\n";
+
+const A_B: &[u8] = b"main a 2 0 0\nmain b 0 4 0\nend 2\n";
+
+const B: &[u8] = b"main b 0 4 0\nend 1\n";
+
+const LONGER_A_B: &[u8] = b"main a 4 0 0\nmain b 0 4 0\nend 2\n";
+
+const LONGER_A: &[u8] = b"main a 4 0 0\nend 1\n";
+
+// What is at rest where none of the commands is done, where the first is, the first two, and so on. What a stop inside a command may
+// leave is what is at rest before it or after it, as each of these changes one entry alone.
+const AT_REST: [&[u8]; 13] = [
+    NONE, NONE, NONE, A, A, A, B_A, A_B, A_B, B, LONGER_A_B, LONGER_A, NONE,
+];
+
+// The session is stopped after each eleventh of its steps, fewer than 400: all of them would take minutes.
+const EACH: u64 = 11;
+
+const MOST_STOPS: u64 = 40;
+
+// How many of the replies were printed, where nothing else was but a front of the next.
+fn replies_in(printed: &[u8]) -> Option<usize> {
+    let mut rest = printed;
+    let mut count: usize = 0;
+    for reply in &REPLIES {
+        let Some(behind) = rest.strip_prefix(*reply) else {
+            return if reply.starts_with(rest) {
+                Some(count)
+            } else {
+                None
+            };
+        };
+        rest = behind;
+        count = count.wrapping_add(1);
+    }
+    if rest.is_empty() { Some(count) } else { None }
+}
+
+// Whether this is the list of what is at rest where so many commands are done.
+fn is_at_rest(done: usize, listed: &[u8]) -> bool {
+    match AT_REST.get(done) {
+        Some(rows) => *rows == listed,
+        None => false,
+    }
+}
+
+// The session of these commands where it is stopped after so many steps: how many replies were printed, what the word `list` prints of
+// what the folder has then, and whether the session came to its end.
+fn stopped_after(alloc: Global, steps: u64) -> Result<(Option<usize>, MemSink, bool), Fail> {
+    let row = Row {
+        input: TWELVE,
+        ..QUIET
+    };
+    let mut f = again(empty(alloc), steps);
+    let mut out = MemSink::new(alloc);
+    let status = play(alloc, &mut f, &row, &mut out)?;
+    let mut f = again(f, u64::MAX);
+    let mut listed = MemSink::new(alloc);
+    let next = run_on(alloc, &mut f, "list", &mut listed)?;
+    let replies = if next == Status::Ok {
+        replies_in(out.written())
+    } else {
+        None
+    };
+    Ok((replies, listed, status == Status::Ok))
+}
+
+#[test]
+fn a_session_of_twelve_commands_may_be_stopped(rt: HostRuntime) -> Result<(), Fail> {
+    let mut whole = false;
+    for stop in 0..MOST_STOPS {
+        let steps = stop.wrapping_mul(EACH);
+        let (replies, listed, ended) = stopped_after(rt.alloc(), steps)?;
+        assert!(rt; replies.is_some(), "{steps}");
+        let done = replies.unwrap_or(0);
+        let before = is_at_rest(done, listed.written());
+        let after = !ended && is_at_rest(done.wrapping_add(1), listed.written());
+        assert!(rt; before || after, "{steps}");
+        if ended {
+            whole = done == REPLIES.len();
+            break;
+        }
+    }
+    assert!(rt; whole);
     Ok(())
 }

@@ -1,10 +1,14 @@
-use Rattle.std.proofs.Common.{rules, ◌++◌, ◌≡◌, ◌≤◌, ◌∙◌, ℕ, List, Option, length, take, ap, sym, refl}
+use Rattle.std.proofs.Common.{rules, ◌++◌, ◌≡◌, ◌∙◌, ℕ, List, Err, length, take, ap, sym, refl, subst}
 use Rattle.std.proofs.Math.Seq.{take-append_seam}
 use Rattle.percent_encoding.specs.Percent.{percent_decode}
-use Rattle.blk_image.specs.Told.{Rises}
 use Rattle.blk_model.specs.Bounds.{bounds_of}
-use Rattle.blk_headline.specs.Script.{doom_script, get_script, put_script}
-use Rattle.blk_run.proofs.Performing.{put_performs, read_whole, same_key}
+use Rattle.blk_headline.specs.Script.{put_script}
+use Rattle.std.specs.Option.{ForSome}
+use Rattle.blk_run.specs.declared.whole_input.InputFault.{InputFault}
+use Rattle.blk_run.specs.declared.whole_input.InputFault.TheVariants as fault
+use Rattle.blk_run.specs.Inputs.{IsTakenPast}
+use Rattle.blk_run.specs.WholeInputs.{Reads, longest_input}
+use Rattle.blk_run.proofs.Performing.{long_put, put_performs, read_whole, same_key}
 use Rattle.blk_run.proofs.keyed.put.Goals as goal
 
 -- what was lent whole is given back whole
@@ -27,3 +31,13 @@ returns-in-Ok-read_input-clause-performs g c =
       damage = λ from there damage is. c.run_script.ensures.damage from there damage is (g.S.Source.left c.read_input.new.input);
       cause = c.run_script.ensures.cause;
     })
+
+pub returns-clause-performs : goal.returns-clause-performs
+returns-clause-performs g c =
+    long_put (put_script (percent_decode c.args.key.now) c.args.stream) (bounds_of c.args.limits) _ _ _ _
+    (record { folder = g.F.Folder.told c.args.folder.now; written = g.K.Sink.written c.args.out.now; left = g.S.Source.left c.args.input.now; clock = g.C.Clock.readings c.args.clock.now })
+    (record { folder = g.F.Folder.told c.args.folder.now; written = g.K.Sink.written c.args.out.now; left = g.S.Source.left c.read_input.new.input; clock = g.C.Clock.readings c.args.clock.now })
+    (past c.in-Err-TooLong.field-0 c.in-Err-TooLong.field-0-is c.in-Err-TooLong.ensures.reads) (record { unwritten = refl; unprinted = refl })
+  where
+    past : (why : InputFault) → why ≡ fault.TooLong → Reads (Err why) (g.S.Source.left c.args.input.now) (g.S.Source.left c.read_input.new.input) c.read_input.new.room → ForSome (g.S.Source.left c.args.input.now) (IsTakenPast longest_input (g.S.Source.left c.read_input.new.input))
+    past why is reads = subst (λ (w : InputFault). Reads (Err w) (g.S.Source.left c.args.input.now) (g.S.Source.left c.read_input.new.input) c.read_input.new.room) is reads

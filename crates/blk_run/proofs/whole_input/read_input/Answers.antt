@@ -1,5 +1,5 @@
 use Rattle.std.proofs.Common.{◌≡◌, ◌≤◌, ◌<◌, ◌+◌, ◌-◌, ℕ, length, refl, sym, ◌∙◌, ap, arith}
-use Rattle.blk_run.proofs.WholeReading.{placed_length, room_left, taken_all, taken_more}
+use Rattle.blk_run.proofs.WholeReading.{placed_length, room_left, taken_all, taken_front, taken_more, taken_past}
 use Rattle.blk_run.proofs.whole_input.read_input.Goals as goal
 
 pub returns-in-Ok-eq0-clause-reads : goal.returns-in-Ok-eq0-clause-reads
@@ -13,6 +13,15 @@ returns-in-Ok-eq0-clause-reads g c = (
       taken_all c.loop-len.len c.in-Ok-eq0.field-0 c.loop-len.room _ c.take.new.out bytes (omega (arith, room, few)) (c.take.auto.out ∙ left) (c.in-Ok-eq0.ensures.bytes _ so.left_is)
       so few c.in-Ok-eq0.field-0-test (omega (arith, left, room, few)) c.in-Ok-eq0.ensures.left,
 )
+
+pub returns-in-Err-clause-reads : goal.returns-in-Err-clause-reads
+returns-in-Err-clause-reads g c bytes there = taken_front 1048576 c.loop-len.len c.loop-len.room bytes (c.loop-len.invariant.taken bytes there) c.loop-len-test.true c.in-Err.ensures.stays
+
+pub returns-clause-reads : goal.returns-clause-reads
+returns-clause-reads g c bytes there =
+    let within = c.loop-len.invariant.within in
+    let many = c.loop-len-test.false in
+    taken_past 1048576 c.loop-len.len c.loop-len.room bytes (c.loop-len.invariant.taken bytes there) (omega (arith, within, many))
 
 pub loop-len-preserved : goal.loop-len-preserved
 loop-len-preserved g c =
