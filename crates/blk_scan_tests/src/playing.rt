@@ -154,10 +154,8 @@ const AT_REST: [&[u8]; 13] = [
     NONE, NONE, NONE, A, A, A, B_A, A_B, A_B, B, LONGER_A_B, LONGER_A, NONE,
 ];
 
-// The session is stopped after each eleventh of its steps, fewer than 400: all of them would take minutes.
-const EACH: u64 = 11;
-
-const MOST_STOPS: u64 = 40;
+// More steps than the session makes.
+const MOST_STEPS: u64 = 500;
 
 // How many of the replies were printed, where nothing else was but a front of the next.
 fn replies_in(printed: &[u8]) -> Option<usize> {
@@ -207,10 +205,9 @@ fn stopped_after(alloc: Global, steps: u64) -> Result<(Option<usize>, MemSink, b
 }
 
 #[test]
-fn a_session_of_twelve_commands_may_be_stopped(rt: HostRuntime) -> Result<(), Fail> {
+fn a_session_of_twelve_commands_may_be_stopped_at_each_word(rt: HostRuntime) -> Result<(), Fail> {
     let mut whole = false;
-    for stop in 0..MOST_STOPS {
-        let steps = stop.wrapping_mul(EACH);
+    for steps in 0..MOST_STEPS {
         let (replies, listed, ended) = stopped_after(rt.alloc(), steps)?;
         assert!(rt; replies.is_some(), "{steps}");
         let done = replies.unwrap_or(0);
