@@ -1,5 +1,5 @@
-# A folder of 20,000 entries, made by one session. What the next count takes is told, beside what cat takes over the same files, which
-# both find in memory. The session may take minutes, so tests/run leaves it out: bash tests/large.sh PROGRAM.
+# A folder of 20,000 entries, made by one session. What the next count takes is told, beside what cat takes over the same files, both
+# from memory.
 . "$(dirname "${BASH_SOURCE[0]}")/common.sh"
 
 count=20000
