@@ -1,3 +1,4 @@
 pub mod Children
 pub mod Dropping
 pub mod Parents
+pub mod SparseObjects
