@@ -2,3 +2,4 @@ pub mod Children
 pub mod Dropping
 pub mod Parents
 pub mod SparseObjects
+pub mod NewParts
