@@ -1,13 +1,13 @@
 -- A parent gets the bit of a part: what it loads then.
-use Rattle.std.proofs.Common.{◌≡◌, ◌≢◌, ◌⊎◌, inl, inr, ⊎_elim, ℕ, ◌+◌, ◌*◌, ◌/◌, ◌%◌, ◌<◌, ◌≤◌, List, [], ◌∷◌, length, Bool, true, false, Option, None, Some, Ok, refl, sym, ◌∙◌, ap, ap₂, subst, arith}
+use Rattle.std.proofs.Common.{◌≡◌, ◌≢◌, ◌⊎◌, inl, inr, ⊎_elim, ℕ, ◌+◌, ◌<◌, ◌≤◌, List, [], ◌∷◌, length, Bool, true, false, Option, None, Some, Ok, refl, sym, ◌∙◌, ap, ap₂, arith}
 use Rattle.std.specs.Prelude.{◌==◌, ◌&&◌, ◌||◌, ◌-◌, nat_le, nat_lt, not, slice_index, if◌then◌else◌}
 use Rattle.std.specs.Option.{option_and_then}
-use Rattle.std.proofs.lemmas.Bool.{and_parts, cases_Bool, eqb-true, cases_lt}
+use Rattle.std.proofs.lemmas.Bool.{and_parts, cases_Bool, eqb-true}
 use Rattle.std.proofs.lemmas.Bool.Decides.{nat_tests}
 use Rattle.std.proofs.lemmas.Option.{cond_some, option_and_then_some}
 use Rattle.blk_image.specs.Bytes.{content, long_at, word_at}
 use Rattle.blk_image.specs.Footprint.{SameOutside}
-use Rattle.blk_image.specs.Image.{AreBytes, Image, byte}
+use Rattle.blk_image.specs.Image.{Image, byte}
 use Rattle.blk_image.proofs.Runs.{some_inj}
 use Rattle.blk_image.proofs.Words.{content-range}
 use Rattle.blk_model.specs.Bytes.{overwritten}
@@ -17,11 +17,11 @@ use Rattle.blk_format.specs.Claims.{claims_of, has_claim, repeats}
 use Rattle.blk_format.specs.Records.{entry_checks}
 use Rattle.blk_format.specs.Sealed.{RecordChecks}
 use Rattle.blk_format.specs.SparseIndex.{ParentIndex, is_index_head, last_block_len_of, map_bit, minus_one, parent_key_len_of, read_parent_index}
-use Rattle.blk_volume.specs.Entries.{IsParent, IsPart, IsPlain, Role, most_stream_bytes, parent_role, part_role, role_of, stored_stream, stored_streams, stream}
+use Rattle.blk_volume.specs.Entries.{IsParent, IsPart, IsPlain, Role, parent_role, part_role, role_of, stored_stream, stored_streams, stream}
 use Rattle.blk_volume.specs.Footprint.{SameStore}
 use Rattle.blk_volume.specs.Layout.{Layout, rule_of}
 use Rattle.blk_volume.specs.Loads.{Loaded, all_claims, load}
-use Rattle.blk_volume.specs.View.{RecordFields, entry_at, fields_of, stands_as, store_of, stored_at}
+use Rattle.blk_volume.specs.View.{RecordFields, entry_at, fields_of, store_of, stored_at}
 use Rattle.blk_laws.proofs.chains.ChainWords.{shown-fields}
 use Rattle.blk_laws.proofs.updates.StillShown.{standing-parts}
 use Rattle.blk_laws.proofs.walks.Loads.{load-then}

@@ -1,5 +1,5 @@
 -- Where the index of a parent lies, by its record.
-use Rattle.std.proofs.Common.{◌≡◌, ◌≢◌, ⊎_elim, ℤ, length, inl, inr, ℕ, ◌+◌, ◌<◌, ◌≤◌, List, [], ◌∷◌, None, Option, Some, Err, slice_index_or, refl, sym, ◌∙◌, ap, subst, arith, true, false}
+use Rattle.std.proofs.Common.{◌≡◌, ⊎_elim, ℤ, length, inl, inr, ℕ, ◌+◌, ◌<◌, ◌≤◌, List, [], ◌∷◌, None, Option, Some, Err, slice_index_or, sym, ◌∙◌, ap, subst, arith, true, false}
 use Rattle.std.specs.Prelude.{◌-◌, slice_index}
 use Rattle.std.specs.Int.{cast_signed, cast_unsigned, w64}
 use Rattle.std.proofs.lemmas.Int.{of_z-to_z}
@@ -13,10 +13,9 @@ use Rattle.blk_image.proofs.Runs.{passes_end, passes_none, passes_weaker, some_i
 use Rattle.blk_model.specs.Items.{Presence}
 use Rattle.blk_model.specs.Sizes.{signatures}
 use Rattle.blk_model.specs.Sparse.{empty_part, presence_after}
-use Rattle.blk_format.specs.Address.{blocks_256, external, is_address, kind_of}
+use Rattle.blk_format.specs.Address.{blocks_256, kind_of}
 use Rattle.blk_format.specs.Sealed.{AreChanges, IsUpdated, seal_place}
 use Rattle.blk_format.specs.SparseIndex.{read_part_index}
-use Rattle.blk_volume.specs.View.{entry_at}
 use Rattle.blk_disk.specs.declared.tables.BlockFiles.{BlockFiles}
 use Rattle.blk_disk.specs.Open.{IsOpen}
 use Rattle.blk_disk.specs.Tables.{Agrees, stands_among}

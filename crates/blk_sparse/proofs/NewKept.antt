@@ -1,6 +1,6 @@
 -- A part that is listed: while its parent gets its bit, and what is kept then.
-use Rattle.std.proofs.Common.{◌≡◌, ◌≢◌, ◌⊎◌, inl, inr, ⊎_elim, ℕ, ◌+◌, ◌/◌, ◌<◌, ◌≤◌, List, [], ◌∷◌, ◌++◌, length, Bool, true, false, Option, None, Some, Ok, refl, sym, ◌∙◌, ap, subst, arith}
-use Rattle.std.specs.Prelude.{◌==◌, ◌&&◌, ◌||◌, filter, not, slice_index, if◌then◌else◌}
+use Rattle.std.proofs.Common.{◌≡◌, ◌≢◌, ◌⊎◌, inl, inr, ⊎_elim, ℕ, ◌+◌, ◌<◌, ◌≤◌, List, ◌∷◌, ◌++◌, Bool, true, false, Option, None, Some, Ok, refl, sym, ◌∙◌, ap, subst, arith}
+use Rattle.std.specs.Prelude.{◌==◌, ◌&&◌, ◌||◌, filter, not, slice_index}
 use Rattle.std.proofs.lemmas.Bool.{and_parts, cases_Bool, eq-eqb, eqb-true, or_left, or_right}
 use Rattle.std.proofs.lemmas.Bool.Decides.{nat_tests}
 use Rattle.blk_image.specs.Footprint.{Footprint, SameOutside, range}
@@ -22,11 +22,11 @@ use Rattle.blk_format.specs.Storage.{is_storage, kind_for}
 use Rattle.blk_volume.specs.Chains.{bucket_of_hash}
 use Rattle.blk_volume.specs.Creation.{with_first}
 use Rattle.blk_volume.specs.Entries.{IsParent}
-use Rattle.blk_volume.specs.Footprint.{IsClear, IsFreeBut, SameBut}
+use Rattle.blk_volume.specs.Footprint.{IsClear, SameBut}
 use Rattle.blk_volume.specs.Layout.{IsLayoutOf, IsListedRecord, IsPlacedAt, Layout, order, rule_of}
 use Rattle.blk_volume.specs.ListImages.{HasListAtRest}
 use Rattle.blk_volume.specs.ListView.{put}
-use Rattle.blk_volume.specs.Loads.{Loaded, all_claims, load, record_claims, unchained_rule}
+use Rattle.blk_volume.specs.Loads.{Loaded, all_claims, load, record_claims}
 use Rattle.blk_volume.specs.Sound.{AreSealed, words_of}
 use Rattle.blk_volume.specs.View.{entry_at, list_of, node_at, store_of, view_of}
 use Rattle.blk_laws.proofs.claims.BlockBytes.{storage_inside}
@@ -41,7 +41,6 @@ use Rattle.blk_disk.specs.Tables.{Agrees, stands_among}
 use Rattle.blk_disk.proofs.Ranges.{stands_agree}
 use Rattle.blk_entry.specs.Keys.{data_file, data_range, data_start, stores}
 use Rattle.blk_stream.specs.Streams.{address_word}
-use Rattle.blk_kept.specs.Arranging.{LeavesFiles}
 use Rattle.blk_kept.specs.Changes.{ChangesOnly, Finds, SameCounters, SameSession}
 use Rattle.blk_kept.specs.Keeping.{KeepsUncounted}
 use Rattle.blk_kept.specs.NewPartLaws.{IsOfParent, with_new_part}

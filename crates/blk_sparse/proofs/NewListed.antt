@@ -1,6 +1,6 @@
 -- A part that is written comes into the use list and in front of its chain.
-use Rattle.std.proofs.Common.{◌≡◌, ◌⊎◌, ℕ, ◌+◌, ◌<◌, List, [], ◌∷◌, ◌++◌, length, Option, None, Some, Ok, refl, sym, ◌∙◌, ap, subst, lit<, lit≤, arith, Bool, true, false, ⊎_elim}
-use Rattle.std.specs.Prelude.{◌==◌, ◌%◌, if◌then◌else◌, nat_lt}
+use Rattle.std.proofs.Common.{◌≡◌, ◌⊎◌, ℕ, ◌<◌, List, ◌∷◌, ◌++◌, Option, Some, Ok, refl, sym, ◌∙◌, ap, subst, lit<, lit≤, arith, Bool, true, false, ⊎_elim}
+use Rattle.std.specs.Prelude.{◌==◌, if◌then◌else◌, nat_lt}
 use Rattle.std.specs.Option.{ForSome, option_map}
 use Rattle.std.proofs.lemmas.Bool.{eqb-true}
 use Rattle.std.proofs.lemmas.Nat.{mod_below}
@@ -11,7 +11,7 @@ use Rattle.blk_image.specs.Told.{Applies, Commits, Passes, TellsBytes, Told}
 use Rattle.blk_image.proofs.Footprints.{outside_wider, within_left}
 use Rattle.blk_image.proofs.Runs.{passes_end, passes_then, passes_weaker, some_inj}
 use Rattle.blk_model.specs.Holding.{rest}
-use Rattle.blk_model.specs.Items.{Item, Row, item_of, main, part}
+use Rattle.blk_model.specs.Items.{Row, item_of, main, part}
 use Rattle.blk_model.specs.State.{Object, State}
 use Rattle.blk_format.specs.BlockFiles.{is_among}
 use Rattle.blk_format.specs.Hash.{hash}
@@ -31,7 +31,7 @@ use Rattle.blk_volume.specs.ListImages.{CanBeMade, HasListAtRest, operation_step
 use Rattle.blk_volume.specs.ListPlans.{writes_of}
 use Rattle.blk_volume.specs.ListSteps.{IsPartly, touched_by_writes}
 use Rattle.blk_volume.specs.ListView.{CanBeInserted, IsList, ListView, ListWrite, put}
-use Rattle.blk_volume.specs.Loads.{Loaded, is_part, is_part_role, load, unchained_rule}
+use Rattle.blk_volume.specs.Loads.{Loaded, is_part_role, load, unchained_rule}
 use Rattle.blk_volume.specs.Searches.{HasKey, IsWholeChain, bucket_of_key}
 use Rattle.blk_volume.specs.ShownChanges.{ShowsTheSame}
 use Rattle.blk_volume.specs.Sound.{AreSealed, words_of}
@@ -50,10 +50,9 @@ use Rattle.blk_laws.proofs.walks.Shown.{role-name, role-part}
 use Rattle.blk_disk.specs.declared.tables.BlockFiles.{BlockFiles}
 use Rattle.blk_disk.specs.Open.{IsOpen}
 use Rattle.blk_lru.specs.Moments.{IsMidOperation}
-use Rattle.blk_chain.specs.Linking.{CanBeLinked, IsLinkedInFront, chained_with}
+use Rattle.blk_chain.specs.Linking.{CanBeLinked, IsLinkedInFront}
 use Rattle.blk_kept.specs.Arranging.{LeavesFiles}
 use Rattle.blk_kept.specs.Changes.{Finds, SameCounters}
-use Rattle.blk_kept.specs.Keeping.{KeepsUncounted}
 use Rattle.blk_kept.specs.NewEntryLaws.{HasRecordInFront, IsInsertDone}
 use Rattle.blk_kept.specs.NewPartLaws.{IsMidPart, with_bit, with_new_part}
 use Rattle.blk_kept.specs.NewPartsKept.{IsMakingPart}
@@ -66,7 +65,7 @@ use Rattle.blk_kept_calls.proofs.Marks.{come-in-front, in-front}
 use Rattle.blk_object.proofs.MakingListed.{told-at}
 use Rattle.blk_object.proofs.MakingStored.{counters-then}
 use Rattle.blk_object.proofs.MakingTaken.{told-mid}
-use Rattle.blk_sparse.specs.NewParts.{ForEachPartToBeListed, IsPartListed, IsPartToBeListed}
+use Rattle.blk_sparse.specs.NewParts.{IsPartListed, IsPartToBeListed}
 
 -- ---- the item of a part that loads
 

@@ -1,6 +1,6 @@
 -- A new part of an object: what is to be listed, once its record is written.
-use Rattle.std.proofs.Common.{◌≡◌, ◌≢◌, inl, inr, ⊎_elim, ℕ, zero, suc, ◌+◌, ◌<◌, ◌≤◌, List, [], ◌∷◌, ◌++◌, length, set, get_or, cond, Bool, true, false, Option, None, Some, Ok, IfSome, refl, sym, ◌∙◌, ap, subst, lit<, arith}
-use Rattle.std.specs.Prelude.{◌==◌, ◌&&◌, ◌||◌, filter, is_some, nat_le, nat_lt, not, if◌then◌else◌, slice_set, unwrap_or}
+use Rattle.std.proofs.Common.{◌≡◌, ⊎_elim, ℕ, zero, suc, ◌+◌, ◌<◌, ◌≤◌, List, [], ◌∷◌, ◌++◌, length, set, get_or, cond, Bool, true, false, Option, None, Some, refl, sym, ◌∙◌, ap, subst, lit<, arith}
+use Rattle.std.specs.Prelude.{◌==◌, ◌||◌, filter, is_some, nat_le, nat_lt, not, if◌then◌else◌, slice_set, unwrap_or}
 use Rattle.std.specs.Cmp.Derive.{both_true}
 use Rattle.std.specs.Int.{cast_unsigned, w64}
 use Rattle.std.specs.List.{list_any}
@@ -11,13 +11,12 @@ use Rattle.std.proofs.lemmas.List.{length-map}
 use Rattle.std.proofs.lemmas.Nat.{mod_below}
 use Rattle.std.proofs.lemmas.Slice.Eq.{bytes_eq-Decides}
 use Rattle.blk_image.specs.Image.{Image}
-use Rattle.blk_image.proofs.Runs.{some_inj}
 use Rattle.blk_model.specs.Effects.{used}
 use Rattle.blk_model.specs.Holding.{rest}
-use Rattle.blk_model.specs.Items.{IsBytes, IsPartValue, Item, LiesInside, PartValue, Presence, Row, Shape, Streams, is_sparse, main, main_row, part, part_row, plain, same_item, sparse, times}
-use Rattle.blk_model.specs.Sizes.{longest_key, part_count, part_size, signatures}
+use Rattle.blk_model.specs.Items.{IsBytes, IsPartValue, Item, LiesInside, PartValue, Presence, Row, Shape, is_sparse, main, main_row, part, part_row, plain, same_item, sparse, times}
+use Rattle.blk_model.specs.Sizes.{part_count, part_size, signatures}
 use Rattle.blk_model.specs.Sparse.{empty_part, part_after}
-use Rattle.blk_model.specs.State.{IsObject, IsValidState, Object, State, has_item, object_at, part_at}
+use Rattle.blk_model.specs.State.{IsObject, IsValidState, Object, State, object_at, part_at}
 use Rattle.blk_model.specs.Holding as model
 use Rattle.blk_model.proofs.PartValues.{empty_part_is, part_after_is}
 use Rattle.blk_model.proofs.Same.{same_item_self}
@@ -25,16 +24,15 @@ use Rattle.blk_model.proofs.States.{if_some_is}
 use Rattle.blk_model.proofs.Times.{times-cons}
 use Rattle.blk_format.specs.Claims.{Claim, claims_of, claims_of_all, has_claim, repeats}
 use Rattle.blk_format.specs.Hash.{hash}
-use Rattle.blk_format.specs.Names.{Name, child_name, read_name}
-use Rattle.blk_format.specs.SparseIndex.{ParentIndex, PartIndex, read_part_index}
+use Rattle.blk_format.specs.Names.{Name, read_name}
+use Rattle.blk_format.specs.SparseIndex.{ParentIndex}
 use Rattle.blk_format.proofs.NameLemmas.{reads_names}
 use Rattle.blk_volume.specs.Chains.{bucket_of_hash}
 use Rattle.blk_volume.specs.Creation.{with_first}
-use Rattle.blk_volume.specs.Entries.{IsParent, IsPart, IsPlain, Role, part_role, stream}
+use Rattle.blk_volume.specs.Entries.{IsParent, IsPart, Role, part_role, stream}
 use Rattle.blk_volume.specs.Found.{row_of_loaded, row_with}
 use Rattle.blk_volume.specs.Audit.{is_parent_of}
 use Rattle.blk_volume.specs.Layout.{IsPartAt, Layout, OneChanged, is_in, is_listed}
-use Rattle.blk_volume.specs.ListView.{put}
 use Rattle.blk_volume.specs.Loads.{Loaded, all_claims}
 use Rattle.blk_volume.specs.Sound.{words_of}
 use Rattle.blk_volume.specs.View.{view_of}
@@ -43,7 +41,6 @@ use Rattle.blk_laws.proofs.claims.ClaimLists.{claim-append}
 use Rattle.blk_laws.proofs.states.Changing.{at-elsewhere, at-itself}
 use Rattle.blk_laws.proofs.states.Settling.{main-listed}
 use Rattle.blk_ranges.specs.declared.names.ChildName.{ChildName}
-use Rattle.blk_ranges.specs.ParentMaps.{with_part}
 use Rattle.blk_ranges.specs.PartMaps.{presence_in}
 use Rattle.blk_kept.specs.CommandStates.{IsUnsettled, amidst}
 use Rattle.blk_kept.specs.Keeping.{KeepsUncounted}
@@ -52,12 +49,10 @@ use Rattle.blk_kept.specs.PartStates.{with_object, with_value}
 use Rattle.blk_kept.proofs.NewParts.{noted-changes}
 use Rattle.blk_kept.proofs.NotAtRest.{own-uses, unsettled-rest}
 use Rattle.blk_kept.proofs.PartChanges.{new-parts-keep-valid, parts-change-alone}
-use Rattle.blk_object.specs.Writing.{node_of_object}
-use Rattle.blk_object.proofs.MakingRoom.{uses-few}
 use Rattle.blk_object.proofs.WrittenObjects.{IsRowOf, object-row}
 use Rattle.blk_stream.specs.Loading.{stored_streams_with}
 use Rattle.blk_sparse.specs.NewParts.{CanHavePart, IsFirstIndex, IsPartToBeListed, KeepsPart, index_with_bit, new_part, with_noted, words_of_part}
-use Rattle.blk_sparse.specs.SparseObjects.{KeepsParent, with_piece, with_piece_written}
+use Rattle.blk_sparse.specs.SparseObjects.{KeepsParent, with_piece_written}
 use Rattle.blk_sparse.specs.declared.new_part.PartPlaces.{PartPlaces}
 use Rattle.blk_sparse.proofs.NewRoles.{covered, part-role-is, row-is}
 

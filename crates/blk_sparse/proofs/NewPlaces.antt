@@ -1,6 +1,6 @@
 -- The places of a new part, taken one after another, and what is stored in two of them.
-use Rattle.std.proofs.Common.{◌≡◌, ◌≢◌, ℕ, ◌+◌, ◌-◌, ◌<◌, ◌≤◌, List, [], ◌∷◌, ◌++◌, length, take, drop, Option, None, Some, refl, ap, sym, ◌∙◌, subst, arith, true, false, append_assoc, length-append}
-use Rattle.std.specs.Prelude.{replicate, ◌||◌, ◌==◌}
+use Rattle.std.proofs.Common.{◌≡◌, ℕ, ◌+◌, ◌-◌, ◌<◌, ◌≤◌, List, [], ◌∷◌, ◌++◌, length, take, drop, None, Some, refl, ap, sym, ◌∙◌, subst, arith, true, false, append_assoc, length-append}
+use Rattle.std.specs.Prelude.{replicate, ◌==◌}
 use Rattle.std.specs.Option.{ForSome}
 use Rattle.std.proofs.lemmas.List.{length-replicate}
 use Rattle.std.proofs.lemmas.Bool.{eq-eqb, or_left, or_right}
@@ -8,14 +8,11 @@ use Rattle.blk_image.specs.Image.{Image}
 use Rattle.blk_image.specs.Told.{Passes, Told}
 use Rattle.blk_image.proofs.Runs.{passes_then, passes_weaker}
 use Rattle.blk_model.specs.Bytes.{overwritten}
-use Rattle.blk_model.specs.State.{State}
 use Rattle.blk_format.specs.BlockFiles.{is_among}
 use Rattle.blk_format.specs.Headers.{HasWholeIndex}
 use Rattle.blk_format.specs.Storage.{kind_for}
 use Rattle.blk_format.proofs.Among.{is_among-append}
 use Rattle.blk_format.proofs.Finished.{whole_index}
-use Rattle.blk_volume.specs.Layout.{Layout}
-use Rattle.blk_volume.specs.View.{store_of}
 use Rattle.blk_disk.specs.declared.tables.BlockFiles.{BlockFiles}
 use Rattle.blk_disk.specs.Open.{IsOpen}
 use Rattle.blk_stream.specs.Placing.{CanBePlaced}
@@ -23,7 +20,7 @@ use Rattle.blk_stream.specs.Stages.{FillsByStage, IsFilled}
 use Rattle.blk_stream.proofs.Placed.{blocks_are}
 use Rattle.blk_kept.specs.Changes.{StillFinds}
 use Rattle.blk_kept.specs.Keeping.{KeepsUncounted}
-use Rattle.blk_object.specs.Making.{KeepsStored, LeavesRoom, Takes}
+use Rattle.blk_object.specs.Making.{LeavesRoom, Takes}
 use Rattle.blk_object.proofs.MakingRoom.{counted-with-room, free-with-room}
 use Rattle.blk_object.proofs.MakingStored.{counters-then, stored-then}
 use Rattle.blk_object.proofs.MakingTaken.{none-before, session-then, then-finds, told-before, told-mid}

@@ -1,17 +1,17 @@
 -- What a new part is by its two streams, and its row.
-use Rattle.std.proofs.Common.{◌≡◌, ℕ, zero, suc, ◌+◌, ◌*◌, ◌<◌, ◌≤◌, List, [], ◌∷◌, length, map, get_or, Bool, true, false, Option, None, Some, IfSome, refl, sym, ◌∙◌, ap, subst, arith}
-use Rattle.std.specs.Prelude.{◌==◌, ◌&&◌, ◌||◌, not, nat_le, nat_lt, IsTrue}
+use Rattle.std.proofs.Common.{◌≡◌, ℕ, zero, suc, ◌+◌, ◌*◌, ◌<◌, ◌≤◌, List, [], ◌∷◌, length, map, get_or, Bool, true, false, Option, None, Some, IfSome, refl, ◌∙◌, ap, arith}
+use Rattle.std.specs.Prelude.{◌==◌, ◌||◌, not, nat_le, nat_lt}
 use Rattle.std.specs.Cmp.Derive.{both_true}
 use Rattle.std.specs.List.{list_all, range_with_len}
 use Rattle.std.specs.Option.{option_map_or}
 use Rattle.std.proofs.lemmas.Bool.{eq-eqb, le-leb}
 use Rattle.std.proofs.lemmas.Bool.Decides.{nat_tests}
-use Rattle.blk_model.specs.Items.{LiesInside, PartValue, Presence, Row, part_row}
+use Rattle.blk_model.specs.Items.{LiesInside, Presence, part_row}
 use Rattle.blk_model.specs.Sizes.{part_size}
 use Rattle.blk_model.specs.Sparse.{empty_part, part_after, presence_after}
 use Rattle.blk_format.specs.Names.{Name, read_name}
 use Rattle.blk_format.specs.SparseIndex.{PartIndex, read_part_index}
-use Rattle.blk_volume.specs.Entries.{IsPart, Role, is_covered, part_role}
+use Rattle.blk_volume.specs.Entries.{IsPart, is_covered, part_role}
 use Rattle.blk_volume.specs.Found.{row_with}
 use Rattle.blk_ranges.specs.PartMaps.{presence_in}
 

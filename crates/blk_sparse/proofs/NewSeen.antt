@@ -1,19 +1,19 @@
 -- A parent loads with another index, once a byte in its place has changed.
-use Rattle.std.proofs.Common.{◌≡◌, ◌≢◌, ⊎_elim, ℕ, zero, suc, ◌+◌, ◌<◌, ◌≤◌, List, [], ◌∷◌, ◌++◌, take, Bool, true, false, Option, None, Some, Ok, refl, sym, ◌∙◌, ap, ap₂, subst, arith}
-use Rattle.std.specs.Prelude.{◌==◌, ◌&&◌, ◌||◌, nat_le, not, slice_index, if◌then◌else◌}
+use Rattle.std.proofs.Common.{◌≡◌, ◌≢◌, ⊎_elim, ℕ, suc, ◌+◌, List, [], ◌∷◌, take, Bool, true, false, Option, None, Some, Ok, refl, sym, ◌∙◌, ap, subst, arith}
+use Rattle.std.specs.Prelude.{◌==◌, ◌&&◌, nat_le, not, slice_index, if◌then◌else◌}
 use Rattle.std.specs.List.{flat_map}
 use Rattle.std.specs.Option.{option_and_then, option_map}
 use Rattle.std.proofs.lemmas.Bool.{cases_Bool, or_left}
 use Rattle.blk_image.specs.Image.{Image}
 use Rattle.blk_format.specs.BlockFiles.{is_among}
-use Rattle.blk_format.specs.Claims.{Claim, claims_of, has_claim, repeats}
+use Rattle.blk_format.specs.Claims.{claims_of, has_claim, repeats}
 use Rattle.blk_volume.specs.Chains.{bucket_of_hash, chain}
-use Rattle.blk_volume.specs.Entries.{Role, is_key_length, most_stream_bytes, role_of, stored_key, stored_stream, stored_streams, stream}
+use Rattle.blk_volume.specs.Entries.{Role, most_stream_bytes, role_of, stored_key, stored_stream, stored_streams, stream}
 use Rattle.blk_volume.specs.Footprint.{IsClear, SameStore}
 use Rattle.blk_volume.specs.Loads.{Loaded, Rule, all_claims, load, record_claims}
 use Rattle.blk_volume.specs.View.{RecordFields, StoreView, address_of, data_size_of, store_of}
 use Rattle.blk_laws.proofs.walks.Loading.{load-from}
-use Rattle.blk_laws.proofs.walks.Loads.{IsLoadedNode, load-then}
+use Rattle.blk_laws.proofs.walks.Loads.{load-then}
 use Rattle.blk_stream.specs.Loading.{stored_streams_with}
 use Rattle.blk_stream.proofs.StreamPlaces.{streams_parts}
 use Rattle.blk_object.proofs.WrittenObjects.{both-claimed}

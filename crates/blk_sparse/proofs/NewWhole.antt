@@ -1,6 +1,6 @@
 -- A part is made: its places are taken, its record is written, it is listed, and its parent gets its bit.
-use Rattle.std.proofs.Common.{◌≡◌, Result, ℕ, ◌+◌, ◌<◌, ◌≤◌, List, [], ◌∷◌, ◌++◌, length, Bool, true, false, Option, None, Some, Ok, refl, sym, ◌∙◌, ap, subst, arith}
-use Rattle.std.specs.Prelude.{◌==◌, is_some, unwrap_or}
+use Rattle.std.proofs.Common.{◌≡◌, Result, ℕ, ◌+◌, ◌<◌, ◌≤◌, List, [], ◌∷◌, ◌++◌, length, true, false, Option, None, Some, refl, sym, ◌∙◌, ap, subst, arith}
+use Rattle.std.specs.Prelude.{is_some, unwrap_or}
 use Rattle.std.specs.Int.{cast_unsigned, w64}
 use Rattle.std.specs.Option.{ForSome}
 use Rattle.blk_image.specs.Image.{AreBytes, Image}
@@ -8,13 +8,11 @@ use Rattle.blk_image.specs.Told.{Passes, Told}
 use Rattle.blk_image.proofs.Runs.{passes_then, passes_weaker, some_inj}
 use Rattle.blk_model.specs.Bytes.{overwritten}
 use Rattle.blk_model.specs.Holding.{rest}
-use Rattle.blk_model.specs.Items.{IsBytes, PartValue, main, part}
-use Rattle.blk_model.specs.Room.{items}
+use Rattle.blk_model.specs.Items.{IsBytes, PartValue, main}
 use Rattle.blk_model.specs.Sizes.{part_count, part_size, signatures}
 use Rattle.blk_model.specs.Sparse.{empty_part, part_after}
 use Rattle.blk_model.specs.State.{Object, State, object_at, part_at}
 use Rattle.blk_format.specs.SparseIndex.{part_index_length}
-use Rattle.blk_volume.specs.Creation.{with_first}
 use Rattle.blk_volume.specs.Entries.{Role}
 use Rattle.blk_volume.specs.Layout.{Layout}
 use Rattle.blk_volume.specs.ListView.{put}
@@ -41,8 +39,8 @@ use Rattle.blk_object.specs.Making.{LeavesRoom}
 use Rattle.blk_object.proofs.MakingRoom.{uses-few}
 use Rattle.blk_object.proofs.MakingStored.{counters-then}
 use Rattle.blk_object.proofs.MakingTaken.{session-then, told-mid}
-use Rattle.blk_sparse.specs.NewParts.{ArePartStreams, CanHavePart, ForEachPartToBeListed, HasIndexPlace, IsBeingNoted, IsFirstIndex, IsNoted, IsPartListed, IsPartToBeListed, IsStored, KeepsPart, TakesPart, WritesPart, new_part, words_of_part}
-use Rattle.blk_sparse.specs.SparseObjects.{KeepsParent, KeepsParentThen, missing_parts, with_piece, with_piece_written}
+use Rattle.blk_sparse.specs.NewParts.{ArePartStreams, CanHavePart, ForEachPartToBeListed, HasIndexPlace, IsBeingNoted, IsFirstIndex, IsNoted, IsPartListed, IsPartToBeListed, IsStored, KeepsPart, TakesPart, WritesPart, words_of_part}
+use Rattle.blk_sparse.specs.SparseObjects.{KeepsParentThen, missing_parts, with_piece, with_piece_written}
 use Rattle.blk_sparse.specs.declared.new_part.PartPlaces.{PartPlaces}
 use Rattle.blk_sparse.proofs.NewBits.{index-place, parent-kind, parent-shown}
 use Rattle.blk_sparse.proofs.NewKept.{all-kept, end-counters, end-session, noting-finds}

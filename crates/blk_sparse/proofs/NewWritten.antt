@@ -1,29 +1,27 @@
 -- A new part is written at its places: whatever state was kept with its words unlinked is kept so, and the part is there.
-use Rattle.std.proofs.Common.{◌≡◌, ◌≢◌, inl, inr, ⊎_elim, ℕ, ◌+◌, ◌<◌, ◌≤◌, ◌^◌, List, [], ◌∷◌, ◌++◌, length, None, Option, Some, Ok, refl, ap, sym, ◌∙◌, subst, arith, true, false, append_assoc}
-use Rattle.std.specs.Prelude.{◌==◌, ◌||◌, filter, not, unwrap_or}
+use Rattle.std.proofs.Common.{◌≡◌, inr, ⊎_elim, ℕ, ◌<◌, ◌^◌, List, [], ◌∷◌, ◌++◌, length, None, Option, Some, Ok, refl, ap, sym, ◌∙◌, subst, arith, true, false, append_assoc}
+use Rattle.std.specs.Prelude.{◌==◌, filter, not, unwrap_or}
 use Rattle.std.proofs.lemmas.Bool.{cases_Bool, eq-eqb, or_left, or_right}
 use Rattle.blk_image.specs.Footprint.{SameOutside}
 use Rattle.blk_image.specs.Image.{AreBytes, Image, Index, byte}
 use Rattle.blk_model.specs.State.{State}
-use Rattle.blk_format.specs.Address.{blocks_256, external, is_address, kind_of, rankings}
+use Rattle.blk_format.specs.Address.{is_address, kind_of, rankings}
 use Rattle.blk_format.specs.BlockFiles.{is_among, stands_in}
 use Rattle.blk_format.specs.Claims.{Claim, claims_of, claims_of_all, has_claim, repeats}
 use Rattle.blk_format.specs.Headers.{crash_of, this_id_of}
-use Rattle.blk_format.specs.Records.{entry_is_sealed, entry_normal, node_is_sealed}
+use Rattle.blk_format.specs.Records.{entry_normal, node_is_sealed}
 use Rattle.blk_format.specs.Sealed.{record_range}
-use Rattle.blk_format.proofs.Among.{is_among-append}
 use Rattle.blk_volume.specs.Entries.{Role}
 use Rattle.blk_volume.specs.Footprint.{IsClear}
 use Rattle.blk_volume.specs.Layout.{Layout}
-use Rattle.blk_volume.specs.Loads.{Loaded, all_claims, load, unchained_rule}
+use Rattle.blk_volume.specs.Loads.{all_claims, load, unchained_rule}
 use Rattle.blk_volume.specs.Searches.{bucket_of_key}
 use Rattle.blk_volume.specs.ListView.{ListView}
 use Rattle.blk_volume.specs.ShownChanges.{OnlyRecordFieldsChange}
 use Rattle.blk_volume.specs.Sound.{AreSealed, words_of}
-use Rattle.blk_volume.specs.View.{entry_at, list_of, node_at, stands_as, store_of}
+use Rattle.blk_volume.specs.View.{node_at, stands_as, store_of}
 use Rattle.blk_laws.proofs.claims.Allocations.{flat_map-append, words-claims}
 use Rattle.blk_laws.proofs.claims.ByteChanges.{agreeing-views, node-same}
-use Rattle.blk_laws.proofs.claims.ClaimLists.{claim-append}
 use Rattle.blk_disk.specs.declared.tables.BlockFiles.{BlockFiles}
 use Rattle.blk_alloc.proofs.Lists.{once_parts}
 use Rattle.blk_entry.specs.declared.writing.NewEntry.{NewEntry}
@@ -38,7 +36,6 @@ use Rattle.blk_kept.proofs.Free.{unlinked-change}
 use Rattle.blk_kept.proofs.Keeping.{kept-found}
 use Rattle.blk_kept_calls.proofs.NewEntries.{new-node_sealed}
 use Rattle.blk_object.specs.Making.{long_word, words_of_places}
-use Rattle.blk_object.specs.declared.making_places.Places.{Places}
 use Rattle.blk_object.proofs.MakingStored.{changed-stored, counters-then, of-all}
 use Rattle.blk_object.proofs.MakingTaken.{session-then}
 use Rattle.blk_object.proofs.MakingWritten.{some-address, stored-address, words-are}

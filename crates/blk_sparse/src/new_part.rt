@@ -218,16 +218,18 @@ fn write_part<F: Folder>(
     ensures device { IfDevice result (Rises (F.faults f.old) (F.faults f.new)) }
 {
     write_child(f, files, &places.places, name, moment)?;
-    name_streams(f, files, places.places.entry, size, places.stored, places.index)
+    name_streams(
+        f,
+        files,
+        places.places.entry,
+        size,
+        places.stored,
+        places.index,
+    )
 }
 
 // Puts the node of a new part in front of the use list, and then its record in front of its chain.
-fn list_part<F: Folder>(
-    f: &mut F,
-    files: &BlockFiles,
-    entry: Addr,
-    node: Addr,
-) -> Result<(), Fault>
+fn list_part<F: Folder>(f: &mut F, files: &BlockFiles, entry: Addr, node: Addr) -> Result<(), Fault>
     requires stands { IsTrue (is_record_among files.now entry) }
     requires node { IsTrue (is_node_among files.now node) }
     requires is_open { ForSome (F.told f.old).files (IsOpen files.now) }
@@ -268,12 +270,7 @@ fn index_place<F: Folder>(f: &mut F, files: &BlockFiles, parent: Addr) -> Result
 }
 
 // Sets the bit of a part in its parent's index; nothing is written where it is set already.
-fn note_part<F: Folder>(
-    f: &mut F,
-    files: &BlockFiles,
-    parent: Addr,
-    part: u32,
-) -> Result<(), Fault>
+fn note_part<F: Folder>(f: &mut F, files: &BlockFiles, parent: Addr, part: u32) -> Result<(), Fault>
     requires kind { kind_of parent ≡ blocks_256 }
     requires stands { IsTrue (stands_among files.now parent) }
     requires part { part < part_count }

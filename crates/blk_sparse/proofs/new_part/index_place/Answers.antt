@@ -1,5 +1,4 @@
-use Rattle.std.proofs.Common.{◌≡◌, ◌<◌, ℕ, Option, None, slice_index_or, sym, ◌∙◌, ap, subst, arith, true, false}
-use Rattle.blk_image.specs.Image.{Image}
+use Rattle.std.proofs.Common.{◌≡◌, ℕ, slice_index_or, sym, ◌∙◌, ap, subst, arith, true, false}
 use Rattle.blk_format.specs.Address.{is_address}
 use Rattle.blk_entry.specs.Keys.{stores}
 use Rattle.blk_stream.specs.Streams.{address_word}

@@ -1,11 +1,9 @@
-use Rattle.std.proofs.Common.{◌≡◌, ◌+◌, ◌≤◌, ◌<◌, ℕ, List, [], ◌∷◌, ◌++◌, length, None, refl, sym, ◌∙◌, ap, subst, arith, true}
+use Rattle.std.proofs.Common.{◌≡◌, ◌≤◌, ℕ, List, [], ◌∷◌, length, None, refl, subst, arith}
 use Rattle.std.specs.Option.{ForSome}
-use Rattle.std.proofs.lemmas.Bool.{eq-eqb, or_left, or_right}
-use Rattle.blk_image.specs.Image.{Image}
+use Rattle.std.proofs.lemmas.Bool.{eq-eqb, or_left}
 use Rattle.blk_image.specs.Told.{Passes, Told}
 use Rattle.blk_io.proofs.Carried.{carried, if_damaged_weaker}
 use Rattle.blk_model.specs.Bytes.{overwritten}
-use Rattle.blk_format.specs.BlockFiles.{is_among}
 use Rattle.blk_kept.specs.Changes.{StillFinds}
 use Rattle.blk_object.specs.Making.{LeavesRoom, Takes, words_of_places}
 use Rattle.blk_sparse.specs.NewParts.{IsStored}

@@ -1,9 +1,7 @@
-use Rattle.std.proofs.Common.{◌≡◌, ◌+◌, ◌<◌, ℕ, List, [], ◌∷◌, length, None, Some, sym, ◌∙◌, ap, subst, arith}
+use Rattle.std.proofs.Common.{◌≡◌, ◌+◌, ℕ, [], ◌∷◌, length, None, sym, ◌∙◌, ap, subst, arith}
 use Rattle.std.specs.Option.{ForSome}
-use Rattle.blk_image.specs.Image.{Image}
 use Rattle.blk_image.specs.Told.{Told}
 use Rattle.blk_io.proofs.Carried.{carried, if_damaged_weaker}
-use Rattle.blk_model.specs.Bytes.{overwritten}
 use Rattle.blk_format.specs.Address.{is_address}
 use Rattle.blk_format.specs.Headers.{HasWholeIndex}
 use Rattle.blk_volume.specs.View.{store_of}
@@ -13,7 +11,6 @@ use Rattle.blk_object.specs.Making.{LeavesRoom, Takes}
 use Rattle.blk_object.proofs.DamageChecks.{handed}
 use Rattle.blk_object.proofs.MakingTaken.{then-stays}
 use Rattle.blk_object.proofs.WriteChecks.{refused-checked}
-use Rattle.blk_sparse.specs.NewParts.{IsStored}
 use Rattle.blk_sparse.proofs.NewPlaces.{can-place, new-long, stored-taken, stored-whole, storing-finds, storing-tells}
 use Rattle.blk_sparse.proofs.new_part.take_stream.Goals as goal
 

@@ -1,16 +1,14 @@
 use Rattle.std.proofs.Common.{◌≡◌, None}
-use Rattle.std.specs.Option.{ForSome}
 use Rattle.std.proofs.lemmas.Result.{on_ok_weaker}
 use Rattle.blk_image.specs.Image.{Image}
-use Rattle.blk_image.specs.Told.{Passes, Told}
+use Rattle.blk_image.specs.Told.{Told}
 use Rattle.blk_image.proofs.Runs.{passes_then, passes_weaker}
-use Rattle.blk_io.proofs.Carried.{carried, if_damaged_weaker}
+use Rattle.blk_io.proofs.Carried.{if_damaged_weaker}
 use Rattle.blk_kept.specs.Changes.{StillFinds}
 use Rattle.blk_object.specs.Making.{words_of_places}
 use Rattle.blk_object.proofs.MakingTaken.{none-before, told-mid}
 use Rattle.blk_sparse.specs.NewParts.{words_of_part}
 use Rattle.blk_sparse.proofs.NewWritten.{all-written, child-finds, naming-finds}
-use Rattle.blk_sparse.proofs.new_part.write_part.Given.{Over}
 use Rattle.blk_sparse.proofs.new_part.write_part.Goals as goal
 
 pub returns-in_err-write_child-clause-stops : goal.returns-in_err-write_child-clause-stops
