@@ -168,7 +168,7 @@ unfolding created
 created-dead state handle key n = same-dead state.objects key n
 
 -- what another word of the table leaves
-table-word : (b p : ℕ) (from image : Image) → p + 4 ≤ header_length → SameOutside (one_word Index (place_of_bucket b)) from image → word image Index p ≡ word from Index p
+pub table-word : (b p : ℕ) (from image : Image) → p + 4 ≤ header_length → SameOutside (one_word Index (place_of_bucket b)) from image → word image Index p ≡ word from Index p
 table-word b p from image low same = same_word_outside (one_word Index (place_of_bucket b)) from image Index p same (λ i above below. beside i (omega (arith, below, low))) where
   beside : (i : ℕ) → i < header_length → (nat_le (place_of_bucket b) i && nat_lt i (place_of_bucket b + 4)) ≡ false
   beside i small = grind (arith, nat_tests)

@@ -46,7 +46,7 @@ use Rattle.blk_laws.proofs.walks.Shown.{role-name}
 use Rattle.blk_kept.specs.NewPartLaws.{with_bit, with_bit_of, with_new_part, IsPartWritten, is_part_or_parent, IsMidPart, NewPartsHoldTheOthers, NewPartsAreAtRest, NewPartsAtEachWrite, NewPartsEnd, NewPartsAreLinked, NotedParentsAreChanges, IsOfParent, ParentsDataMayChange}
 
 -- a record loads by itself whatever the table says
-load-table : (v : StoreView) (t : ℕ → ℕ) (rule : Rule) (w : ℕ) (l : Loaded) → rule.chained ≡ false → load v rule w ≡ Ok l → load (record v { table = t }) rule w ≡ Ok l
+pub load-table : (v : StoreView) (t : ℕ → ℕ) (rule : Rule) (w : ℕ) (l : Loaded) → rule.chained ≡ false → load v rule w ≡ Ok l → load (record v { table = t }) rule w ≡ Ok l
 unfolding stored_key stored_streams stored_stream
 load-table v t rule w l free ok = load-then v rule w l ok (λ n e g.
     let r = g.facts in let k = r.keyed in

@@ -70,7 +70,7 @@ none-shares (x ∷ xs) y apart =
 
 -- ---- seals
 
-new-node_sealed : (new : NewEntry) (moment : ℕ) → node_is_sealed (new_node new moment) ≡ true
+pub new-node_sealed : (new : NewEntry) (moment : ℕ) → node_is_sealed (new_node new moment) ≡ true
 unfolding node_is_sealed new_node
 new-node_sealed new moment = eq-eqb _ _ refl
 
@@ -118,7 +118,7 @@ module _ (files : BlockFiles) (new : NewEntry) (key : List ℕ) (moment : ℕ) (
       let path : BlockOf (file_selector w) (first_block w) ≡ BlockOf (file_selector v) (first_block v) = λ i. BlockOf (f i) (b i) in
       let z : true ≡ false = sym mine ∙ ap touched (sym path) ∙ its in cc
 
-  nobody : layout.at new.node ≡ None
+  pub nobody : layout.at new.node ≡ None
   nobody = go (layout.at new.node) refl where
     go : (o : Option Loaded) → layout.at new.node ≡ o → o ≡ None
     go None e = refl
@@ -127,7 +127,7 @@ module _ (files : BlockFiles) (new : NewEntry) (key : List ℕ) (moment : ℕ) (
         absurd (not-clear new.node new.node rankings fits.node_kind (λ z. let y : ◌≡◌ {A = ℕ} 1 0 = z in cc) node-own refl fits.node_kind
         (subst (IsClear touched) named (clear-at touched state layout free k.represents.holds.lies new.node other e).node))
 
-  fresh : (b : ℕ) → b < 65536 → is_among (map file_and_block (layout.chains b)) (file_and_block new.entry) ≡ false
+  pub fresh : (b : ℕ) → b < 65536 → is_among (map file_and_block (layout.chains b)) (file_and_block new.entry) ≡ false
   fresh b small = none-shares (layout.chains b) (file_and_block new.entry) (λ w among same.
       let q : IsListedRecord state layout w = k.represents.holds.lies.unchained b w small among in
       let kind : kind_of w ≡ blocks_256 = (standing-parts from blocks_256 w (subst (λ (c : ℕ). stands_as from blocks_256 c ≡ true) q.record_is (standing-at from state layout k.represents q.node q.loaded q.here).record_)).1 in

@@ -1,5 +1,6 @@
 pub mod MakingRoom
 pub mod MakingTaken
+pub mod MakingStored
 pub mod MakingPlaces
 pub mod CounterWords
 pub mod MakingListed

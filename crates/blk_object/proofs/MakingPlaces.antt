@@ -24,6 +24,7 @@ use Rattle.blk_kept.specs.Keeping.{KeepsUncounted}
 use Rattle.blk_kept.proofs.UnlinkedOrder.{kept-in-any-order}
 use Rattle.blk_object.specs.Making.{LeavesRoom, Takes, long_word, words_of_places}
 use Rattle.blk_object.specs.declared.making_places.Places.{Places}
+use Rattle.blk_object.proofs.MakingStored.{counters-then, stored-then}
 use Rattle.blk_object.proofs.MakingTaken.{less-room, none-before, room-for-one, session-then, then-finds, told-before, told-mid}
 
 -- ---- the blocks of a record
@@ -88,7 +89,12 @@ module _ (a b d : Told) (n one two : ℕ)
         let mid = after-first from there room in
         let taken = first_taken from there (room-for-one (suc n) from room) mid.0 mid.1 in
         let more = second_taken mid.0 mid.1 (room-for-one n mid.0 (less-room (suc n) one from mid.0 room taken)) late now in
-        record { kept = λ state layout unlinked k. more.kept state layout (one ∷ unlinked) (taken.kept state layout unlinked k); session = session-then from mid.0 late taken.session more.session }
+        record {
+          kept = λ state layout unlinked k. more.kept state layout (one ∷ unlinked) (taken.kept state layout unlinked k);
+          session = session-then from mid.0 late taken.session more.session;
+          counters = counters-then from mid.0 late taken.counters more.counters;
+          stored = stored-then (one ∷ []) from mid.0 late taken.kept taken.stored more.stored;
+        }
 
 -- room for one more, once two words are taken
 two-less : (one two : ℕ) (from late : Image) → LeavesRoom 3 from → Takes (two ∷ one ∷ []) from late → LeavesRoom 1 late
@@ -131,9 +137,12 @@ module _ (a d e : Told) (places : Places) (two : ForSome a.files (λ from. Leave
     three-taken from there room last now =
         let late = after-two from there room in
         let taken = two_taken from there room late.0 late.1 in
+        let more = third_taken late.0 late.1 (two-less places.entry places.node from late.0 room taken) last now in
         record {
           kept = λ state layout unlinked k. in-order state layout unlinked places.long_key (three from last there now room state layout unlinked k);
-          session = session-then from late.0 last taken.session (third_taken late.0 late.1 (two-less places.entry places.node from late.0 room taken) last now).session;
+          session = session-then from late.0 last taken.session more.session;
+          counters = counters-then from late.0 last taken.counters more.counters;
+          stored = stored-then (places.node ∷ places.entry ∷ []) from late.0 last taken.kept taken.stored more.stored;
         }
       where
         in-order : (state : State) (layout : Layout) (unlinked : List ℕ) (o : Option ℕ) → KeepsUncounted state layout (long_word o ++ places.node ∷ places.entry ∷ unlinked) last → KeepsUncounted state layout ((places.node ∷ places.entry ∷ long_word o) ++ unlinked) last

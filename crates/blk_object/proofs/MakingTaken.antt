@@ -45,6 +45,7 @@ use Rattle.blk_kept_calls.proofs.Allocating.{allocations-add}
 use Rattle.blk_kept_calls.proofs.ExternalFiles.{creations-add, deletions-find}
 use Rattle.blk_object.specs.Making.{LeavesRoom, Takes}
 use Rattle.blk_object.proofs.MakingRoom.{counted-with-room, free-with-room}
+use Rattle.blk_object.proofs.MakingStored.{allocating-index, changed-stored, counters-then, growth-stored, index-counters, made-outside, made-stored, making-counters}
 
 -- ---- files that are told
 
@@ -84,7 +85,7 @@ index-session from image same = record { crash = ap (λ (o : Option (List ℕ)).
 pub nothing-taken : (a b : Told) → b ≡ a → ForSome a.files (λ from. ForSome b.files (Takes [] from))
 nothing-taken a b same from there image now =
     let is : image ≡ from = some_inj (sym now ∙ ap (λ (t : Told). t.files) same ∙ there) in
-    subst (Takes [] from) (sym is) (record { kept = λ state layout unlinked k. k; session = record { crash = refl; id = refl } })
+    subst (Takes [] from) (sym is) (record { kept = λ state layout unlinked k. k; session = record { crash = refl; id = refl }; counters = record { sizes = refl; num_entries = refl; num_bytes = refl }; stored = λ state layout unlinked k size w bytes among there. there })
 
 pub nothing-finds : (words : List ℕ) (a b : Told) → b ≡ a → ForSome a.files (λ from. Passes a b (StillFinds words from))
 nothing-finds words a b same from there =
@@ -121,7 +122,12 @@ module _ (a b : Told) (files : BlockFiles) (kind count : ℕ) (block : is_block_
       let counted = counted-with-room 0 files kind from room (agreed from there) block in
       let adds : AddsAllocation from w image = allocations-add files new kind w from image room.kept.well_formed
       (record { block_kind = block; of_kind = of_kind; address = address; agreed = agreed from there; agrees = agrees image now; stands = stands; long = long; links = links; allocates = allocates from there counted image now; within = within from there counted image now; stays = passes_end (stays 0 from there room) image now }) in
-      record { kept = allocated-unlinked w from image adds; session = adds.session }
+      record {
+        kept = allocated-unlinked w from image adds;
+        session = adds.session;
+        counters = index-counters from image (allocating-index files kind (file_selector w) from image (within from there counted image now));
+        stored = growth-stored from image adds.grown;
+      }
 
   pub allocating-whole : (a.files ≡ None → b.files ≡ None) → ForSome a.files (LeavesRoom 1) → ForSome b.files HasWholeIndex
   allocating-whole silent room mid now =
@@ -165,14 +171,22 @@ module _ (a b : Told) where
           let finds : (image : Image) → StillFinds (w ∷ []) mid.0 image → StillFinds [] from image = λ image f state layout unlinked k. f state layout unlinked (taken state layout unlinked k) in
           passes_then one (passes_weaker (deletions-find w b c kind sizing mid.0 mid.1) finds finds)
 
-      pub file-taken : (size : ℕ) → ForSome b.files (λ mid. ForSome c.files (λ image. image (named_file w) ≡ Some (resized size (bytes_of mid (named_file w))))) → ForSome a.files (λ from. LeavesRoom 1 from → ForSome c.files (Takes (w ∷ []) from))
-      file-taken size sized from there room image now =
+      pub file-taken : (files : BlockFiles) (size : ℕ) → ForSome b.files (λ mid. ForSome c.files (λ image. image (named_file w) ≡ Some (resized size (bytes_of mid (named_file w))))) → ForSome a.files (λ from. LeavesRoom 1 from → ForSome c.files (Takes (w ∷ []) from))
+      file-taken files size sized from there room image now =
           let mid : (m : Image) × (b.files ≡ Some m) = (after (making (external_number w)) from, steps.files ∙ ap (option_map (after (making (external_number w)))) there) in
           let adds = added from mid.0 there mid.1 room in
           let m = passes_end (sizing mid.0 mid.1) image now in
+          let there_still : has_file image (named_file w) ≡ has_file mid.0 (named_file w) = ap (λ (o : Option (List ℕ)). is_some o) (sized mid.0 mid.1 image now) ∙ sym adds.there in
+          let taken : KeepsWith [] (w ∷ []) from mid.0 = made-unlinked w from mid.0 adds in
           record {
-            kept = λ state layout unlinked k. sized-keeps w mid.0 image adds.some kind m.outside (ap (λ (o : Option (List ℕ)). is_some o) (sized mid.0 mid.1 image now) ∙ sym adds.there) state layout unlinked (made-unlinked w from mid.0 adds state layout unlinked k);
+            kept = λ state layout unlinked k. sized-keeps w mid.0 image adds.some kind m.outside there_still state layout unlinked (taken state layout unlinked k);
             session = session-then from mid.0 image adds.session (index-session mid.0 image m.index);
+            counters = counters-then from mid.0 image
+                (making-counters (external_number w) from mid.0 (made-outside files (external_number w) (kind_of w) a b first kind steps from there mid.0 mid.1))
+                (index-counters mid.0 image (λ i. ap (λ (o : Option (List ℕ)). content (unwrap_or o []) i) m.index));
+            stored = λ state layout unlinked k size v bytes among is.
+                changed-stored (λ claim. same_claim claim (ExternalOf (external_number w))) (w ∷ []) mid.0 image (its-own w adds.some kind) (external-writes mid.0 image (external_number w) m.outside there_still) state layout unlinked (taken state layout unlinked k) size v bytes among
+                (made-stored w from mid.0 adds state layout unlinked k size v bytes among is);
           }
 
 -- the length that a file gets

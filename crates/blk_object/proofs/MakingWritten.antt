@@ -44,14 +44,14 @@ some-address w address = go (w == 0) refl where
   go false e = e
 
 -- what stores data of some bytes is an address
-stored-address : (files : BlockFiles) (size w : ℕ) → stores files (size + 1) w ≡ true → is_address w ≡ true
+pub stored-address : (files : BlockFiles) (size w : ℕ) → stores files (size + 1) w ≡ true → is_address w ≡ true
 unfolding stores is_storage
 stored-address files size w e =
     let storage = (and_parts (is_storage (size + 1) w) _ e).0 in
     let some : (size + 1 == 0) ≡ false = grind (arith, nat_tests) in
     (and_parts (is_address w) _ (and_parts (is_address w && _) _ (rw some at storage)).0).0
 
-words-are : (node entry : ℕ) (long_key : Option ℕ) (files : BlockFiles) (key_len : ℕ) → is_address node ≡ true → is_address entry ≡ true → IsLongPlace files key_len long_key → filter (λ w. not (w == 0)) (node ∷ entry ∷ unwrap_or long_key 0 ∷ 0 ∷ 0 ∷ 0 ∷ 0 ∷ []) ≡ node ∷ entry ∷ long_word long_key
+pub words-are : (node entry : ℕ) (long_key : Option ℕ) (files : BlockFiles) (key_len : ℕ) → is_address node ≡ true → is_address entry ≡ true → IsLongPlace files key_len long_key → filter (λ w. not (w == 0)) (node ∷ entry ∷ unwrap_or long_key 0 ∷ 0 ∷ 0 ∷ 0 ∷ 0 ∷ []) ≡ node ∷ entry ∷ long_word long_key
 words-are node entry None files key_len is_node is_entry place = let n = some-address node is_node in let e = some-address entry is_entry in rw (n, e) refl
 words-are node entry (Some w) files key_len is_node is_entry place =
     let n = some-address node is_node in

@@ -40,7 +40,7 @@ kind-of-size size = by_tests (nat_le size 1023) (nat_le size 4095) (nat_le size 
     by_tests false false false = (External, refl)
 
 -- there is no new place
-refused-checked : (files kept : BlockFiles) (size : ℕ) (before after : Told) (damage : Damage) → KeepsStanding files kept → IsPlaceRefusal files kept size before after damage → IsFailedCheck kept after damage
+pub refused-checked : (files kept : BlockFiles) (size : ℕ) (before after : Told) (damage : Damage) → KeepsStanding files kept → IsPlaceRefusal files kept size before after damage → IsFailedCheck kept after damage
 refused-checked files kept size before after damage keeps (inl why) = moved kept before after damage why.1 (create-checked kept before damage why.2)
 refused-checked files kept size before after damage keeps (inr why) =
     let k = kind-of-size size in
@@ -55,7 +55,7 @@ write-checked files kept entry i before after damage kind stands keeps (inr (inr
 write-checked files kept entry i before after damage kind stands keeps (inr (inr (inr (w, there, cause)))) = cause-checked kept after _ _ _ false damage (stands_linked kept w there) cause
 
 -- a word that is no address stores nothing
-no-storage : (files : BlockFiles) (size w : ℕ) → 0 < size → is_address w ≡ false → stores files size w ≡ false
+pub no-storage : (files : BlockFiles) (size w : ℕ) → 0 < size → is_address w ≡ false → stores files size w ≡ false
 unfolding stores is_storage
 no-storage files size w some none = let z : (size == 0) ≡ false = grind (arith, nat_tests) in rw (z, none) refl
 

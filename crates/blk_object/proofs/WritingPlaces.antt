@@ -8,7 +8,7 @@ use Rattle.blk_image.specs.Image.{Block, External, Image, Index, byte, has_file,
 use Rattle.blk_image.proofs.Footprints.{same_word_outside}
 use Rattle.blk_format.specs.Address.{byte_size, external, external_number, file_selector, is_block_kind, kind_of, place}
 use Rattle.blk_format.specs.BlockFiles.{IsWellFormed, stands_in, stands_in_blocks}
-use Rattle.blk_format.specs.Claims.{Claim, claims_of, claims_of_all, has_claim}
+use Rattle.blk_format.specs.Claims.{Claim, ExternalOf, claims_of, claims_of_all, has_claim, same_claim}
 use Rattle.blk_format.specs.Headers.{crash_of, num_bytes_of, num_entries_of, sizes_of, this_id_of}
 use Rattle.blk_format.specs.Standing.{stands}
 use Rattle.blk_disk.specs.declared.tables.BlockFiles.{BlockFiles}
@@ -18,11 +18,13 @@ use Rattle.blk_alloc.specs.Allocating.{AllocatesIn}
 use Rattle.blk_alloc.specs.Changes.{map_of}
 use Rattle.blk_external.specs.Making.{touched_by_making}
 use Rattle.blk_laws.proofs.claims.ClaimLists.{claim-append}
+use Rattle.blk_volume.specs.View.{store_of}
 use Rattle.blk_stream.specs.Inside.{data_of}
 use Rattle.blk_stream.specs.Stages.{TakesBlocks, TakesFile, TakesInProgress, TakesPlace}
 use Rattle.blk_stream.proofs.InsideSteps.{data_blocks, data_external}
 use Rattle.blk_stream.proofs.Naming.{apart_place}
-use Rattle.blk_kept.specs.Changes.{AddsAllocation, AddsExternal, KeepsWith, SameCounters, SameSession, StillFinds}
+use Rattle.blk_kept.specs.Changes.{AddsAllocation, AddsExternal, ChangesOnly, KeepsWith, SameCounters, SameSession, StillFinds}
+use Rattle.blk_kept.specs.Keeping.{KeepsUncounted}
 use Rattle.blk_kept.proofs.Allocating.{allocated-unlinked}
 use Rattle.blk_kept.proofs.Externals.{deleted-removed, deleting-finds, made-added, making-finds}
 use Rattle.blk_kept.proofs.Free.{then-found, unlinked-change}
@@ -31,41 +33,20 @@ use Rattle.blk_kept.proofs.MakingFiles.{made-unlinked}
 use Rattle.blk_kept.proofs.Writes.{block-writes, external-writes, growth-finds}
 use Rattle.blk_kept_calls.proofs.Allocating.{allocations-add}
 use Rattle.blk_kept_calls.proofs.Freeing.{map-only}
-use Rattle.blk_object.specs.Making.{Takes}
+use Rattle.blk_object.specs.Making.{KeepsStored, Takes}
 use Rattle.blk_object.specs.WritingPlaces.{FilledPlacesAreUnlinked, FillingFindsTheSame, FreedPlacesAreRemoved}
-use Rattle.blk_object.proofs.GoingNext.{then-counters}
+use Rattle.blk_object.proofs.MakingStored.{allocating-index, changed-stored, counters-then, growth-stored, index-counters, made-stored, making-counters}
 use Rattle.blk_object.proofs.MakingTaken.{its-own, session-then}
 use Rattle.blk_object.proofs.MakingWritten.{some-address}
 
 -- ---- counters and sessions
 
--- the same index has the same counters
-index-counters : (from image : Image) → ((i : ℕ) → byte image Index i ≡ byte from Index i) → SameCounters from image
-index-counters from image same = record { sizes = ap (λ (f : ℕ → ℕ). sizes_of f 0) all; num_entries = ap num_entries_of all; num_bytes = ap num_bytes_of all }
-  where
-    all : byte image Index ≡ byte from Index
-    all j i = same i j
-
--- and the same session
+-- the same index has the same session
 index-session : (from image : Image) → ((i : ℕ) → byte image Index i ≡ byte from Index i) → SameSession from image
 index-session from image same = record { crash = ap crash_of all; id = ap this_id_of all }
   where
     all : byte image Index ≡ byte from Index
     all j i = same i j
-
--- an allocation leaves the index
-allocating-index : (files : BlockFiles) (kind n : ℕ) (from image : Image) → AllocatesIn files kind from n image → (i : ℕ) → byte image Index i ≡ byte from Index i
-allocating-index files kind n from image (inl same) i = same.bytes Index i refl
-allocating-index files kind n from image (inr (inl grown)) i = grown.1.bytes Index i refl
-allocating-index files kind n from image (inr (inr added)) i = added.2.bytes Index i refl
-
--- and an external file that is made leaves the counters
-making-counters : (n : ℕ) (from image : Image) → SameOutside (touched_by_making n) from image → SameCounters from image
-making-counters n from image same = record { sizes = at 268 (inr (omega arith)); num_entries = at 8 (inl (omega arith)); num_bytes = at 12 (inl (omega arith)) }
-  where
-    at : (p : ℕ) → (p + 4 ≤ 16) ⊎ (20 ≤ p) → word image Index p ≡ word from Index p
-    at p away = same_word_outside (touched_by_making n) from image Index p same
-        (λ k low high. apart_place Index Index 16 4 k (⊎_elim (λ (early : p + 4 ≤ 16). inl (omega (arith, early, high))) (λ (late : 20 ≤ p). inr (omega (arith, late, low))) away))
 
 -- ---- a place is taken
 
@@ -103,6 +84,10 @@ module _ (files kept : BlockFiles) (w : ℕ) (from taken : Image) (well : IsWell
   taken-counters (inl t) = index-counters from taken (allocating-index files (kind_of w) (file_selector w) from taken t.within)
   taken-counters (inr t) = making-counters (external_number w) from taken t.same
 
+  taken-stored : TakesPlace files kept w from taken → KeepsStored from taken
+  taken-stored (inl t) = growth-stored from taken (blocks-added t).grown
+  taken-stored (inr t) = made-stored w from taken (file-added t)
+
 -- ---- and filled
 
 -- the blocks of a word are its own
@@ -136,10 +121,11 @@ module _ (files kept : BlockFiles) (w : ℕ) (from taken : Image) where
 
   module _ (image : Image) (same : SameOutside (data_of w) taken image) where
     -- blocks get their bytes
+    blocks-change : TakesBlocks files kept w from taken → ChangesOnly (has_claim (claims_of w)) taken image
+    blocks-change t = block-writes taken image w (place w) (byte_size w) (blocks-stand t) (block-kind t) (omega arith) (omega arith) (subst (λ (F : Footprint). SameOutside F taken image) (data_blocks w (block-kind t)) same)
+
     blocks-filled : TakesBlocks files kept w from taken → KeepsWith (w ∷ []) (w ∷ []) taken image
-    blocks-filled t =
-        unlinked-change (has_claim (claims_of w)) (w ∷ []) taken image (blocks-own w)
-        (block-writes taken image w (place w) (byte_size w) (blocks-stand t) (block-kind t) (omega arith) (omega arith) (subst (λ (F : Footprint). SameOutside F taken image) (data_blocks w (block-kind t)) same))
+    blocks-filled t = unlinked-change (has_claim (claims_of w)) (w ∷ []) taken image (blocks-own w) (blocks-change t)
 
     file-same : (t : TakesFile w from taken) → SameOutside (whole (External (external_number w))) taken image
     file-same t = subst (λ (F : Footprint). SameOutside F taken image) (data_external w t.external_kind) same
@@ -154,6 +140,20 @@ module _ (files kept : BlockFiles) (w : ℕ) (from taken : Image) where
         let some : (w == 0) ≡ false = some-address w t.address in
         unlinked-change _ (w ∷ []) taken image (its-own w some t.external_kind) (external-writes taken image (external_number w) (file-same t) (there t.external_kind ∙ sym (ap is_some t.made.file)))
 
+    filled-stored : (kind_of w ≡ external → has_file image (External (external_number w)) ≡ true) → IsWellFormed from → Agrees files from → TakesPlace files kept w from taken → KeepsStored from image
+    filled-stored there well agreed takes state layout unlinked k size v bytes among is = by takes refl where
+      kept_so : KeepsUncounted state layout (w ∷ unlinked) taken
+      kept_so = taken-unlinked files kept w from taken well agreed takes state layout unlinked k
+
+      before : (store_of taken).stored size v ≡ Some bytes
+      before = taken-stored files kept w from taken well agreed takes state layout unlinked k size v bytes among is
+
+      by : (t : TakesPlace files kept w from taken) → t ≡ takes → (store_of image).stored size v ≡ Some bytes
+      by (inl t) e = changed-stored (has_claim (claims_of w)) (w ∷ []) taken image (blocks-own w) (blocks-change t) state layout unlinked kept_so size v bytes among before
+      by (inr t) e =
+          changed-stored (λ claim. same_claim claim (ExternalOf (external_number w))) (w ∷ []) taken image (its-own w (some-address w t.address) t.external_kind)
+          (external-writes taken image (external_number w) (file-same t) (there t.external_kind ∙ sym (ap is_some t.made.file))) state layout unlinked kept_so size v bytes among before
+
 -- at each word of it what was at rest is found
 pub filling-finds : FillingFindsTheSame
 filling-finds files kept from image agreed (inl takes) = taking-finds from image takes
@@ -162,18 +162,24 @@ filling-finds files kept from image agreed (inr fills) = λ state layout unlinke
     let w : ℕ = fills.0 in
     filling-word files kept w from f.taken image f.same f.takes state layout unlinked (taken-unlinked files kept w from f.taken k.well_formed agreed f.takes state layout unlinked k)
 
+nothing-taken-here : (from : Image) → Takes [] from from
+nothing-taken-here from = record { kept = λ state layout unlinked k. k; session = record { crash = refl; id = refl }; counters = record { sizes = refl; num_entries = refl; num_bytes = refl }; stored = λ state layout unlinked k size w bytes among there. there }
+
 -- and in the end its word is unlinked
 pub filled-unlinked : FilledPlacesAreUnlinked
 filled-unlinked files kept None from image well agreed is =
-    subst (λ (i : Image). Takes [] from i × SameCounters from i) (sym is) (record { kept = λ state layout unlinked k. k; session = record { crash = refl; id = refl } }, record { sizes = refl; num_entries = refl; num_bytes = refl })
+    subst (λ (i : Image). Takes [] from i × SameCounters from i) (sym is) (nothing-taken-here from, record { sizes = refl; num_entries = refl; num_bytes = refl })
 filled-unlinked files kept (Some w) from image well agreed filled =
     let f = filled.0 in
-    let same = data-index w f.taken image f.same in (
+    let same = data-index w f.taken image f.same in
+    let counted : SameCounters from image = counters-then from f.taken image (taken-counters files kept w from f.taken well agreed f.takes) (index-counters f.taken image same) in (
       record {
         kept = λ state layout unlinked k. filled-keeps files kept w from f.taken image f.same filled.1 f.takes state layout unlinked (taken-unlinked files kept w from f.taken well agreed f.takes state layout unlinked k);
         session = session-then from f.taken image (taken-session files kept w from f.taken well agreed f.takes) (index-session f.taken image same);
+        counters = counted;
+        stored = filled-stored files kept w from f.taken image f.same filled.1 well agreed f.takes;
       },
-      then-counters from f.taken image (taken-counters files kept w from f.taken well agreed f.takes) (index-counters f.taken image same),
+      counted,
     )
 
 -- ---- an old place

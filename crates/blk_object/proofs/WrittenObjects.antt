@@ -70,7 +70,7 @@ use Rattle.blk_object.proofs.WrittenRoles.{IsStreamChange, role-written, row-wri
 
 -- ---- the words of what lies at a node claim different things
 
-both-claimed : (xs : List ℕ) (i j : ℕ) (c : Claim) → i ≢ j → repeats (flat_map claims_of xs) ≡ false → has_claim (claims_of (slice_index xs i)) c ≡ true → has_claim (claims_of (slice_index xs j)) c ≡ true → ⊥
+pub both-claimed : (xs : List ℕ) (i j : ℕ) (c : Claim) → i ≢ j → repeats (flat_map claims_of xs) ≡ false → has_claim (claims_of (slice_index xs i)) c ≡ true → has_claim (claims_of (slice_index xs j)) c ≡ true → ⊥
 both-claimed [] i j c other once one two = let z : true ≡ false = sym one ∙ clear-zero (has_claim (claims_of 0)) c one in cc
 both-claimed (x ∷ xs) zero zero c other once one two = other refl
 both-claimed (x ∷ xs) zero (suc j) c other once one two = let z : true ≡ false = sym (index-claims xs j c two) ∙ repeats-apart (claims_of x) (flat_map claims_of xs) c once one in cc

@@ -79,10 +79,10 @@ record IsParentRole (role : Role) : Type 0 where
   index : ParentIndex
   is : role ≡ IsParent index
 
-record IsPartRole (role : Role) : Type 0 where
-  name : Name
-  index : PartIndex
-  is : role ≡ IsPart name index
+pub record IsPartRole (role : Role) : Type 0 where
+  pub name : Name
+  pub index : PartIndex
+  pub is : role ≡ IsPart name index
 
 parent-of : (e : RecordFields) (ss : List (List ℕ)) (role : Role) → parent_role e ss ≡ Some role → IsParentRole role
 unfolding parent_role
@@ -91,7 +91,7 @@ parent-of e ss role ok = go (not (length (stream 1 ss) == 0)) ok where
   go true h = cc
   go false h = option_and_then_some (λ (index : ParentIndex). if index.key_len == e.key_len then Some (IsParent index) else None) (read_parent_index (stream 2 ss)) role h (λ index is done. record { index = index; is = sym (cond_some _ (IsParent index) role done).1 })
 
-part-of : (key : List ℕ) (ss : List (List ℕ)) (role : Role) → part_role key ss ≡ Some role → IsPartRole role
+pub part-of : (key : List ℕ) (ss : List (List ℕ)) (role : Role) → part_role key ss ≡ Some role → IsPartRole role
 unfolding part_role
 part-of key ss role ok = go (not (length (stream 0 ss) == 0)) (nat_lt 1048576 (length (stream 1 ss))) ok where
   go : (t u : Bool) → (if t then None else if u then None else option_and_then (λ (name : Name). option_and_then (λ (index : PartIndex). if (index.signature == name.signature) && (index.key_len == length name.key) && is_covered index (length (stream 1 ss)) then Some (IsPart name index) else None) (read_part_index (stream 2 ss))) (read_name key)) ≡ Some role → IsPartRole role

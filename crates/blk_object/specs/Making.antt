@@ -1,5 +1,5 @@
 -- What a new object leaves: its places, its entry, and the state with it.
-use Rattle.std.specs.Prelude.{◌≡◌, ℕ, ◌+◌, ◌<◌, ◌≤◌, List, [], ◌∷◌, ◌++◌, length, Option, None, Some, false}
+use Rattle.std.specs.Prelude.{◌≡◌, ℕ, ◌+◌, ◌<◌, ◌≤◌, List, [], ◌∷◌, ◌++◌, length, Option, None, Some, false, true}
 use Rattle.blk_image.specs.Image.{Image, Index, byte}
 use Rattle.blk_model.specs.Effects.{created}
 use Rattle.blk_model.specs.Holding.{owner, rest}
@@ -9,18 +9,19 @@ use Rattle.blk_model.specs.Request.{IsRequest, to_create}
 use Rattle.blk_model.specs.Room.{items}
 use Rattle.blk_model.specs.Sizes.{most_items}
 use Rattle.blk_model.specs.State.{State, IsValidState}
+use Rattle.blk_format.specs.BlockFiles.{is_among}
 use Rattle.blk_format.specs.Headers.{this_id_of}
 use Rattle.blk_volume.specs.Creation.{with_new}
 use Rattle.blk_volume.specs.Layout.{Layout}
 use Rattle.blk_volume.specs.ListSteps.{AreTimes}
 use Rattle.blk_volume.specs.Loads.{Loaded}
 use Rattle.blk_volume.specs.Sound.{words_of}
-use Rattle.blk_volume.specs.View.{entry_at}
+use Rattle.blk_volume.specs.View.{entry_at, store_of}
 use Rattle.blk_entry.specs.declared.writing.NewEntry.{NewEntry}
 use Rattle.blk_entry.specs.Writing.{loaded_new}
 use Rattle.blk_kept.specs.BoundLaws.{most_words}
 use Rattle.blk_kept.specs.CommandStates.{with_room}
-use Rattle.blk_kept.specs.Changes.{Finds, KeepsWith, SameSession}
+use Rattle.blk_kept.specs.Changes.{Finds, KeepsWith, SameCounters, SameSession}
 use Rattle.blk_kept.specs.Keeping.{Keeps, KeepsUncounted}
 use Rattle.blk_kept.specs.NewEntryLaws.{IsNewEntryOf}
 use Rattle.blk_object.specs.declared.making.Made.{Made}
@@ -56,10 +57,18 @@ new_entry places mark next = record { entry = places.entry; node = places.node; 
 abbrev pub new_loaded : Places → ℕ → List ℕ → Loaded
 new_loaded places mark key = loaded_new (new_entry places mark 0) key
 
--- words were taken: each state that was kept is kept with them unlinked, in the same session
+-- what is stored at the unlinked words of a state that was kept is stored there still
+abbrev pub KeepsStored : Image → Image → Type 0
+KeepsStored from image =
+    (state : State) (layout : Layout) (unlinked : List ℕ) → KeepsUncounted state layout unlinked from
+    → (size w : ℕ) (bytes : List ℕ) → is_among unlinked w ≡ true → (store_of from).stored size w ≡ Some bytes → (store_of image).stored size w ≡ Some bytes
+
+-- words were taken: each state that was kept is kept with them unlinked, in the same session with the same counters, and what was stored at unlinked words is
 pub record Takes (words : List ℕ) (from image : Image) : Type 0 where
   pub kept : KeepsWith [] words from image
   pub session : SameSession from image
+  pub counters : SameCounters from image
+  pub stored : KeepsStored from image
 
 -- Entries.
 

@@ -34,6 +34,7 @@ pub use freeing::free_places;
 pub use freeing_laws::freed_words_are_gone;
 pub use listed_parts::{ListedPart, entry_named, next_part};
 pub use making::{Made, creates_can_have_new, make_entry};
+pub use making_places::{Places, check_index, take_places};
 pub use marking::set_mark;
 pub use owning::{Owned, charge_of_head, free_owned, read_owned};
 pub use owning_laws::entries_of_states_load;

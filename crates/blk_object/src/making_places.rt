@@ -6,6 +6,7 @@ ghost use Rattle.blk_image.specs.Told.{Passes, Rises, Stays};
 ghost use Rattle.blk_format.specs.Address.{block_count, blocks_256, external, external_number, file_selector, first_block, is_address, kind_of, rankings};
 ghost use Rattle.blk_format.specs.Headers.{HasWholeIndex};
 ghost use Rattle.blk_format.specs.Maps.{group_size};
+ghost use Rattle.blk_format.specs.Names.{longest_name};
 ghost use Rattle.blk_format.specs.Storage as storage;
 ghost use Rattle.blk_addr.specs.Kind.{kind_number};
 ghost use Rattle.blk_io.specs.Faults.{IfDamaged, IfDevice};
@@ -28,7 +29,7 @@ use blk_record::{EntryView, IndexHead, WORD_VALUES};
 
 /// The places of a new entry.
 #[derive(Clone, Copy, Debug)]
-pub(crate) struct Places {
+pub struct Places {
     /// The blocks of its record.
     pub entry: Addr,
     /// Its rankings node.
@@ -37,13 +38,13 @@ pub(crate) struct Places {
     pub long_key: Option<Addr>,
 }
 
-/// Takes places for an entry with a key of so many bytes: nobody had them, and nobody names them yet.
-pub(crate) fn take_places<F: Folder>(
+/// Takes places for an entry with a key or a name of so many bytes: nobody had them, and nobody names them yet.
+pub fn take_places<F: Folder>(
     f: &mut F,
     files: &mut BlockFiles,
     key_len: u32,
 ) -> Result<Places, Fault>
-    requires most { key_len ≤ 32768 }
+    requires most { key_len ≤ longest_name }
     requires is_open { ForSome (F.told f.old).files (IsOpen files.old) }
     ensures entry { IfOk result (λ places. (kind_of places.entry ≡ blocks_256) × (block_count places.entry ≡ storage.entry_blocks key_len) × IsTrue (is_address places.entry) × IsTrue (stands_among files.new places.entry)) }
     ensures node { IfOk result (λ places. (kind_of places.node ≡ rankings) × IsTrue (is_address places.node) × IsTrue (stands_among files.new places.node)) }
@@ -77,7 +78,7 @@ fn take_long_key<F: Folder>(
     files: &mut BlockFiles,
     key_len: u32,
 ) -> Result<Option<Addr>, Fault>
-    requires most { key_len ≤ 32768 }
+    requires most { key_len ≤ longest_name }
     requires is_open { ForSome (F.told f.old).files (IsOpen files.old) }
     ensures long { IfOk result (IsLongPlace files.new key_len) }
     ensures holds { IfOk result (λ long_key. ForSome (F.told f.new).files (HoldsLongKey long_key key_len)) }
@@ -179,8 +180,8 @@ fn take_file<F: Folder>(f: &mut F, files: &BlockFiles, size: u32) -> Result<Addr
     Ok(addr)
 }
 
-// Looks whether the index has its length still: where the maps aren't right, an allocation doesn't promise it.
-pub(crate) fn check_index<F: Folder>(f: &mut F) -> Result<(), Fault>
+/// Looks whether the index has its length still: where the maps aren't right, an allocation doesn't promise it.
+pub fn check_index<F: Folder>(f: &mut F) -> Result<(), Fault>
     ensures whole { OnOk result (ForSome (F.told f.old).files HasWholeIndex) }
     ensures stays { Stays (F.told f.old) (F.told f.new) }
     ensures damaged { IfDamaged result (HasOtherLength (F.told f.new)) }

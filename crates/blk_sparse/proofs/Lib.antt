@@ -6,3 +6,14 @@ pub mod ParentsRead
 pub mod ParentsOut
 pub mod HeldParents
 pub mod ChildrenOut
+pub mod NewPlaces
+pub mod NewRecords
+pub mod NewWritten
+pub mod NewListed
+pub mod NewRoles
+pub mod NewSeen
+pub mod NewBits
+pub mod NewMade
+pub mod NewKept
+pub mod NewWhole
+pub mod NewIndex

@@ -1,3 +1,5 @@
 pub mod Children
 pub mod Dropping
 pub mod Parents
+pub mod SparseObjects
+pub mod NewParts

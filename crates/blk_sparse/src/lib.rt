@@ -4,6 +4,7 @@
 
 mod children;
 mod dropping;
+mod new_part;
 mod parents;
 
 pub use children::{Parent, drop_children, drop_children_with};

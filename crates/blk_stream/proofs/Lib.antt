@@ -1,4 +1,5 @@
 pub mod StreamPlaces
+pub mod StoredNew
 pub mod KeptFiles
 pub mod PlacesFreed
 pub mod Naming

@@ -12,9 +12,11 @@ mod moving;
 mod places;
 mod placing;
 mod reading;
+mod storing;
 mod writing;
 
 pub use dropping::drop_streams;
 pub use laws::{drops_are_shown_inside, written_streams_load};
 pub use reading::read;
+pub use storing::store_new;
 pub use writing::write;

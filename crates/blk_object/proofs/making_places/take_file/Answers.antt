@@ -30,7 +30,7 @@ returns-clause-stops g c =
 pub returns-clause-taken : goal.returns-clause-taken
 returns-clause-taken g c =
     file-taken (g.F.Folder.told c.args.f.now) (g.F.Folder.told c.create.new.f) c.in_ok-addr.addr c.in_ok-addr.ensures.kind (ap is_address (sym c.word-word.ensures.word) ∙ c.word-word.ensures.address) c.in_ok-addr.ensures.first c.in_ok-addr.ensures.made c.in_ok-addr.ensures.steps
-    (g.F.Folder.told c.resize.new.f) c.resize.ensures.stops c.from.result c.in_ok-resize.ensures.file
+    (g.F.Folder.told c.resize.new.f) c.resize.ensures.stops c.args.files.now c.from.result c.in_ok-resize.ensures.file
 
 pub returns-clause-holds : goal.returns-clause-holds
 returns-clause-holds g c =

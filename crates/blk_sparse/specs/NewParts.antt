@@ -1,0 +1,214 @@
+-- A new part of a sparse object: its places, its record with its two streams, and what is kept while it is made.
+use Rattle.std.specs.Prelude.{◌≡◌, ◌⊎◌, ℕ, ◌+◌, ◌/◌, ◌<◌, ◌≤◌, List, [], ◌∷◌, ◌++◌, length, map, false, is_some, slice_index, true, if◌then◌else◌}
+use Rattle.std.specs.Int.{cast_unsigned, w64}
+use Rattle.std.specs.declared.option.Option.{Option}
+use Rattle.std.specs.declared.option.Option.TheVariants.{None, Some}
+use Rattle.std.specs.declared.result.Result.TheVariants.{Ok}
+use Rattle.blk_image.specs.Footprint.{SameOutside}
+use Rattle.blk_image.specs.Image.{Image}
+use Rattle.blk_model.specs.Bytes.{overwritten}
+use Rattle.blk_model.specs.Holding.{rest}
+use Rattle.blk_model.specs.Items.{main, part}
+use Rattle.blk_model.specs.Sizes.{part_size}
+use Rattle.blk_model.specs.Sparse.{empty_part, presence_after}
+use Rattle.blk_model.specs.State.{Object, State, part_at}
+use Rattle.blk_format.specs.BlockFiles.{is_among}
+use Rattle.blk_format.specs.Claims.{has_claim}
+use Rattle.blk_format.specs.Hash.{hash}
+use Rattle.blk_format.specs.Headers.{table_length}
+use Rattle.blk_format.specs.Names.{child_name}
+use Rattle.blk_format.specs.Records.{entry_normal}
+use Rattle.blk_format.specs.Sealed.{IsUpdated, RecordChecks, record_range}
+use Rattle.blk_format.specs.SparseIndex.{ParentIndex, PartIndex, parent_index_length, part_index_length, read_part_index}
+use Rattle.blk_volume.specs.Chains.{bucket_of_hash, file_and_block}
+use Rattle.blk_volume.specs.Creation.{with_first}
+use Rattle.blk_volume.specs.Entries.{Role, part_role, stream}
+use Rattle.blk_volume.specs.Layout.{Layout, rule_of}
+use Rattle.blk_volume.specs.Loads.{Loaded, all_claims, load, unchained_rule}
+use Rattle.blk_volume.specs.Searches.{bucket_of_key}
+use Rattle.blk_volume.specs.Sound.{AreSealed, words_of}
+use Rattle.blk_volume.specs.View.{list_of, store_of, view_of}
+use Rattle.blk_ranges.specs.declared.names.ChildName.{ChildName}
+use Rattle.blk_ranges.specs.ParentMaps.{has_part_bit, with_part_bit}
+use Rattle.blk_ranges.specs.PartMaps.{presence_in}
+use Rattle.blk_disk.specs.declared.tables.BlockFiles.{BlockFiles}
+use Rattle.blk_entry.specs.declared.writing.NewEntry.{NewEntry}
+use Rattle.blk_entry.specs.Keys.{data_at, data_range, stores}
+use Rattle.blk_entry.specs.Parts.{PartStreams, loaded_part, stream_changes}
+use Rattle.blk_entry.specs.Writing.{AreWords, IsShownNew, IsWritten, loaded_new}
+use Rattle.blk_stream.specs.Loading.{stored_streams_with}
+use Rattle.blk_stream.specs.Streams.{address_word}
+use Rattle.blk_kept.specs.Arranging.{LeavesFiles}
+use Rattle.blk_kept.specs.Changes.{ChangesOnly, SameCounters, SameSession}
+use Rattle.blk_kept.specs.Keeping.{KeepsUncounted}
+use Rattle.blk_kept.specs.NewPartLaws.{IsPartWritten, with_bit_of, with_new_part}
+use Rattle.blk_kept.specs.NewPartsKept.{IsMakingPart}
+use Rattle.blk_object.specs.declared.making_places.Places.{Places}
+use Rattle.blk_object.specs.Making.{Takes, words_of_places}
+use Rattle.blk_sparse.specs.declared.new_part.PartPlaces.{PartPlaces}
+use Rattle.blk_sparse.specs.SparseObjects.{CanGetParts}
+
+-- Its streams.
+
+-- bytes are stored at a word, and no others
+abbrev pub IsStored : ℕ → List ℕ → Image → Type 0
+IsStored w bytes image = (store_of image).stored (length bytes) w ≡ Some bytes
+
+-- Its places.
+
+-- the address words of the places of a new part: its node, its record, its name where that doesn't lie in the record, and its two streams
+abbrev pub words_of_part : PartPlaces → List ℕ
+words_of_part places = words_of_places places.places ++ (places.stored ∷ places.index ∷ [])
+
+-- they were taken, and the bytes of its data and of its index are stored there
+pub record TakesPart (places : PartPlaces) (bytes index : List ℕ) (from image : Image) : Type 0 where
+  pub taken : Takes (words_of_part places) from image
+  pub stored : IsStored places.stored bytes image
+  pub index_stored : IsStored places.index index image
+
+-- Its record.
+
+-- the entry of a part at its places, with the word of the next record; a part isn't marked
+abbrev pub child_entry : Places → ℕ → NewEntry
+child_entry places next = record { entry = places.entry; node = places.node; long_key = places.long_key; child = true; dirty = 0; next = next }
+
+-- the two streams of a part at their places
+abbrev pub streams_of_part : PartPlaces → List ℕ → List ℕ → PartStreams
+streams_of_part places bytes index = record { stored = bytes; index = index; stored_addr = places.stored; index_addr = places.index }
+
+-- what it loads
+abbrev pub new_part : PartPlaces → List ℕ → List ℕ → List ℕ → Role → Loaded
+new_part places name bytes index role = loaded_part (child_entry places.places 0) name (streams_of_part places bytes index) role
+
+-- a node lies nowhere in a layout, and no chain of it has this record
+pub record IsNobodys (node entry : ℕ) (layout : Layout) : Type 0 where
+  pub nobody : layout.at node ≡ None
+  pub fresh : (bucket : ℕ) → bucket < table_length → is_among (map file_and_block (layout.chains bucket)) (file_and_block entry) ≡ false
+
+-- its record and its node are written, without streams yet, and its next is the word of its bucket; nothing else has changed
+pub record IsChildWritten (places : Places) (name : List ℕ) (moment : ℕ) (from image : Image) : Type 0 where
+  pub next : ℕ
+  pub follows : next ≡ (store_of from).table (bucket_of_key name)
+  pub words : AreWords (child_entry places next)
+  pub written : IsWritten (child_entry places next) name moment image
+  pub shown : IsShownNew (child_entry places next) name moment image
+  pub change : ChangesOnly (has_claim (all_claims (loaded_new (child_entry places next) name))) from image
+  pub counters : SameCounters from image
+  pub apart : (state : State) (layout : Layout) (unlinked : List ℕ) → KeepsUncounted state layout (words_of_places places ++ unlinked) from → IsNobodys places.node places.entry layout
+
+-- a record was given the sizes and the words of its second and third stream, by one sealed update
+pub record HasStreamsNow (entry : ℕ) (streams : PartStreams) (from image : Image) : Type 0 where
+  pub updated : IsUpdated from entry (stream_changes streams) image
+  pub outside : SameOutside (record_range entry) from image
+
+-- a part is there: it loads by itself, its record's next is the word of its bucket, its node checks, and both are sealed
+pub record IsPartThere (loaded : Loaded) (image : Image) : Type 0 where
+  pub loads : load (store_of image) (unchained_rule entry_normal) loaded.node ≡ Ok loaded
+  pub follows : (store_of image).chain_next loaded.contents ≡ (store_of image).table (bucket_of_hash (hash loaded.key))
+  pub good : (list_of image).checks loaded.node ≡ true
+  pub sealed : AreSealed image loaded
+
+-- these are the bytes of the two streams of a part with a name, which are stored at its places, and what it is by them
+pub record ArePartStreams (places : PartPlaces) (name bytes index : List ℕ) (role : Role) (image : Image) : Type 0 where
+  pub stored : IsStored places.stored bytes image
+  pub index_stored : IsStored places.index index image
+  pub few : length bytes ≤ part_size
+  pub long : length index ≡ part_index_length
+  pub role_is : part_role name ([] ∷ bytes ∷ index ∷ []) ≡ Some role
+
+-- a state is kept with the words of a part unlinked, which is there, and was nobody's
+pub record KeepsPart (state : State) (layout : Layout) (unlinked : List ℕ) (places : PartPlaces) (loaded : Loaded) (image : Image) : Type 0 where
+  pub kept : KeepsUncounted state layout (words_of_part places ++ unlinked) image
+  pub there : IsPartThere loaded image
+  pub nobodys : IsNobodys places.places.node places.places.entry layout
+
+-- each state that was kept with the words of a part unlinked is kept so, by the same counters and in the same session, and the part is there
+pub record WritesPart (places : PartPlaces) (name bytes index : List ℕ) (role : Role) (from image : Image) : Type 0 where
+  pub there : (state : State) (layout : Layout) (unlinked : List ℕ) → KeepsUncounted state layout (words_of_part places ++ unlinked) from → KeepsPart state layout unlinked places (new_part places name bytes index role) image
+  pub words_are : words_of (new_part places name bytes index role) ≡ words_of_part places
+  pub counters : SameCounters from image
+  pub session : SameSession from image
+
+-- Its place in the list and in its chain.
+
+-- a state is kept, with the words of a part unlinked, which is written; its object is unsettled, so the same is at rest with it
+pub record IsPartToBeListed (state : State) (objects : List (Option Object)) (layout : Layout) (unlinked key : List ℕ) (n : ℕ) (was seen loaded : Loaded) (image : Image) : Type 0 where
+  pub kept : KeepsUncounted state layout (words_of loaded ++ unlinked) image
+  pub written : IsPartWritten (view_of image) state objects layout key n was seen loaded
+  pub sealed : AreSealed image loaded
+  pub same_rest : rest (with_first state objects (part key n)) ≡ rest state
+
+-- what holds of each such part with this record and this node
+abbrev pub ForEachPartToBeListed : (entry node : ℕ) → Image → (State → List (Option Object) → Layout → List ℕ → List ℕ → ℕ → Loaded → Loaded → Loaded → Type 0) → Type 0
+ForEachPartToBeListed entry node from P =
+    (state : State) (objects : List (Option Object)) (layout : Layout) (unlinked key : List ℕ) (n : ℕ) (was seen loaded : Loaded) → IsPartToBeListed state objects layout unlinked key n was seen loaded from → loaded.contents ≡ entry → loaded.node ≡ node
+    → P state objects layout unlinked key n was seen loaded
+
+-- its node is in front of the list and its record in front of its chain, its parent is as it was, and nothing else has changed
+pub record IsPartListed (state : State) (layout : Layout) (key : List ℕ) (n : ℕ) (was seen loaded : Loaded) (from image : Image) : Type 0 where
+  pub making : IsMakingPart state layout key loaded (with_new_part layout key n seen loaded).chains image
+  pub parent : load (store_of image) (rule_of layout (layout.place (main key))) (layout.place (main key)) ≡ Ok was
+  pub leaves : LeavesFiles from image
+  pub counters : SameCounters from image
+  pub part_sealed : AreSealed image loaded
+  pub sealed : (node : ℕ) (other : Loaded) → layout.at node ≡ Some other → AreSealed image other
+
+-- Its parent's bit.
+
+-- the place of the bit of a part, in its parent's index
+abbrev pub place_of_bit : ℕ → ℕ
+place_of_bit n = 64 + n / 8
+
+-- a record checks, and its third stream lies where a parent's index does
+pub record HasIndexPlace (files : BlockFiles) (entry : ℕ) (image : Image) : Type 0 where
+  pub checks : RecordChecks entry image
+  pub place : stores files parent_index_length (address_word image entry 2) ≡ true
+
+-- nothing has changed, or nothing but the byte with the bit of a part, in the third stream of its parent, which lies where an index does
+abbrev pub IsBeingNoted : BlockFiles → (entry n : ℕ) → Image → Image → Type 0
+IsBeingNoted files entry n from image = (image ≡ from) ⊎ ((stores files parent_index_length (address_word from entry 2) ≡ true) × SameOutside (data_range (address_word from entry 2) (place_of_bit n) 1) from image)
+
+-- the byte is written
+pub record HasBitNow (w n was : ℕ) (from image : Image) : Type 0 where
+  pub lacked : has_part_bit was n ≡ false
+  pub same : SameOutside (data_range w (place_of_bit n) 1) from image
+  pub byte_is : data_at image w (place_of_bit n) 1 ≡ with_part_bit was n ∷ []
+
+-- the byte has the bit, and nothing has changed; or it is written with it
+pub record IsNoted (entry n : ℕ) (from image : Image) : Type 0 where
+  pub was : ℕ
+  pub before : data_at from (address_word from entry 2) (place_of_bit n) 1 ≡ was ∷ []
+  pub done : ((has_part_bit was n ≡ true) × (image ≡ from)) ⊎ HasBitNow (address_word from entry 2) n was from image
+
+-- the index of a parent with the bit
+abbrev pub index_with_bit : List ℕ → ℕ → List ℕ
+index_with_bit bytes n =
+    if has_part_bit (slice_index bytes (place_of_bit n)) n then bytes
+    else overwritten bytes (place_of_bit n) (with_part_bit (slice_index bytes (place_of_bit n)) n ∷ [])
+
+-- what the parent loads then
+abbrev pub with_noted : Loaded → ParentIndex → ℕ → Loaded
+with_noted was index n = with_bit_of was index n (stored_streams_with 2 (index_with_bit (stream 2 was.streams) n) was.streams)
+
+-- What can be made.
+
+-- the bytes are the index of a part after a first piece of so many bytes from a place on, of an object whose key has this length and whose index has this signature
+pub record IsFirstIndex (signature key_len place count : ℕ) (bytes : List ℕ) : Type 0 where
+  pub index : PartIndex
+  pub is : read_part_index bytes ≡ Some index
+  pub signature_is : index.signature ≡ signature
+  pub key_len_is : index.key_len ≡ key_len
+  pub present : presence_in index ≡ presence_after empty_part.presence place (place + count)
+
+-- the parent of an object that isn't settled, with room for a part more, which it lacks; this is its name
+pub record CanHavePart (state : State) (layout : Layout) (unlinked : List ℕ) (number : ℕ) (object : Object) (node entry : ℕ) (child : ChildName) (name : List ℕ) (image : Image) : Type 0 where
+  pub grows : CanGetParts (child.part ∷ []) state layout unlinked number object node entry (cast_unsigned w64 child.signature) image
+  pub missing : is_some (part_at object child.part) ≡ false
+  pub key_len : child.key_len ≡ length object.key
+  pub named : name ≡ child_name object.key (cast_unsigned w64 child.signature) child.part
+
+-- what holds of each such object
+abbrev pub ForEachLacking : (entry : ℕ) (child : ChildName) (name : List ℕ) → Image → (State → Layout → List ℕ → ℕ → Object → (node : ℕ) → Type 0) → Type 0
+ForEachLacking entry child name from P =
+    (state : State) (layout : Layout) (unlinked : List ℕ) (number : ℕ) (object : Object) (node : ℕ) → CanHavePart state layout unlinked number object node entry child name from
+    → P state layout unlinked number object node

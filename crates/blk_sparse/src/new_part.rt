@@ -1,0 +1,368 @@
+// A part that doesn't exist is made, with its first piece.
+ghost use Rattle.std.specs.Prelude.{◌≡◌, ◌+◌, ◌^◌, ◌≤◌, ◌<◌, [], ◌∷◌, IfOk, IsTrue, List, ℕ, None, OnOk, length, true};
+ghost use Rattle.std.specs.Int.{cast_unsigned, w64};
+ghost use Rattle.std.specs.Option.{ForSome};
+ghost use Rattle.blk_image.specs.Footprint.{SameOutside};
+ghost use Rattle.blk_image.specs.Told.{Passes, Rises, Stays};
+ghost use Rattle.blk_model.specs.Bytes.{overwritten};
+ghost use Rattle.blk_model.specs.Holding.{rest};
+ghost use Rattle.blk_model.specs.Sizes.{longest_key, part_count, part_size, signatures};
+ghost use Rattle.blk_format.specs.Address.{block_count, blocks_256, is_address, kind_of, rankings};
+ghost use Rattle.blk_format.specs.Names.{longest_name};
+ghost use Rattle.blk_format.specs.Sealed.{RecordChecks, record_range};
+ghost use Rattle.blk_format.specs.SparseIndex.{parent_index_length, part_index_length};
+ghost use Rattle.blk_format.specs.Storage as storage;
+ghost use Rattle.blk_volume.specs.Entries.{Role, most_stream_bytes};
+ghost use Rattle.blk_io.specs.Faults.{IfDamaged, IfDevice};
+ghost use Rattle.blk_disk.specs.Open.{IsOpen};
+ghost use Rattle.blk_disk.specs.Tables.{Agrees, is_node_among, is_record_among, stands_among};
+ghost use Rattle.blk_entry.specs.Keys.{stores};
+ghost use Rattle.blk_entry.specs.Writing.{FitsKey, HoldsLongKey, IsLongPlace, LiesApart};
+ghost use Rattle.blk_alloc.specs.Extending.{KeepsStanding};
+ghost use Rattle.blk_stream.specs.Streams.{address_word};
+ghost use Rattle.blk_kept.specs.Changes.{Finds, StillFinds};
+ghost use Rattle.blk_object.specs.FailedChecks.{IsFailedCheck};
+ghost use Rattle.blk_object.specs.Making.{LeavesRoom, Takes, words_of_places};
+ghost use Rattle.blk_sparse.specs.NewParts.{ArePartStreams, ForEachLacking, ForEachPartToBeListed, HasIndexPlace, HasStreamsNow, IsBeingNoted, IsChildWritten, IsFirstIndex, IsNoted, IsPartListed, IsStored, TakesPart, WritesPart, child_entry, words_of_part};
+ghost use Rattle.blk_sparse.specs.SparseObjects.{KeepsParentThen, with_piece, with_piece_written};
+
+use blk_addr::Addr;
+use blk_chain::link_front;
+use blk_disk::BlockFiles;
+use blk_entry::{NewEntry, read_data, read_head, record_damage, stores, write_data, write_entry};
+use blk_index::bucket;
+use blk_io::{Fault, Folder};
+use blk_lru::insert_front;
+use blk_object::{Places, check_index, take_places};
+use blk_ranges::{ChildName, ParentMap, PartMap, has_part_bit, place_of_part, with_part_bit};
+use blk_record::{EntryView, IndexHead, super_fast_hash};
+use blk_stream::store_new;
+
+/// The places of a new part.
+#[derive(Clone, Copy, Debug)]
+pub(crate) struct PartPlaces {
+    /// Those of its entry.
+    pub(crate) places: Places,
+    /// The storage of its data.
+    pub(crate) stored: Addr,
+    /// The storage of its index.
+    pub(crate) index: Addr,
+}
+
+// Stores the bytes of a new stream, which no record names yet: zeros, and then the given ones from an offset on.
+fn take_stream<F: Folder>(
+    f: &mut F,
+    files: &mut BlockFiles,
+    offset: u32,
+    bytes: &[u8],
+) -> Result<Addr, Fault>
+    requires some { 1 ≤ length bytes.now }
+    requires most { offset + length bytes.now ≤ most_stream_bytes }
+    requires is_open { ForSome (F.told f.old).files (IsOpen files.old) }
+    ensures address { IfOk result (λ addr. IsTrue (is_address addr)) }
+    ensures taken { IfOk result (λ addr. ForSome (F.told f.old).files (λ from. LeavesRoom 1 from → ForSome (F.told f.new).files (Takes (addr ∷ []) from))) }
+    ensures stored { IfOk result (λ addr. ForSome (F.told f.old).files (λ from. LeavesRoom 1 from → ForSome (F.told f.new).files (IsStored addr (overwritten [] offset bytes.now)))) }
+    ensures keeps { KeepsStanding files.old files.new }
+    ensures is_open { OnOk result (ForSome (F.told f.new).files (IsOpen files.new)) }
+    ensures stops { ForSome (F.told f.old).files (λ from. LeavesRoom 1 from → Passes (F.told f.old) (F.told f.new) (StillFinds [] from)) }
+    ensures damaged { IfDamaged result (IsFailedCheck files.new (F.told f.new)) }
+    ensures untold { ForSome (F.told f.old).files (LeavesRoom 1) → IfDamaged result (λ _. (F.told f.old).files ≡ None) }
+    ensures silent { (F.told f.old).files ≡ None → (F.told f.new).files ≡ None }
+    ensures later { F.faults f.old ≤ F.faults f.new }
+    ensures device { IfDevice result (Rises (F.faults f.old) (F.faults f.new)) }
+{
+    let addr = store_new(f, files, offset, bytes)?;
+    let _word = addr.word();
+    check_index(f)?;
+    Ok(addr)
+}
+
+// Takes the places of a new part, and stores its first piece and its index.
+fn take_part<F: Folder>(
+    f: &mut F,
+    files: &mut BlockFiles,
+    name_len: u32,
+    place: u32,
+    piece: &[u8],
+    map: &[u8],
+) -> Result<PartPlaces, Fault>
+    requires name { name_len ≤ longest_name }
+    requires some { 1 ≤ length piece.now }
+    requires most { place + length piece.now ≤ part_size }
+    requires map { length map.now ≡ part_index_length }
+    requires is_open { ForSome (F.told f.old).files (IsOpen files.old) }
+    ensures entry { IfOk result (λ places. (kind_of places.places.entry ≡ blocks_256) × (block_count places.places.entry ≡ storage.entry_blocks name_len) × IsTrue (is_address places.places.entry) × IsTrue (stands_among files.new places.places.entry)) }
+    ensures node { IfOk result (λ places. (kind_of places.places.node ≡ rankings) × IsTrue (is_address places.places.node) × IsTrue (stands_among files.new places.places.node)) }
+    ensures long { IfOk result (λ places. IsLongPlace files.new name_len places.places.long_key) }
+    ensures holds { IfOk result (λ places. ForSome (F.told f.new).files (HoldsLongKey places.places.long_key name_len)) }
+    ensures apart { IfOk result (λ places. LiesApart places.places.entry places.places.long_key) }
+    ensures streams { IfOk result (λ places. IsTrue (is_address places.stored) × IsTrue (is_address places.index)) }
+    ensures keeps { KeepsStanding files.old files.new }
+    ensures taken { IfOk result (λ places. ForSome (F.told f.old).files (λ from. LeavesRoom 5 from → ForSome (F.told f.new).files (TakesPart places (overwritten [] place piece.now) map.now from))) }
+    ensures is_open { OnOk result (ForSome (F.told f.new).files (IsOpen files.new)) }
+    ensures stops { ForSome (F.told f.old).files (λ from. LeavesRoom 5 from → Passes (F.told f.old) (F.told f.new) (StillFinds [] from)) }
+    ensures damaged { IfDamaged result (IsFailedCheck files.new (F.told f.new)) }
+    ensures untold { ForSome (F.told f.old).files (LeavesRoom 5) → IfDamaged result (λ _. (F.told f.old).files ≡ None) }
+    ensures silent { (F.told f.old).files ≡ None → (F.told f.new).files ≡ None }
+    ensures later { F.faults f.old ≤ F.faults f.new }
+    ensures device { IfDevice result (Rises (F.faults f.old) (F.faults f.new)) }
+{
+    let index = take_stream(f, files, 0, map)?;
+    let stored = take_stream(f, files, place, piece)?;
+    let places = take_places(f, files, name_len)?;
+    Ok(PartPlaces {
+        places,
+        stored,
+        index,
+    })
+}
+
+// Writes the entry of a new part at its places, in front of the chain of its name, without streams yet.
+fn write_child<F: Folder>(
+    f: &mut F,
+    files: &BlockFiles,
+    places: &Places,
+    name: &[u8],
+    moment: u64,
+) -> Result<(), Fault>
+    requires fits { FitsKey files.now (child_entry places.now 0) name.now }
+    requires holds { ForSome (F.told f.old).files (HoldsLongKey places.now.long_key (length name.now)) }
+    requires apart { LiesApart places.now.entry places.now.long_key }
+    requires is_open { ForSome (F.told f.old).files (IsOpen files.now) }
+    ensures written { OnOk result (ForSome (F.told f.old).files (λ from. ForSome (F.told f.new).files (IsChildWritten places.now name.now moment from))) }
+    ensures stops { ForSome (F.told f.old).files (λ from. Passes (F.told f.old) (F.told f.new) (StillFinds (words_of_places places.now) from)) }
+    ensures checks { OnOk result (ForSome (F.told f.new).files (RecordChecks places.now.entry)) }
+    ensures is_open { ForSome (F.told f.new).files (IsOpen files.now) }
+    ensures damaged { IfDamaged result (IsFailedCheck files.now (F.told f.new)) }
+    ensures untold { IfDamaged result (λ _. (F.told f.old).files ≡ None) }
+    ensures silent { (F.told f.old).files ≡ None → (F.told f.new).files ≡ None }
+    ensures later { F.faults f.old ≤ F.faults f.new }
+    ensures device { IfDevice result (Rises (F.faults f.old) (F.faults f.new)) }
+{
+    let hash = super_fast_hash(name);
+    let next = bucket(f, (hash % IndexHead::BUCKETS) as u16)?;
+    let new = NewEntry {
+        entry: places.entry,
+        node: places.node,
+        long_key: places.long_key,
+        child: true,
+        dirty: 0,
+        next,
+    };
+    write_entry(f, files, &new, name, moment)
+}
+
+// Gives the record of a new part the sizes and the places of its data and of its index.
+fn name_streams<F: Folder>(
+    f: &mut F,
+    files: &BlockFiles,
+    entry: Addr,
+    size: u32,
+    stored: Addr,
+    index: Addr,
+) -> Result<(), Fault>
+    requires kind { kind_of entry ≡ blocks_256 }
+    requires stands { IsTrue (stands_among files.now entry) }
+    requires is_open { ForSome (F.told f.old).files (IsOpen files.now) }
+
+    // Of streams of these lengths it has them then.
+    ensures named { OnOk result (ForSome (F.told f.old).files (λ from. ForSome (F.told f.new).files (λ image. (bytes map : List ℕ) → length bytes ≡ size → length map ≡ part_index_length → RecordChecks entry from → HasStreamsNow entry (record { stored = bytes; index = map; stored_addr = stored; index_addr = index }) from image))) }
+
+    // At each word of the update of a record that checks nothing else has changed.
+    ensures stops { ForSome (F.told f.old).files (λ from. RecordChecks entry from → Passes (F.told f.old) (F.told f.new) (SameOutside (record_range entry) from)) }
+    ensures is_open { ForSome (F.told f.old).files (RecordChecks entry) → ForSome (F.told f.new).files (IsOpen files.now) }
+    ensures damaged { IfDamaged result (IsFailedCheck files.now (F.told f.new)) }
+    ensures untold { ForSome (F.told f.old).files (RecordChecks entry) → IfDamaged result (λ _. (F.told f.old).files ≡ None) }
+
+    // The addresses are words, whatever the answer.
+    ensures words { (stored < 2 ^ 32) × (index < 2 ^ 32) }
+
+    ensures silent { (F.told f.old).files ≡ None → (F.told f.new).files ≡ None }
+    ensures later { F.faults f.old ≤ F.faults f.new }
+    ensures device { IfDevice result (Rises (F.faults f.old) (F.faults f.new)) }
+{
+    let changes = [
+        (EntryView::DATA_SIZE + 4, size),
+        (EntryView::DATA_SIZE + 8, PartMap::LEN as u32),
+        (EntryView::DATA_ADDR + 4, stored.word()),
+        (EntryView::DATA_ADDR + 8, index.word()),
+    ];
+    files.update_sealed(f, entry, &changes)
+}
+
+// Writes the record of a new part, whose streams are stored, with its two streams.
+fn write_part<F: Folder>(
+    f: &mut F,
+    files: &BlockFiles,
+    places: &PartPlaces,
+    name: &[u8],
+    size: u32,
+    moment: u64,
+) -> Result<(), Fault>
+    requires fits { FitsKey files.now (child_entry places.now.places 0) name.now }
+    requires holds { ForSome (F.told f.old).files (HoldsLongKey places.now.places.long_key (length name.now)) }
+    requires apart { LiesApart places.now.places.entry places.now.places.long_key }
+    requires streams { IsTrue (is_address places.now.stored) × IsTrue (is_address places.now.index) }
+    requires is_open { ForSome (F.told f.old).files (IsOpen files.now) }
+
+    // Where these are the bytes of a part of this name, each state that was kept with its words unlinked is kept so, and the part is there.
+    ensures written { OnOk result (ForSome (F.told f.old).files (λ from. ForSome (F.told f.new).files (λ image. (bytes index : List ℕ) (role : Role) → ArePartStreams places.now name.now bytes index role from → length bytes ≡ size → WritesPart places.now name.now bytes index role from image))) }
+
+    // At each word what was at rest is found.
+    ensures stops { ForSome (F.told f.old).files (λ from. Passes (F.told f.old) (F.told f.new) (StillFinds (words_of_part places.now) from)) }
+    ensures is_open { ForSome (F.told f.new).files (IsOpen files.now) }
+    ensures damaged { IfDamaged result (IsFailedCheck files.now (F.told f.new)) }
+    ensures untold { IfDamaged result (λ _. (F.told f.old).files ≡ None) }
+    ensures silent { (F.told f.old).files ≡ None → (F.told f.new).files ≡ None }
+    ensures later { F.faults f.old ≤ F.faults f.new }
+    ensures device { IfDevice result (Rises (F.faults f.old) (F.faults f.new)) }
+{
+    write_child(f, files, &places.places, name, moment)?;
+    name_streams(
+        f,
+        files,
+        places.places.entry,
+        size,
+        places.stored,
+        places.index,
+    )
+}
+
+// Puts the node of a new part in front of the use list, and then its record in front of its chain.
+fn list_part<F: Folder>(f: &mut F, files: &BlockFiles, entry: Addr, node: Addr) -> Result<(), Fault>
+    requires stands { IsTrue (is_record_among files.now entry) }
+    requires node { IsTrue (is_node_among files.now node) }
+    requires is_open { ForSome (F.told f.old).files (IsOpen files.now) }
+    ensures listed { OnOk result (ForSome (F.told f.old).files (λ from. ForEachPartToBeListed entry node from (λ state objects layout unlinked key n was seen loaded. ForSome (F.told f.new).files (IsPartListed state layout key n was seen loaded from)))) }
+    ensures stops { ForSome (F.told f.old).files (λ from. ForEachPartToBeListed entry node from (λ state objects layout unlinked key n was seen loaded. Passes (F.told f.old) (F.told f.new) (Finds (rest state)))) }
+    ensures is_open { ForSome (F.told f.new).files (IsOpen files.now) }
+    ensures damaged { IfDamaged result (IsFailedCheck files.now (F.told f.new)) }
+    ensures untold { ForSome (F.told f.old).files (λ from. ForEachPartToBeListed entry node from (λ state objects layout unlinked key n was seen loaded. IfDamaged result (λ _. (F.told f.old).files ≡ None))) }
+    ensures silent { (F.told f.old).files ≡ None → (F.told f.new).files ≡ None }
+    ensures later { F.faults f.old ≤ F.faults f.new }
+    ensures device { IfDevice result (Rises (F.faults f.old) (F.faults f.new)) }
+{
+    insert_front(f, files, node)?;
+    link_front(f, files, entry)
+}
+
+// Where the index of a parent lies.
+fn index_place<F: Folder>(f: &mut F, files: &BlockFiles, parent: Addr) -> Result<Addr, Fault>
+    requires kind { kind_of parent ≡ blocks_256 }
+    requires stands { IsTrue (stands_among files.now parent) }
+    ensures place { IfOk result (λ addr. ForSome (F.told f.old).files (λ image. addr ≡ address_word image parent 2)) }
+    ensures stores { IfOk result (λ addr. stores files.now parent_index_length addr ≡ true) }
+    ensures stays { Stays (F.told f.old) (F.told f.new) }
+    ensures damaged { IfDamaged result (IsFailedCheck files.now (F.told f.new)) }
+    ensures untold { ForSome (F.told f.old).files (Agrees files.now) → ForSome (F.told f.old).files (HasIndexPlace files.now parent) → IfDamaged result (λ _. (F.told f.old).files ≡ None) }
+    ensures later { F.faults f.old ≤ F.faults f.new }
+    ensures device { IfDevice result (Rises (F.faults f.old) (F.faults f.new)) }
+{
+    let head = read_head(f, files, parent)?;
+    let word = head.addrs[2];
+    let Some(addr) = Addr::from_word(word) else {
+        return Err(record_damage(parent, EntryView::DATA_ADDR + 8, word));
+    };
+    if !stores(files, addr, ParentMap::LEN as u32) {
+        return Err(record_damage(parent, EntryView::DATA_ADDR + 8, word));
+    }
+    Ok(addr)
+}
+
+// Sets the bit of a part in its parent's index; nothing is written where it is set already.
+fn note_part<F: Folder>(f: &mut F, files: &BlockFiles, parent: Addr, part: u32) -> Result<(), Fault>
+    requires kind { kind_of parent ≡ blocks_256 }
+    requires stands { IsTrue (stands_among files.now parent) }
+    requires part { part < part_count }
+    requires is_open { ForSome (F.told f.old).files (IsOpen files.now) }
+    ensures noted { OnOk result (ForSome (F.told f.old).files (λ from. ForSome (F.told f.new).files (IsNoted parent part from))) }
+    ensures stops { ForSome (F.told f.old).files (λ from. Passes (F.told f.old) (F.told f.new) (IsBeingNoted files.now parent part from)) }
+    ensures is_open { ForSome (F.told f.new).files (IsOpen files.now) }
+    ensures damaged { IfDamaged result (IsFailedCheck files.now (F.told f.new)) }
+    ensures untold { ForSome (F.told f.old).files (HasIndexPlace files.now parent) → IfDamaged result (λ _. (F.told f.old).files ≡ None) }
+    ensures silent { (F.told f.old).files ≡ None → (F.told f.new).files ≡ None }
+    ensures later { F.faults f.old ≤ F.faults f.new }
+    ensures device { IfDevice result (Rises (F.faults f.old) (F.faults f.new)) }
+{
+    let addr = index_place(f, files, parent)?;
+    let at = place_of_part(part);
+    let mut byte = [0u8; 1];
+    read_data(f, files, addr, at, &mut byte)?;
+    let was = byte[0];
+    if has_part_bit(was, part) {
+        return Ok(());
+    }
+    write_data(f, files, addr, at, &[with_part_bit(was, part)])?;
+    Ok(())
+}
+
+// The bytes of the index of a new part, after its first piece.
+fn first_index(child: &ChildName, place: u32, count: u32) -> [u8; 192]
+    requires signature { cast_unsigned w64 child.now.signature < signatures }
+    requires some { 1 ≤ child.now.key_len }
+    requires short { child.now.key_len ≤ longest_key }
+    requires piece { 1 ≤ count }
+    requires most { place + count ≤ part_size }
+    ensures long { length result ≡ part_index_length }
+    ensures index { IsFirstIndex (cast_unsigned w64 child.now.signature) child.now.key_len place count result }
+{
+    let mut map = PartMap::new(child.signature, child.key_len as u32);
+    map.note_write(place, place + count);
+    let mut bytes = [0u8; PartMap::LEN];
+    map.print(&mut bytes);
+    bytes
+}
+
+/// Makes a part that doesn't exist, of an object that isn't settled, with a piece of its data, from a place in it on.
+///
+/// Its places are taken and its two streams are stored first; then its entry is written there, and its record names the
+/// streams by one sealed update. Then its node comes in front of the use list, its record in front of its chain, and at
+/// last its parent gets its bit, where it hasn't. The counters of the index stay.
+pub(crate) fn make_part<F: Folder>(
+    f: &mut F,
+    files: &mut BlockFiles,
+    parent: Addr,
+    child: &ChildName,
+    name: &[u8],
+    place: u32,
+    piece: &[u8],
+    moment: u64,
+) -> Result<(), Fault>
+    requires kind { kind_of parent ≡ blocks_256 }
+    requires stands { IsTrue (stands_among files.old parent) }
+    requires some_name { 1 ≤ length name.now }
+    requires short_name { length name.now ≤ longest_name }
+    requires signature { cast_unsigned w64 child.now.signature < signatures }
+    requires some_key { 1 ≤ child.now.key_len }
+    requires short_key { child.now.key_len ≤ longest_key }
+    requires part { child.now.part < part_count }
+    requires some { 1 ≤ length piece.now }
+    requires most { place + length piece.now ≤ part_size }
+    requires is_open { ForSome (F.told f.old).files (IsOpen files.old) }
+
+    // Of each unsettled object with such a parent, which lacks the part of this name, the state with the piece written is kept in the end, but for the counters.
+    ensures written { OnOk result (ForSome (F.told f.old).files (λ from. ForEachLacking parent child.now name.now from (λ state layout unlinked number object node. ForSome (F.told f.new).files (KeepsParentThen (with_piece_written state number object child.now.part place piece.now) unlinked number (with_piece object child.now.part place piece.now) node parent (cast_unsigned w64 child.now.signature) from)))) }
+
+    // At each word what was at rest is found: an object that isn't settled isn't.
+    ensures stops { ForSome (F.told f.old).files (λ from. ForEachLacking parent child.now name.now from (λ state layout unlinked number object node. Passes (F.told f.old) (F.told f.new) (Finds (rest state)))) }
+
+    // What stood still does.
+    ensures keeps { KeepsStanding files.old files.new }
+    ensures is_open { OnOk result (ForSome (F.told f.new).files (IsOpen files.new)) }
+
+    // A damage is a check that fails on what is read here; nothing is written after it.
+    ensures damaged { IfDamaged result (IsFailedCheck files.new (F.told f.new)) }
+
+    // A folder that tells its files, with such an object, gives no damage.
+    ensures untold { ForSome (F.told f.old).files (λ from. ForEachLacking parent child.now name.now from (λ state layout unlinked number object node. IfDamaged result (λ _. (F.told f.old).files ≡ None))) }
+
+    ensures silent { (F.told f.old).files ≡ None → (F.told f.new).files ≡ None }
+    ensures later { F.faults f.old ≤ F.faults f.new }
+    ensures device { IfDevice result (Rises (F.faults f.old) (F.faults f.new)) }
+{
+    let index = first_index(child, place, piece.len() as u32);
+    let places = take_part(f, files, name.len() as u32, place, piece, &index)?;
+    write_part(f, files, &places, name, place + piece.len() as u32, moment)?;
+    list_part(f, files, places.places.entry, places.places.node)?;
+    note_part(f, files, parent, child.part)
+}

@@ -1,0 +1,62 @@
+// A new place gets the bytes of a new stream.
+ghost use Rattle.std.specs.Prelude.{◌≡◌, ◌+◌, ◌≤◌, [], true, IfOk, None, OnOk, Some, length};
+ghost use Rattle.std.specs.Option.{ForSome};
+ghost use Rattle.blk_image.specs.Told.{Passes, Rises};
+ghost use Rattle.blk_model.specs.Bytes.{overwritten};
+ghost use Rattle.blk_format.specs.Headers.{HasWholeIndex};
+ghost use Rattle.blk_volume.specs.Entries.{most_stream_bytes};
+ghost use Rattle.blk_volume.specs.View.{store_of};
+ghost use Rattle.blk_io.specs.Faults.{IfDamaged, IfDevice};
+ghost use Rattle.blk_disk.specs.Tables.{Agrees};
+ghost use Rattle.blk_alloc.specs.Extending.{KeepsStanding};
+ghost use Rattle.blk_stream.specs.Placing.{CanBePlaced, IsPlaceRefusal};
+ghost use Rattle.blk_stream.specs.Stages.{FillsByStage, IsFilled};
+ghost use Rattle.blk_stream.specs.Streams.{may_keep};
+
+use crate::filling::fill;
+use crate::places::Stored;
+use crate::placing::new_place;
+use blk_addr::Addr;
+use blk_disk::BlockFiles;
+use blk_io::{Fault, Folder};
+
+/// Stores the bytes of a new stream, which no record names yet: zeros, and then the given ones from an offset on. A place
+/// is taken for them and filled.
+///
+/// A damage is a cause of `allocate` or `create`.
+pub fn store_new<F: Folder>(
+    f: &mut F,
+    files: &mut BlockFiles,
+    offset: u32,
+    bytes: &[u8],
+) -> Result<Addr, Fault>
+    requires some { 1 ≤ length bytes.now }
+    requires most { offset + length bytes.now ≤ most_stream_bytes }
+    requires agrees { ForSome (F.told f.old).files (Agrees files.old) }
+    requires complete { ForSome (F.told f.old).files HasWholeIndex }
+    ensures fits { IfOk result (λ addr. may_keep files.new (offset + length bytes.now) addr ≡ true) }
+
+    // Where there is room for them they are stored there.
+    ensures stored { IfOk result (λ addr. ForSome (F.told f.old).files (λ from. CanBePlaced files.old (offset + length bytes.now) from → ForSome (F.told f.new).files (λ image. (store_of image).stored (offset + length bytes.now) addr ≡ Some (overwritten [] offset bytes.now)))) }
+
+    // A place was taken and then filled; at each word it is being taken or filled.
+    ensures staged { IfOk result (λ addr. ForSome (F.told f.old).files (λ from. CanBePlaced files.old (offset + length bytes.now) from → ForSome (F.told f.new).files (IsFilled files.old files.new (Some addr) from))) }
+    ensures stages { ForSome (F.told f.old).files (λ from. CanBePlaced files.old (offset + length bytes.now) from → Passes (F.told f.old) (F.told f.new) (FillsByStage files.old files.new from)) }
+
+    ensures keeps { KeepsStanding files.old files.new }
+    ensures agrees { OnOk result (ForSome (F.told f.new).files (Agrees files.new)) }
+    ensures damaged { IfDamaged result (IsPlaceRefusal files.old files.new (offset + length bytes.now) (F.told f.old) (F.told f.new)) }
+    ensures untold { ForSome (F.told f.old).files (CanBePlaced files.old (offset + length bytes.now)) → IfDamaged result (λ _. (F.told f.old).files ≡ None) }
+    ensures silent { (F.told f.old).files ≡ None → (F.told f.new).files ≡ None }
+    ensures later { F.faults f.old ≤ F.faults f.new }
+    ensures device { IfDevice result (Rises (F.faults f.old) (F.faults f.new)) }
+{
+    let none = Stored {
+        size: 0,
+        addr: None,
+    };
+    let size = offset + bytes.len() as u32;
+    let addr = new_place(f, files, size)?;
+    fill(f, files, none, addr, size, offset, bytes)?;
+    Ok(addr)
+}
