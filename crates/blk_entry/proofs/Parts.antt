@@ -44,7 +44,7 @@ with_streams f s = record f {
 }
 
 -- the four changes are those of an entry record
-pub changes_are : (w : ℕ) (s : PartStreams) → kind_of w ≡ blocks_256 → AreChanges (seal_place w) (stream_changes s)
+changes_are : (w : ℕ) (s : PartStreams) → kind_of w ≡ blocks_256 → AreChanges (seal_place w) (stream_changes s)
 changes_are w s kind =
     let seal : seal_place w ≡ 92 = entry-seal w kind in
     let a : ℕ = length s.stored in
@@ -125,7 +125,7 @@ module _ (files : BlockFiles) (new : NewEntry) (key : List ℕ) (moment : ℕ) (
   is_record : IsRecord from new.entry (fields_of (new_record new key moment))
   is_record = record { here = shown.fields; good = record_is_good new key moment; bytes = below }
 
-  pub changed : OnlyRecordFieldsChange new.entry from image × ((store_of image).entry new.entry ≡ Some (sealed_fields (with_words (stream_changes s) (record_at from new.entry))))
+  changed : OnlyRecordFieldsChange new.entry from image × ((store_of image).entry new.entry ≡ Some (sealed_fields (with_words (stream_changes s) (record_at from new.entry))))
   changed =
       let update = whole_update from image new.entry (stream_changes s) done outside in
       let moved = fields-written from image new.entry (stream_changes s) (fields_of (new_record new key moment)) is_record (changes_are new.entry s fits.entry_kind)

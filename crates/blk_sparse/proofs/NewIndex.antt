@@ -1,8 +1,9 @@
 -- Where the index of a parent lies, by its record.
-use Rattle.std.proofs.Common.{◌≡◌, ⊎_elim, ℤ, length, inl, inr, ℕ, ◌+◌, ◌<◌, ◌≤◌, List, [], ◌∷◌, None, Option, Some, Err, slice_index_or, sym, ◌∙◌, ap, subst, arith, true, false}
+use Rattle.std.proofs.Common.{◌≡◌, ◌≢◌, ◌%◌, ⊎_elim, ℤ, length, inl, inr, ℕ, ◌+◌, ◌<◌, ◌≤◌, List, [], ◌∷◌, None, Option, Some, Err, slice_index_or, refl, sym, ◌∙◌, ap, subst, arith, true, false}
 use Rattle.std.specs.Prelude.{◌-◌, slice_index}
 use Rattle.std.specs.Int.{cast_signed, cast_unsigned, w64}
 use Rattle.std.proofs.lemmas.Int.{of_z-to_z}
+use Rattle.std.proofs.lemmas.List.Elements.{All-cons, All-nil}
 use Rattle.std.specs.Option.{ForSome, option_map}
 use Rattle.blk_image.specs.Bytes.{content, range_at}
 use Rattle.blk_image.specs.Footprint.{SameOutside}
@@ -16,6 +17,8 @@ use Rattle.blk_model.specs.Sparse.{empty_part, presence_after}
 use Rattle.blk_format.specs.Address.{blocks_256, kind_of}
 use Rattle.blk_format.specs.Sealed.{AreChanges, IsUpdated, seal_place}
 use Rattle.blk_format.specs.SparseIndex.{read_part_index}
+use Rattle.blk_laws.proofs.lists.WordTurns.{each}
+use Rattle.blk_laws.proofs.updates.Updates.{entry-seal}
 use Rattle.blk_disk.specs.declared.tables.BlockFiles.{BlockFiles}
 use Rattle.blk_disk.specs.Open.{IsOpen}
 use Rattle.blk_disk.specs.Tables.{Agrees, stands_among}
@@ -24,10 +27,9 @@ use Rattle.blk_io.specs.Faults.{IfDamaged}
 use Rattle.blk_io.proofs.Carried.{untold_where}
 use Rattle.blk_entry.specs.declared.keys.Head.{Head}
 use Rattle.blk_entry.specs.Keys.{HasData, IsDamageAt, IsInside, IsRecordHead, data_at, data_file, data_range, data_start, stores}
-use Rattle.blk_entry.specs.Parts.{stream_changes}
+use Rattle.blk_entry.specs.Parts.{PartStreams, stream_changes}
 use Rattle.blk_entry.specs.Steps.{data_steps}
 use Rattle.blk_entry.proofs.KeyPlaces.{damaged_any}
-use Rattle.blk_entry.proofs.Parts.{changes_are}
 use Rattle.blk_stream.proofs.InsideData.{data_there}
 use Rattle.blk_ranges.specs.declared.part_map.PartMap.{PartMap}
 use Rattle.blk_ranges.specs.PartMaps.{SamePart, index_of, presence_of}
@@ -79,6 +81,27 @@ byte-read b a out w p q same at read image there =
 pub open-after : (files : BlockFiles) (w n at : ℕ) (d e : Told) → stores files 8256 w ≡ true → ForSome d.files (λ from. Passes d e (SameOutside (data_range w at 1) from)) → (d.files ≡ None → e.files ≡ None) → ForSome e.files (Agrees files) → ForSome d.files (IsOpen files) → ForSome e.files (IsOpen files)
 open-after files w n at d e is outside silent agrees opens =
     still-open files d e (SameOutside (data_range w at 1)) (λ from image same. byte-lengths w at from image (no-file files w is) same) (λ from there. passes_end (outside from there)) silent agrees opens
+
+-- the words of the two streams of a part are changes of an entry record
+pub changes_are : (w : ℕ) (s : PartStreams) → kind_of w ≡ blocks_256 → AreChanges (seal_place w) (stream_changes s)
+changes_are w s kind =
+    let seal : seal_place w ≡ 92 = entry-seal w kind in
+    let a : ℕ = length s.stored in
+    let b : ℕ = length s.index in
+    let c : ℕ = s.stored_addr in
+    let d : ℕ = s.index_addr in
+    record {
+      few = omega arith;
+      aligned = each (λ change. change.0 % 4 ≡ 0) (44, a) (48, b) (60, c) (64, d) refl refl refl refl;
+      before = each (λ change. change.0 < seal_place w) (44, a) (48, b) (60, c) (64, d) (omega (arith, seal)) (omega (arith, seal)) (omega (arith, seal)) (omega (arith, seal));
+      different = (
+        All-cons (λ other. other.0 ≢ 44) (48, b) ((60, c) ∷ (64, d) ∷ []) (λ e. absurd (omega arith)) (All-cons (λ other. other.0 ≢ 44) (60, c) ((64, d) ∷ []) (λ e. absurd (omega arith)) (All-cons (λ other. other.0 ≢ 44) (64, d) [] (λ e. absurd (omega arith)) (All-nil (λ other. other.0 ≢ 44)))),
+        (
+          All-cons (λ other. other.0 ≢ 48) (60, c) ((64, d) ∷ []) (λ e. absurd (omega arith)) (All-cons (λ other. other.0 ≢ 48) (64, d) [] (λ e. absurd (omega arith)) (All-nil (λ other. other.0 ≢ 48))),
+          (All-cons (λ other. other.0 ≢ 60) (64, d) [] (λ e. absurd (omega arith)) (All-nil (λ other. other.0 ≢ 60)), (All-nil (λ other. other.0 ≢ 64), tt)),
+        ),
+      );
+    }
 
 -- the four words of a record that is given two streams
 pub these-changes : (entry size stored index : ℕ) (bytes map : List ℕ) → length bytes ≡ size → length map ≡ 192 → kind_of entry ≡ blocks_256 → AreChanges (seal_place entry) ((44, size) ∷ (48, 192) ∷ (60, stored) ∷ (64, index) ∷ [])

@@ -1,5 +1,5 @@
 -- A new part is written at its places: whatever state was kept with its words unlinked is kept so, and the part is there.
-use Rattle.std.proofs.Common.{◌≡◌, inr, ⊎_elim, ℕ, ◌<◌, ◌^◌, List, [], ◌∷◌, ◌++◌, length, None, Option, Some, Ok, refl, ap, sym, ◌∙◌, subst, arith, true, false, append_assoc}
+use Rattle.std.proofs.Common.{◌≡◌, inr, ⊎_elim, ℕ, ◌<◌, ◌≤◌, ◌^◌, List, [], ◌∷◌, ◌++◌, length, None, Option, Some, Ok, refl, ap, sym, ◌∙◌, subst, arith, true, false, append_assoc}
 use Rattle.std.specs.Prelude.{◌==◌, filter, not, unwrap_or}
 use Rattle.std.proofs.lemmas.Bool.{cases_Bool, eq-eqb, or_left, or_right}
 use Rattle.blk_image.specs.Footprint.{SameOutside}
@@ -11,6 +11,7 @@ use Rattle.blk_format.specs.Claims.{Claim, claims_of, claims_of_all, has_claim, 
 use Rattle.blk_format.specs.Headers.{crash_of, this_id_of}
 use Rattle.blk_format.specs.Records.{entry_normal, node_is_sealed}
 use Rattle.blk_format.specs.Sealed.{record_range}
+use Rattle.blk_format.proofs.SealedRecords.{whole_update}
 use Rattle.blk_volume.specs.Entries.{Role}
 use Rattle.blk_volume.specs.Footprint.{IsClear}
 use Rattle.blk_volume.specs.Layout.{Layout}
@@ -19,15 +20,18 @@ use Rattle.blk_volume.specs.Searches.{bucket_of_key}
 use Rattle.blk_volume.specs.ListView.{ListView}
 use Rattle.blk_volume.specs.ShownChanges.{OnlyRecordFieldsChange}
 use Rattle.blk_volume.specs.Sound.{AreSealed, words_of}
-use Rattle.blk_volume.specs.View.{node_at, stands_as, store_of}
+use Rattle.blk_volume.specs.View.{fields_of, node_at, stands_as, store_of}
 use Rattle.blk_laws.proofs.claims.Allocations.{flat_map-append, words-claims}
 use Rattle.blk_laws.proofs.claims.ByteChanges.{agreeing-views, node-same}
+use Rattle.blk_laws.proofs.lists.WordTurns.{each}
+use Rattle.blk_laws.proofs.updates.Records.{fields-written}
 use Rattle.blk_disk.specs.declared.tables.BlockFiles.{BlockFiles}
 use Rattle.blk_alloc.proofs.Lists.{once_parts}
 use Rattle.blk_entry.specs.declared.writing.NewEntry.{NewEntry}
 use Rattle.blk_entry.specs.Parts.{IsStoredBeside, PartStreams, stream_changes}
-use Rattle.blk_entry.specs.Writing.{FitsKey, IsLongPlace, LiesApart, loaded_new}
-use Rattle.blk_entry.proofs.Parts.{changed, changes_are, written-parts-load}
+use Rattle.blk_entry.specs.Writing.{FitsKey, IsLongPlace, LiesApart, loaded_new, new_record}
+use Rattle.blk_entry.proofs.NewShown.{record_is_good}
+use Rattle.blk_entry.proofs.Parts.{written-parts-load}
 use Rattle.blk_stream.proofs.RecordSeals.{updated_sealed}
 use Rattle.blk_kept.specs.Changes.{AreOfWords, ChangesOnly, StillFinds}
 use Rattle.blk_kept.specs.Keeping.{KeepsUncounted}
@@ -41,6 +45,7 @@ use Rattle.blk_object.proofs.MakingTaken.{session-then}
 use Rattle.blk_object.proofs.MakingWritten.{some-address, stored-address, words-are}
 use Rattle.blk_sparse.specs.NewParts.{ArePartStreams, HasStreamsNow, IsChildWritten, IsPartThere, IsStored, WritesPart, child_entry, new_part, streams_of_part, words_of_part}
 use Rattle.blk_sparse.specs.declared.new_part.PartPlaces.{PartPlaces}
+use Rattle.blk_sparse.proofs.NewIndex.{changes_are}
 
 -- a claim that two words share in a list without repeats is none
 shared : (words rest : List ℕ) (v w : ℕ) (c : Claim) → repeats (claims_of_all (words ++ rest)) ≡ false → is_among words v ≡ true → is_among rest w ≡ true → has_claim (claims_of v) c ≡ true → has_claim (claims_of w) c ≡ true → ⊥
@@ -194,7 +199,10 @@ module _ (files : BlockFiles) (places : PartPlaces) (name : List ℕ) (moment : 
     loads = written-parts-load files its name moment its-streams role mid image (fits_next files places name moment from mid fits w) w.words apart refl bytes_mid w.shown stored_beside index_beside streams.role_is n.updated n.outside
 
     moved-fields : OnlyRecordFieldsChange places.places.entry mid image
-    moved-fields = (changed files its name moment its-streams role mid image (fits_next files places name moment from mid fits w) w.words apart refl bytes_mid w.shown stored_beside index_beside streams.role_is n.updated n.outside).0
+    moved-fields =
+        let update = whole_update mid image its-entry (stream_changes its-streams) n.updated n.outside in
+        (fields-written mid image its-entry (stream_changes its-streams) (fields_of (new_record its name moment)) (record { here = w.shown.fields; good = record_is_good its name moment; bytes = bytes_mid }) (changes_are its-entry its-streams fits.entry_kind)
+        (each (λ change. 8 ≤ change.0) (44, length bytes) (48, length index) (60, places.stored) (64, places.index) (omega arith) (omega arith) (omega arith) (omega arith)) update.0).0
 
     -- its node is as it was
     node_clear : IsClear (has_claim (claims_of places.places.entry)) places.places.node
