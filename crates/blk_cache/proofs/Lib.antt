@@ -5,6 +5,7 @@ pub mod OpenRuns
 pub mod CarriedFaults
 pub mod Starts
 pub mod MakingSteps
+pub mod MakingRuns
 pub mod CreationTimes
 pub mod NamedObjects
 pub mod Bound

@@ -8,7 +8,7 @@ use Rattle.blk_image.specs.Bytes.{content, word_at, zeros}
 use Rattle.blk_image.specs.Image.{Image, Index, AreBytes, byte, word}
 use Rattle.blk_image.specs.Checks.{Damage}
 use Rattle.blk_image.specs.Told.{Told, Passes, PassesTo}
-use Rattle.blk_image.proofs.Runs.{passes_none, passes_weaker, some_inj}
+use Rattle.blk_image.proofs.Runs.{passes_weaker, some_inj}
 use Rattle.blk_image.proofs.Words.{word-zeros}
 use Rattle.blk_model.specs.Items.{Row}
 use Rattle.blk_model.specs.Holding.{open_state}
@@ -20,6 +20,7 @@ use Rattle.blk_format.specs.NewFolder.{IsMade, new_index_words}
 use Rattle.blk_format.proofs.Finished.{finished_whole, well_formed-finished}
 use Rattle.blk_format.proofs.HeaderLemmas.{unfinished_agrees}
 use Rattle.blk_volume.specs.Found.{found}
+use Rattle.blk_volume.specs.StandsFor.{StandsFor}
 use Rattle.blk_laws.proofs.states.Bare.{bare-found}
 use Rattle.blk_laws.proofs.states.NewFolders.{new-bare, words_beside}
 use Rattle.blk_io.specs.declared.fault.Damage as blk
@@ -37,10 +38,12 @@ use Rattle.blk_repair_laws.specs.MendedChanges.{IsMidRepair}
 use Rattle.blk_scan.specs.declared.chains.KeptChains.{KeptChains}
 use Rattle.blk_scan.specs.declared.scan.Scan.{Scan}
 use Rattle.blk_scan.specs.Scans.{ChainsStandIf, IsEmptyScan, IsScanOf, StandAmong}
+use Rattle.blk_repair.specs.Endings.{BreaksOff, EndsOrBreaksOff, EndsWithCrashWord}
+use Rattle.blk_repair.proofs.Endings.{breaks-none, either-weaker, ends-weaker}
 use Rattle.blk_repair.specs.Repair.{IsRepairDamage, IsRepairable, IsRepaired, next_id}
 use Rattle.blk_cache.specs.declared.opening.Opened.{Opened}
 use Rattle.blk_cache.specs.Opened.{IsFirstDamage, IsJustMade, IsOpenedAs, IsOpeningDamage}
-use Rattle.blk_cache.specs.Opening.{HoldsStill, opened_id}
+use Rattle.blk_cache.specs.Opening.{HoldsStill, StandsOpened, opened_id}
 use Rattle.blk_scan.proofs.FirstDamages.{blocks-formed, first-before, first-behind}
 use Rattle.blk_cache.proofs.OpenedFolders.{made-repairable, repaired-kept, told-totals}
 
@@ -124,24 +127,38 @@ mid-still entry image mid = record { usable = λ _. inr mid.well_formed; formed 
 pub made-still : (entry made image : Image) → IsUnfinished entry → IsJustMade made → IsMidRepair made image → HoldsStill entry image
 made-still entry made image un is mid = record { usable = λ _. inr mid.well_formed; formed = λ _. mid.well_formed; found_same = mid.found_same ∙ made-found made is ∙ sym (unfinished-found entry un) }
 
+-- one that is unfinished still
+pub unfinished-still : (entry image : Image) → IsUnfinished entry → IsUnfinished image → HoldsStill entry image
+unfinished-still entry image un now = record { usable = λ _. inl now; formed = λ well. absurd (let whole = finished_whole entry well in whole.finished un); found_same = unfinished-found image now ∙ sym (unfinished-found entry un) }
+
 pub making-still : {a b : Told} (entry : Image) (moment : ℕ) → IsUnfinished entry → PassesTo a b IsUnfinished (λ image. IsUnfinished image ⊎ IsMade moment image) → Passes a b (HoldsStill entry)
 making-still entry moment un passes =
-    passes_weaker passes before (λ image. ⊎_elim (before image) (λ (made : IsMade moment image). record { usable = λ _. inr (made-formed image (moment, made)); formed = λ _. made-formed image (moment, made); found_same = made-found image (moment, made) ∙ sym (unfinished-found entry un) }))
-  where
-    before : (image : Image) → IsUnfinished image → HoldsStill entry image
-    before image now = record { usable = λ _. inl now; formed = λ well. absurd (let whole = finished_whole entry well in whole.finished un); found_same = unfinished-found image now ∙ sym (unfinished-found entry un) }
+    passes_weaker passes (λ image. unfinished-still entry image un) (λ image. ⊎_elim (unfinished-still entry image un) (λ (made : IsMade moment image). record { usable = λ _. inr (made-formed image (moment, made)); formed = λ _. made-formed image (moment, made); found_same = made-found image (moment, made) ∙ sym (unfinished-found entry un) }))
 
 -- ---- where nothing was written
 
-pub stayed-mid : {a b : Told} (from : Image) → a.files ≡ Some from → IsWellFormed from → b ≡ a → Passes a b (IsMidRepair from)
-stayed-mid from there well same = passes_none (IsMidRepair from) same (λ i is. subst (IsMidRepair from) (some_inj (sym there ∙ is)) (record { well_formed = well; kept_same = refl; found_same = refl }))
+pub stayed-mid : {a b : Told} (from : Image) → a.files ≡ Some from → IsWellFormed from → b ≡ a → BreaksOff a b (IsMidRepair from)
+stayed-mid from there well same = breaks-none (IsMidRepair from) same (λ i is. subst (IsMidRepair from) (some_inj (sym there ∙ is)) (record { well_formed = well; kept_same = refl; found_same = refl }))
 
-pub stayed-still : {a b : Told} (from : Image) → a.files ≡ Some from → b ≡ a → Passes a b (HoldsStill from)
-stayed-still from there same = passes_none (HoldsStill from) same (λ i is. subst (HoldsStill from) (some_inj (sym there ∙ is)) (record { usable = λ h. h; formed = λ h. h; found_same = refl }))
+pub stayed-still : {a b : Told} (from : Image) → a.files ≡ Some from → b ≡ a → BreaksOff a b (HoldsStill from)
+stayed-still from there same = breaks-none (HoldsStill from) same (λ i is. subst (HoldsStill from) (some_inj (sym there ∙ is)) (record { usable = λ h. h; formed = λ h. h; found_same = refl }))
 
 -- a call that passes tells nothing of a folder that tells nothing
 pub passes-silent : {a b : Told} {P Q : Image → Type 0} → PassesTo a b P Q → a.files ≡ None → b.files ≡ None
 passes-silent passes none = passes.applies.files ∙ ap (option_map (after passes.steps)) none
+
+-- ---- where the session was marked as open
+
+-- what repaired an image opened it
+pub repaired-opens : {a b : Told} (from : Image) → EndsWithCrashWord a b (IsMidRepair from) (IsRepaired from) → EndsWithCrashWord a b (IsMidRepair from) (StandsOpened from)
+repaired-opens from ends = ends-weaker ends (λ i mid. mid) (λ i repaired. repaired.stands_for)
+
+pub repaired-either : {a b : Told} (from : Image) → EndsOrBreaksOff a b (IsMidRepair from) (IsRepaired from) → EndsOrBreaksOff a b (IsMidRepair from) (StandsOpened from)
+repaired-either from either = either-weaker either (λ i mid. mid) (λ i repaired. repaired.stands_for)
+
+-- what stands for what a made folder holds stands for what was found in the unfinished one before it
+pub made-stands : (entry made image : Image) → IsUnfinished entry → IsJustMade made → StandsOpened made image → StandsOpened entry image
+made-stands entry made image un is stands limits = subst (λ (rows : List Row). StandsFor image (open_state rows limits)) (made-found made is ∙ sym (unfinished-found entry un)) (stands limits)
 
 -- ---- damages
 

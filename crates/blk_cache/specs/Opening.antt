@@ -1,15 +1,20 @@
 -- What the opening and the closing of a cache owe.
 use Rattle.std.specs.Prelude.{◌≡◌, ◌⊎◌, ℕ, Result, Ok, Err, if◌then◌else◌}
 use Rattle.blk_image.specs.Image.{Image, Index, byte}
+use Rattle.blk_image.specs.Told.{Told}
+use Rattle.blk_model.specs.Holding.{open_state}
+use Rattle.blk_model.specs.State.{Bounds}
 use Rattle.blk_format.specs.BlockFiles.{IsWellFormed}
 use Rattle.blk_format.specs.Headers.{IsUnfinished, crash_of, create_time_of, this_id_of, unfinished}
 use Rattle.blk_volume.specs.Found.{found}
 use Rattle.blk_volume.specs.Sound.{IsSound}
+use Rattle.blk_volume.specs.StandsFor.{StandsFor}
 use Rattle.blk_io.specs.declared.fault.Damage.{Damage}
 use Rattle.blk_io.specs.declared.fault.Fault.{Fault}
 use Rattle.blk_io.specs.declared.fault.Fault.TheVariants as fault
 use Rattle.blk_audit.specs.declared.fault.ScanFault.{ScanFault}
 use Rattle.blk_audit.specs.declared.fault.ScanFault.TheVariants as scan
+use Rattle.blk_repair.specs.Endings.{EndsOrBreaksOff, EndsWithCrashWord}
 use Rattle.blk_repair.specs.Repair.{next_id}
 use Rattle.blk_cache.specs.declared.fault.OpenFault.{OpenFault}
 use Rattle.blk_cache.specs.declared.fault.OpenFault.TheVariants.{Device, Damaged, Memory}
@@ -23,6 +28,18 @@ pub record HoldsStill (entry image : Image) : Type 0 where
   pub usable : IsUsable entry → IsUsable image
   pub formed : IsWellFormed entry → IsWellFormed image
   pub found_same : found image ≡ found entry
+
+-- the folder stands for the state that is opened on what was found in another image
+abbrev pub StandsOpened : Image → Image → Type 0
+StandsOpened entry image = (limits : Bounds) → StandsFor image (open_state (found entry) limits)
+
+-- a folder was opened: at each step it holds what it held, none is a note, and the last one alone marks a session as open; there the folder stands for what was found, opened
+abbrev pub Opens : Image → Told → Told → Type 0
+Opens entry old new = EndsWithCrashWord old new (HoldsStill entry) (StandsOpened entry)
+
+-- so it was, or the opening broke off: at each step made the folder holds what it held, none is a note, and none marks a session as open
+abbrev pub OpensOrBreaksOff : Image → Told → Told → Type 0
+OpensOrBreaksOff entry old new = EndsOrBreaksOff old new (HoldsStill entry) (StandsOpened entry)
 
 -- the number of the session that is opened on a folder: the first where it is made
 abbrev pub opened_id : Image → ℕ

@@ -2,18 +2,19 @@
 ghost use Rattle.std.specs.Prelude.{◌≡◌, ◌≤◌, IfOk, None, OnOk, Some};
 ghost use Rattle.std.specs.Option.{ForSome};
 ghost use Rattle.blk_image.specs.Image.{Index as index, byte};
-ghost use Rattle.blk_image.specs.Told.{Passes, Rises, Stays};
+ghost use Rattle.blk_image.specs.Told.{Rises, Stays};
 ghost use Rattle.blk_format.specs.BlockFiles.{first_damage, IsWellFormed};
 ghost use Rattle.blk_format.specs.Headers.{HasWholeIndex, IsUnfinished, create_time_of};
 ghost use Rattle.blk_io.specs.Faults.{IfDamaged, IfDevice, damage_of};
 ghost use Rattle.blk_index.specs.Start.{IsFinished, IsLookDamage};
 ghost use Rattle.blk_disk.specs.Loading.{IsLoadDamage};
 ghost use Rattle.blk_disk.specs.Open.{IsOpen};
-ghost use Rattle.blk_repair.specs.Repair.{EndsWithCrashWord, IsRepairDamage, IsRepairable, NeedsOnlyWords};
+ghost use Rattle.blk_repair.specs.Endings.{EndsOrBreaksOff, EndsWithCrashWord};
+ghost use Rattle.blk_repair.specs.Repair.{IsRepairDamage, IsRepairable, NeedsOnlyWords};
 ghost use Rattle.blk_repair_laws.specs.MendedChanges.{IsMidRepair};
 ghost use Rattle.blk_scan.specs.Scans.{StandAmong};
 ghost use Rattle.blk_cache.specs.Opened.{IsFirstDamage, IsJustMade, IsOpenedAs, IsOpeningDamage};
-ghost use Rattle.blk_cache.specs.Opening.{HoldsStill, IfOpenDamaged, IfOpenDevice, IfOpenMemory, IsUsable, WasMadeAt};
+ghost use Rattle.blk_cache.specs.Opening.{IfOpenDamaged, IfOpenDevice, IfOpenMemory, IsUsable, Opens, OpensOrBreaksOff, StandsOpened, WasMadeAt};
 
 use crate::fault::OpenFault;
 use blk_disk::BlockFiles;
@@ -43,8 +44,8 @@ pub(crate) fn open_folder<F: Folder>(
     ensures opened { IfOk result (λ opened. ForSome (F.told f.old).files (λ from. ForSome (F.told f.new).files (IsOpenedAs from opened))) }
     ensures checked { OnOk result (ForSome (F.told f.old).files IsUsable) }
     ensures made { OnOk result (ForSome (F.told f.old).files (λ from. IsUnfinished from → ForSome (F.told f.new).files (WasMadeAt moment))) }
-    ensures stops { ForSome (F.told f.old).files (λ from. Passes (F.told f.old) (F.told f.new) (HoldsStill from)) }
-    ensures last { OnOk result (ForSome (F.told f.old).files (λ _. EndsWithCrashWord (F.told f.old) (F.told f.new))) }
+    ensures stops { ForSome (F.told f.old).files (λ from. OpensOrBreaksOff from (F.told f.old) (F.told f.new)) }
+    ensures last { OnOk result (ForSome (F.told f.old).files (λ from. Opens from (F.told f.old) (F.told f.new))) }
     ensures damaged { IfOpenDamaged result (IsOpeningDamage (F.told f.new)) }
     ensures first { IfOpenDamaged result (λ damage. ForSome (F.told f.old).files (IsFirstDamage damage)) }
     ensures unwritten { IfOpenDamaged result (λ _. ForSome (F.told f.old).files (λ _. Stays (F.told f.old) (F.told f.new))) }
@@ -64,8 +65,8 @@ fn open_new<F: Folder>(alloc: Global, f: &mut F, moment: u64) -> Result<Opened, 
     requires unfinished { ForSome (F.told f.old).files IsUnfinished }
     ensures opened { IfOk result (λ opened. ForSome (F.told f.old).files (λ from. ForSome (F.told f.new).files (IsOpenedAs from opened))) }
     ensures made { OnOk result (ForSome (F.told f.old).files (λ _. ForSome (F.told f.new).files (WasMadeAt moment))) }
-    ensures stops { ForSome (F.told f.old).files (λ from. Passes (F.told f.old) (F.told f.new) (HoldsStill from)) }
-    ensures last { OnOk result (ForSome (F.told f.old).files (λ _. EndsWithCrashWord (F.told f.old) (F.told f.new))) }
+    ensures stops { ForSome (F.told f.old).files (λ from. OpensOrBreaksOff from (F.told f.old) (F.told f.new)) }
+    ensures last { OnOk result (ForSome (F.told f.old).files (λ from. Opens from (F.told f.old) (F.told f.new))) }
     ensures damaged { IfDamaged result (IsOpeningDamage (F.told f.new)) }
     ensures untold { IfDamaged result (λ _. (F.told f.old).files ≡ None) }
     ensures silent { (F.told f.old).files ≡ None → (F.told f.new).files ≡ None }
@@ -81,8 +82,8 @@ fn open_made<F: Folder>(alloc: Global, f: &mut F) -> Result<Opened, Fault>
     requires complete { ForSome (F.told f.old).files HasWholeIndex }
     ensures opened { IfOk result (λ opened. ForSome (F.told f.old).files (λ from. IsJustMade from → ForSome (F.told f.new).files (IsOpenedAs from opened))) }
     ensures made { OnOk result (ForSome (F.told f.old).files (λ from. IsJustMade from → ForSome (F.told f.new).files (WasMadeAt (create_time_of (byte from index))))) }
-    ensures stops { ForSome (F.told f.old).files (λ from. IsJustMade from → Passes (F.told f.old) (F.told f.new) (IsMidRepair from)) }
-    ensures last { OnOk result (ForSome (F.told f.old).files (λ from. IsJustMade from → EndsWithCrashWord (F.told f.old) (F.told f.new))) }
+    ensures stops { ForSome (F.told f.old).files (λ from. IsJustMade from → EndsOrBreaksOff (F.told f.old) (F.told f.new) (IsMidRepair from) (StandsOpened from)) }
+    ensures last { OnOk result (ForSome (F.told f.old).files (λ from. IsJustMade from → EndsWithCrashWord (F.told f.old) (F.told f.new) (IsMidRepair from) (StandsOpened from))) }
     ensures damaged { IfDamaged result (IsOpeningDamage (F.told f.new)) }
     ensures untold { ForSome (F.told f.old).files IsJustMade → IfDamaged result (λ _. (F.told f.old).files ≡ None) }
     ensures silent { (F.told f.old).files ≡ None → (F.told f.new).files ≡ None }
@@ -98,8 +99,8 @@ fn open_finished<F: Folder>(alloc: Global, f: &mut F) -> Result<Opened, OpenFaul
     requires complete { ForSome (F.told f.old).files HasWholeIndex }
     ensures opened { IfOk result (λ opened. ForSome (F.told f.old).files (λ from. IsFinished from → ForSome (F.told f.new).files (IsOpenedAs from opened))) }
     ensures checked { OnOk result (ForSome (F.told f.old).files (λ from. IsFinished from → IsWellFormed from)) }
-    ensures stops { ForSome (F.told f.old).files (λ from. IsFinished from → Passes (F.told f.old) (F.told f.new) (HoldsStill from)) }
-    ensures last { OnOk result (ForSome (F.told f.old).files (λ from. IsFinished from → EndsWithCrashWord (F.told f.old) (F.told f.new))) }
+    ensures stops { ForSome (F.told f.old).files (λ from. IsFinished from → OpensOrBreaksOff from (F.told f.old) (F.told f.new)) }
+    ensures last { OnOk result (ForSome (F.told f.old).files (λ from. IsFinished from → Opens from (F.told f.old) (F.told f.new))) }
     ensures damaged { IfOpenDamaged result (IsOpeningDamage (F.told f.new)) }
     ensures first { IfOpenDamaged result (λ damage. ForSome (F.told f.old).files (λ from. IsFinished from → first_damage from ≡ Some (damage_of damage))) }
     ensures unwritten { IfOpenDamaged result (λ _. ForSome (F.told f.old).files (λ from. IsFinished from → Stays (F.told f.old) (F.told f.new))) }
@@ -116,8 +117,8 @@ fn open_finished<F: Folder>(alloc: Global, f: &mut F) -> Result<Opened, OpenFaul
 fn open_loaded<F: Folder>(alloc: Global, f: &mut F, files: BlockFiles) -> Result<Opened, OpenFault>
     requires is_open { ForSome (F.told f.old).files (IsOpen files) }
     ensures opened { IfOk result (λ opened. ForSome (F.told f.old).files (λ from. IsWellFormed from → ForSome (F.told f.new).files (IsOpenedAs from opened))) }
-    ensures stops { ForSome (F.told f.old).files (λ from. IsWellFormed from → Passes (F.told f.old) (F.told f.new) (IsMidRepair from)) }
-    ensures last { OnOk result (ForSome (F.told f.old).files (λ from. IsWellFormed from → EndsWithCrashWord (F.told f.old) (F.told f.new))) }
+    ensures stops { ForSome (F.told f.old).files (λ from. IsWellFormed from → EndsOrBreaksOff (F.told f.old) (F.told f.new) (IsMidRepair from) (StandsOpened from)) }
+    ensures last { OnOk result (ForSome (F.told f.old).files (λ from. IsWellFormed from → EndsWithCrashWord (F.told f.old) (F.told f.new) (IsMidRepair from) (StandsOpened from))) }
     ensures damaged { IfOpenDamaged result (IsOpeningDamage (F.told f.new)) }
     ensures untold { ForSome (F.told f.old).files IsWellFormed → IfOpenDamaged result (λ _. (F.told f.old).files ≡ None) }
     ensures memory { IfOpenMemory result (Stays (F.told f.old) (F.told f.new)) }
@@ -135,8 +136,8 @@ fn mend<F: Folder>(f: &mut F, files: BlockFiles, scan: &Scan) -> Result<Opened, 
     requires is_open { ForSome (F.told f.old).files (IsOpen files) }
     ensures opened { IfOk result (λ opened. ForSome (F.told f.old).files (λ from. IsRepairable scan.now from → ForSome (F.told f.new).files (IsOpenedAs from opened))) }
     ensures made { OnOk result (ForSome (F.told f.old).files (λ from. IsRepairable scan.now from → NeedsOnlyWords scan.now from → ForSome (F.told f.new).files (WasMadeAt (create_time_of (byte from index))))) }
-    ensures stops { ForSome (F.told f.old).files (λ from. IsRepairable scan.now from → Passes (F.told f.old) (F.told f.new) (IsMidRepair from)) }
-    ensures last { OnOk result (ForSome (F.told f.old).files (λ from. IsRepairable scan.now from → EndsWithCrashWord (F.told f.old) (F.told f.new))) }
+    ensures stops { ForSome (F.told f.old).files (λ from. IsRepairable scan.now from → EndsOrBreaksOff (F.told f.old) (F.told f.new) (IsMidRepair from) (StandsOpened from)) }
+    ensures last { OnOk result (ForSome (F.told f.old).files (λ from. IsRepairable scan.now from → EndsWithCrashWord (F.told f.old) (F.told f.new) (IsMidRepair from) (StandsOpened from))) }
     ensures damaged { IfDamaged result (IsOpeningDamage (F.told f.new)) }
     ensures untold { ForSome (F.told f.old).files (IsRepairable scan.now) → IfDamaged result (λ _. (F.told f.old).files ≡ None) }
     ensures silent { (F.told f.old).files ≡ None → (F.told f.new).files ≡ None }

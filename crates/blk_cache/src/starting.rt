@@ -2,16 +2,15 @@
 ghost use Rattle.std.specs.Prelude.{◌≡◌, ◌≤◌, IfOk, None, OnOk};
 ghost use Rattle.std.specs.Option.{ForSome};
 ghost use Rattle.blk_image.specs.Image.{Index as index, byte};
-ghost use Rattle.blk_image.specs.Told.{Passes, Rises, Stays};
+ghost use Rattle.blk_image.specs.Told.{Rises, Stays};
 ghost use Rattle.blk_model.specs.Bounds.{bounds_of};
 ghost use Rattle.blk_model.specs.Holding.{open_state};
 ghost use Rattle.blk_format.specs.Headers.{IsUnfinished, this_id_of};
 ghost use Rattle.blk_volume.specs.Found.{found};
-ghost use Rattle.blk_repair.specs.Repair.{EndsWithCrashWord};
 ghost use Rattle.blk_cache.specs.BoundNames.{AreAllFree};
 ghost use Rattle.blk_cache.specs.CacheKeeping.{KeepsState};
 ghost use Rattle.blk_cache.specs.Opened.{IsFirstDamage, IsOpeningDamage};
-ghost use Rattle.blk_cache.specs.Opening.{HoldsStill, IfOpenDamaged, IfOpenDevice, IfOpenMemory, IsUsable, WasMadeAt, opened_id};
+ghost use Rattle.blk_cache.specs.Opening.{IfOpenDamaged, IfOpenDevice, IfOpenMemory, IsUsable, Opens, OpensOrBreaksOff, WasMadeAt, opened_id};
 
 use crate::cache::Cache;
 use crate::fault::OpenFault;
@@ -48,9 +47,10 @@ impl Cache {
         // A folder that was unfinished has the moment as the time of its making.
         ensures made { OnOk result (ForSome (F.told f.old).files (λ from. IsUnfinished from → ForSome (F.told f.new).files (WasMadeAt moment))) }
 
-        // At each word the same is found, and the folder is unfinished or well formed where it was.
-        ensures stops { ForSome (F.told f.old).files (λ from. Passes (F.told f.old) (F.told f.new) (HoldsStill from)) }
-        ensures last { OnOk result (ForSome (F.told f.old).files (λ _. EndsWithCrashWord (F.told f.old) (F.told f.new))) }
+        // At each word the same is found, and the folder is unfinished or well formed where it was. The step that marks the
+        // session as open is the last, and where it was made the folder stands for what was found, opened, whatever is answered.
+        ensures stops { ForSome (F.told f.old).files (λ from. OpensOrBreaksOff from (F.told f.old) (F.told f.new)) }
+        ensures last { OnOk result (ForSome (F.told f.old).files (λ from. Opens from (F.told f.old) (F.told f.new))) }
 
         // A folder that tells its files gives a damage only where a check of its headers fails, and the first one.
         ensures damaged { IfOpenDamaged result (IsOpeningDamage (F.told f.new)) }

@@ -5,21 +5,16 @@ use Rattle.blk_image.specs.Steps.{TrailStep, applied, after}
 use Rattle.blk_image.specs.Told.{Along, IsQuiet}
 use Rattle.blk_image.specs.Notes.{AlongFrom, notes_in}
 use Rattle.blk_image.proofs.Cuts.{after-append}
-use Rattle.blk_image.proofs.Runs.{along_front, quiet_front, same_steps}
-use Rattle.blk_image.proofs.NotesLemmas.{along_from-one, notes_in-append, are_true-append}
+use Rattle.blk_image.proofs.NotesLemmas.{along_from-one, at_each_front, notes_in-append, are_true-append}
 use Rattle.blk_format.specs.Headers.{IsUnfinished}
-use Rattle.blk_model.specs.State.{State, IsValidState}
-use Rattle.blk_model.specs.Holding.{open_state, rest}
-use Rattle.blk_model.proofs.Opened.{open_valid}
-use Rattle.blk_model.proofs.Rests.{rest-open_state}
-use Rattle.blk_volume.specs.Found.{found}
+use Rattle.blk_model.specs.State.{State}
 use Rattle.blk_volume.specs.StandsFor.{StandsFor}
-use Rattle.blk_headline.specs.Run.{Stamped, state_after, state_at, command_after}
-use Rattle.blk_headline.specs.Moments.{IsStopped, IsLeftAt, Completes}
+use Rattle.blk_headline.specs.Run.{Stamped, state_after}
+use Rattle.blk_headline.specs.Moments.{IsStopped, Completes}
 use Rattle.blk_headline.specs.Opening.{IsUsable, HoldsStill, has_opened, open_mark}
-use Rattle.blk_headline.specs.Laws.{RunsBegin, OpeningsOfATrailAreOne, UnopenedRunsMayStop}
+use Rattle.blk_headline.specs.Laws.{RunsBegin, RunsMayStopInTheOpening}
 use Rattle.blk_headline.proofs.StepFacts.{true_false, along_head, quiet_first, quiet_later, quiet_notes, quiet_true, opened-append, none_before, not_marked, no_last, snoc_step}
-use Rattle.blk_headline.proofs.Composing.{finished, left_between, stopped_at_rest, some_after}
+use Rattle.blk_headline.proofs.Composing.{finished, stays, stopped_at_rest, some_after}
 
 -- a folder that holds what one held that a session may be opened on is unfinished only where that was
 pub unfinished_before : (from image : Image) → IsUsable from → HoldsStill from image → IsUnfinished image → IsUnfinished from
@@ -40,6 +35,11 @@ stopped_before from opened commands steps image usable none unnoted incomplete s
   unnoted = λ same. unnoted;
   stands = λ before last split complete. absurd (incomplete before last split complete);
 }
+
+-- before the first step
+stopped_first : (from : Image) (opened : State) (commands : List Stamped) → IsUsable from → IsStopped from opened commands [] from
+stopped_first from opened commands usable =
+    stopped_before from opened commands [] from usable refl refl (λ before last split complete. no_last before last split) (record { usable = λ u. u; formed = λ w. w; found_same = refl })
 
 opening_along : (from : Image) (opened : State) (commands : List Stamped) (made : List TrailStep) (image : Image) (steps : List TrailStep) → IsUsable from → has_opened (made ++ steps) ≡ false
     → notes_in made ≡ 0 → IsQuiet steps → IsStopped from opened commands made image → Along (HoldsStill from) image steps → AlongFrom (IsStopped from opened commands) made image steps
@@ -79,7 +79,6 @@ begun from opened old new there usable opens =
     let stands = opens.stands image at_end in
     let marked : has_opened all ≡ true = opened-append s (open_mark ∷ []) ∙ ap (λ b. b || true) opens.unmarked in
     let count : notes_in all ≡ 0 = notes_in-append s (open_mark ∷ []) ∙ ap (λ (n : ℕ). n + 0) (quiet_notes s opens.quiet) in
-    let held : HoldsStill from from = record { usable = λ u. u; formed = λ w. w; found_same = refl } in
     record {
       steps = all;
       applies = opens.applies;
@@ -90,56 +89,23 @@ begun from opened old new there usable opens =
       along = λ commands more e.
           let P : List TrailStep → Image → Type 0 = IsStopped from opened commands in
           let first : AlongFrom P [] from s = opening_along from opened commands [] from s usable opens.unmarked refl opens.quiet
-          (stopped_before from opened commands [] from usable refl refl (λ before last split complete. no_last before last split) held)
+          (stopped_first from opened commands usable)
           (along_before (HoldsStill from) s (open_mark ∷ []) from opens.along) in
           along_from-one P [] from s open_mark first
           (subst (P all) (after-append s (open_mark ∷ []) from)
           (stopped_at_rest from opened commands [] more all image e marked count stands));
     }
 
--- where the trail is told, the clauses of an opening are of the same steps
-pub opening_of_a_trail : OpeningsOfATrailAreOne
-opening_of_a_trail from opened old new trail before there told passed applies unmarked stands =
-    let same : passed.steps ≡ before ++ open_mark ∷ [] = same_steps old new trail passed.steps (before ++ open_mark ∷ []) told passed.applies applies in
-    record {
-      before = before;
-      quiet = quiet_front before (open_mark ∷ []) (subst IsQuiet same passed.quiet);
-      unmarked = unmarked;
-      applies = applies;
-      along = subst (λ (s : List TrailStep). Along (HoldsStill from) from s) same (passed.along from there);
-      stands = stands;
-    }
-
 -- an opening that failed
-pub unopened : UnopenedRunsMayStop
-unfolding state_after
-unopened from limits commands old new there usable holding passed = record {
-  steps = passed.steps;
-  applies = passed.applies;
-  stops = λ prefix suffix split. record {
-    usable = (held prefix suffix split).usable usable;
-    making = unfinished_before from (after prefix from) usable (held prefix suffix split);
-    left = record {
-      opening = λ none. (held prefix suffix split).found_same;
-      later = λ some. subst (λ (n : ℕ). IsLeftAt opened commands n (command_after commands n) (found (after prefix from))) (sym (unnoted prefix suffix split))
-          (left_between opened commands [] commands (found (after prefix from)) refl valid ((held prefix suffix split).found_same ∙ sym at_rest));
-      completed = λ before last same complete. (held prefix suffix split).found_same ∙ sym at_rest ∙ ap (λ (n : ℕ). rest (state_at opened commands n)) (sym (unnoted prefix suffix split));
-    };
-    unnoted = unnoted prefix suffix split;
-  };
-}
-  where
-    opened : State
-    opened = open_state (found from) limits
-
-    valid : IsValidState (open_state (found from) limits)
-    valid = open_valid (found from) limits holding
-
-    at_rest : rest (open_state (found from) limits) ≡ found from
-    at_rest = rest-open_state (found from) limits holding
-
-    held : (prefix suffix : List TrailStep) → passed.steps ≡ prefix ++ suffix → HoldsStill from (after prefix from)
-    held prefix suffix split = along_front (HoldsStill from) prefix suffix from (subst (λ (s : List TrailStep). Along (HoldsStill from) from s) split (passed.along from there))
-
-    unnoted : (prefix suffix : List TrailStep) → passed.steps ≡ prefix ++ suffix → notes_in prefix ≡ 0
-    unnoted prefix suffix split = quiet_notes prefix (quiet_front prefix suffix (subst IsQuiet split passed.quiet))
+pub failed : RunsMayStopInTheOpening
+failed from opened commands old new there usable (inl broken) =
+    let P : List TrailStep → Image → Type 0 = IsStopped from opened commands in
+    let unnoted = quiet_notes broken.steps broken.quiet in
+    record {
+      steps = broken.steps;
+      applies = broken.applies;
+      stops = at_each_front P from broken.steps (opening_along from opened commands [] from broken.steps usable broken.unmarked refl broken.quiet (stopped_first from opened commands usable) broken.along);
+      notes = quiet_true 0 broken.steps broken.quiet;
+      few = omega (arith, unnoted);
+    }
+failed from opened commands old new there usable (inr opens) = stays from opened [] commands old new (begun from opened old new there usable opens)

@@ -5,9 +5,9 @@ use Rattle.std.specs.Option.{ForSome}
 use Rattle.blk_image.specs.Image.{Image}
 use Rattle.blk_image.specs.Steps.{TrailStep}
 use Rattle.blk_image.specs.Notes.{notes_in}
-use Rattle.blk_image.specs.Told.{Told, Trail, Applies, Passes}
+use Rattle.blk_image.specs.Told.{Told, Passes}
 use Rattle.blk_model.specs.Sizes.{handle_names}
-use Rattle.blk_model.specs.Items.{Item, Row, IsValidHolding}
+use Rattle.blk_model.specs.Items.{Item, Row}
 use Rattle.blk_model.specs.State.{State, Bounds, IsValidState, named_by}
 use Rattle.blk_model.specs.Holding.{open_state, owner, rest, row_of}
 use Rattle.blk_model.specs.Request.{Request, to_close}
@@ -17,30 +17,23 @@ use Rattle.blk_model.specs.Stops.{is_safe}
 use Rattle.blk_io.specs.Streams.{Readings, later_of}
 use Rattle.blk_kept.specs.Commands.{IsNoted, IsStepped, note_number}
 use Rattle.blk_volume.specs.Found.{found}
-use Rattle.blk_volume.specs.StandsFor.{StandsFor}
 use Rattle.blk_headline.specs.Lines.{Cut, with_bytes, lines, whole_lines}
 use Rattle.blk_headline.specs.Script.{Script, LineError, ended, errs, says, asks, error_text, session_script}
 use Rattle.blk_headline.specs.Run.{Stamped, Turn, error_turn, text_turn, command_turn, stamped_by, outcome_in, state_then, state_after, clock_after, turns, commands_of, bound_names, closings, run_of, cut_after, commands, command_after, state_at}
 use Rattle.blk_headline.specs.Moments.{IsStopped}
-use Rattle.blk_headline.specs.Opening.{IsUsable, HoldsStill, Opens, has_opened, open_mark}
-use Rattle.blk_headline.specs.Progress.{Progress, Stops, StopsUnopened, IsWholeRun, AreNoted}
+use Rattle.blk_headline.specs.Opening.{IsUsable, HoldsStill, Opens, FailsToOpen, has_opened}
+use Rattle.blk_headline.specs.Progress.{Progress, Stops, IsWholeRun, AreNoted}
 use Rattle.blk_headline.specs.Playing.{IsPlayed}
 
 -- The opening.
-
--- where the trail is told, what is said of each word of an opening and what is said of its last step make it one
-abbrev pub OpeningsOfATrailAreOne : Type 0
-OpeningsOfATrailAreOne = (from : Image) (opened : State) (old new : Told) (trail : Trail) (before : List TrailStep) → old.files ≡ Some from → old.trail ≡ Some trail → Passes old new (HoldsStill from)
-    → Applies old new (before ++ open_mark ∷ []) → has_opened before ≡ false → ForSome new.files (λ image. StandsFor image opened) → Opens from opened old new
 
 -- a run begins with an opening
 abbrev pub RunsBegin : Type 0
 RunsBegin = (from : Image) (opened : State) (old new : Told) → old.files ≡ Some from → IsUsable from → Opens from opened old new → Progress from opened [] old new
 
--- an opening that failed leaves what a stop may leave, whatever commands would follow
-abbrev pub UnopenedRunsMayStop : Type 0
-UnopenedRunsMayStop = (from : Image) (limits : Bounds) (commands : List Stamped) (old new : Told) → old.files ≡ Some from → IsUsable from → IsValidHolding (found from) → Passes old new (HoldsStill from)
-    → StopsUnopened from (open_state (found from) limits) commands old new
+-- and in an opening that failed it may stop, whatever commands would follow
+abbrev pub RunsMayStopInTheOpening : Type 0
+RunsMayStopInTheOpening = (from : Image) (opened : State) (commands : List Stamped) (old new : Told) → old.files ≡ Some from → IsUsable from → FailsToOpen from opened old new → Stops from opened commands old new
 
 -- Commands.
 

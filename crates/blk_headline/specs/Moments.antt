@@ -47,10 +47,3 @@ pub record IsStopped (from : Image) (opened : State) (commands : List Stamped) (
   pub unnoted : has_opened steps ≡ false → notes_in steps ≡ 0
   -- at the end of the opening, and directly after each note, it stands for the state
   pub stands : (before : List TrailStep) (step : TrailStep) → steps ≡ before ++ step ∷ [] → Completes before step → StandsFor image (state_at opened commands (notes_in steps))
-
--- the folder after these steps of a call whose opening failed: it is unfinished or well formed, holds what a stop may leave, and no command is noted
-pub record IsStoppedUnopened (from : Image) (opened : State) (commands : List Stamped) (steps : List TrailStep) (image : Image) : Type 0 where
-  pub usable : IsUsable image
-  pub making : IsUnfinished image → IsUnfinished from
-  pub left : IsLeft (found from) opened commands steps (found image)
-  pub unnoted : notes_in steps ≡ 0

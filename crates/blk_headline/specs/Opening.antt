@@ -46,3 +46,15 @@ pub record Opens (from : Image) (opened : State) (old new : Told) : Type 0 where
   pub applies : Applies old new (before ++ open_mark ∷ [])
   pub along : Along (HoldsStill from) from (before ++ open_mark ∷ [])
   pub stands : ForSome new.files (λ image. StandsFor image opened)
+
+-- an opening that broke off: no step that was made is a note or marks a session as open, and at each the folder holds what it held
+pub record BreaksOff (from : Image) (old new : Told) : Type 0 where
+  pub steps : List TrailStep
+  pub quiet : IsQuiet steps
+  pub unmarked : has_opened steps ≡ false
+  pub applies : Applies old new steps
+  pub along : Along (HoldsStill from) from steps
+
+-- an opening that failed: it broke off, or all of it was made
+abbrev pub FailsToOpen : Image → State → Told → Told → Type 0
+FailsToOpen from opened old new = BreaksOff from old new ⊎ Opens from opened old new

@@ -11,7 +11,7 @@ use Rattle.blk_kept.specs.Commands.{IsNoted}
 use Rattle.blk_volume.specs.Found.{found}
 use Rattle.blk_volume.specs.StandsFor.{StandsFor}
 use Rattle.blk_headline.specs.Run.{Stamped, state_after, state_then}
-use Rattle.blk_headline.specs.Moments.{IsStopped, IsStoppedUnopened}
+use Rattle.blk_headline.specs.Moments.{IsStopped}
 use Rattle.blk_headline.specs.Opening.{has_opened}
 
 -- the steps of a call that began with an image, where commands are made in turn: after each front of them the folder is as a stop may leave it, and the notes are true and no more than the commands
@@ -21,12 +21,6 @@ pub record Stops (from : Image) (opened : State) (commands : List Stamped) (old 
   pub stops : AtEachFront (IsStopped from opened commands) from steps
   pub notes : AreTrue 0 steps
   pub few : notes_in steps ≤ length commands
-
--- the same of a call whose opening failed
-pub record StopsUnopened (from : Image) (opened : State) (commands : List Stamped) (old new : Told) : Type 0 where
-  pub steps : List TrailStep
-  pub applies : Applies old new steps
-  pub stops : AtEachFront (IsStoppedUnopened from opened commands) from steps
 
 -- a whole run: the folder was opened, each command has its note, and in the end what is at rest after them is found
 pub record IsWholeRun (from : Image) (opened : State) (commands : List Stamped) (old new : Told) : Type 0 where

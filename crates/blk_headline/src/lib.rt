@@ -4,14 +4,12 @@
 //! run composes, each the contract of a function with an empty body.
 #![tactic(auto)]
 
-ghost use Rattle.blk_headline.specs.Laws.{AskedCommandsAreNext, BoundNamesAreFew, ClosesFreeTheirName, CommandsAreFew, CommandsArePlayed, ErrorsArePlayed, LeastNamesAreClosedFirst, LinesArePlayedInTurn, LinesGoOn, NoneIsClosedWhereNoneIsBound, NoteNumbersAreExact, NotedCommandsFollow, NothingIsPlayed, OpeningsOfATrailAreOne, PlayedCommandsComeFirst, PlayedRunsAreCut, PlayedRunsAreWhole, PlayingGoesOn, RestsAreFound, RunsBegin, RunsEnd, RunsGoOn, RunsGoOnInTurn, RunsMayStopBetween, RunsMayStopInACommand, SettledEntriesAreFound, TextsArePlayed, UnopenedRunsMayStop, WholeLinesComeFirst};
+ghost use Rattle.blk_headline.specs.Laws.{AskedCommandsAreNext, BoundNamesAreFew, ClosesFreeTheirName, CommandsAreFew, CommandsArePlayed, ErrorsArePlayed, LeastNamesAreClosedFirst, LinesArePlayedInTurn, LinesGoOn, NoneIsClosedWhereNoneIsBound, NoteNumbersAreExact, NotedCommandsFollow, NothingIsPlayed, PlayedCommandsComeFirst, PlayedRunsAreCut, PlayedRunsAreWhole, PlayingGoesOn, RestsAreFound, RunsBegin, RunsEnd, RunsGoOn, RunsGoOnInTurn, RunsMayStopBetween, RunsMayStopInACommand, RunsMayStopInTheOpening, SettledEntriesAreFound, TextsArePlayed, WholeLinesComeFirst};
 
-/// A run begins with an opening. Where the opening failed the folder holds at each word what it held, which a stop in any
-/// run may leave. Where the trail is told, what is said of each word and of the last step is said of the same steps.
+/// A run begins with an opening. Where the opening failed a stop in any run may leave what it left.
 pub fn runs_begin()
     ensures begins { RunsBegin }
-    ensures one { OpeningsOfATrailAreOne }
-    ensures failed { UnopenedRunsMayStop }
+    ensures failed { RunsMayStopInTheOpening }
 {}
 
 /// A run goes on with each command that is done and noted. It may stop in a command that is made in part, and between two.

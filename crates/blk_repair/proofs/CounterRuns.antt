@@ -298,7 +298,7 @@ index-leads items bytes id image = refl
 pub crash-leads : Leads (λ _. word_step Index crash_place 1) (λ _. word_step Index crash_place 1) (λ _. [])
 crash-leads image = sym (append-nil (word_step Index crash_place 1))
 
-index-quiet : (items bytes id : ℕ) (image : Image) → IsQuiet (index_steps items bytes id image)
+pub index-quiet : (items bytes id : ℕ) (image : Image) → IsQuiet (index_steps items bytes id image)
 index-quiet items bytes id image = quiet-append (index_words_steps (counted_words items bytes id) image) (word_step Index crash_place 1) (words-quiet (counted_words items bytes id) image) (quiet-word_step Index crash_place 1)
 
 -- what a front of the steps passes, and where all of them lead

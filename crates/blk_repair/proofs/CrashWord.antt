@@ -1,45 +1,34 @@
--- The steps of a repair that write the crash word: the last one alone.
-use Rattle.std.proofs.Common.{◌≡◌, ℕ, zero, suc, ◌+◌, ◌≤◌, ◌%◌, ◌^◌, Bool, true, false, ◌&&◌, ◌==◌, List, [], ◌∷◌, ◌++◌, length, Option, Some, refl, sym, ◌∙◌, ap, subst, arith, append_assoc}
-use Rattle.std.specs.Prelude.{All, filter, nat_le, ◌<◌, if◌then◌else◌}
-use Rattle.std.specs.List.{sum_by}
-use Rattle.std.specs.Option.{ForSome, option_map, unwrap_or}
+-- The steps of the parts of a repair, none of which writes the crash word.
+use Rattle.std.proofs.Common.{◌≡◌, ℕ, zero, suc, ◌+◌, ◌≤◌, Bool, true, false, ◌&&◌, ◌==◌, List, [], ◌∷◌, ◌++◌, length, Option, refl, sym, ◌∙◌, ap, subst, arith}
+use Rattle.std.specs.Prelude.{All, nat_le, ◌<◌, if◌then◌else◌}
+use Rattle.std.specs.Option.{unwrap_or}
 use Rattle.std.proofs.lemmas.Bool.Decides.{nat_tests}
 use Rattle.std.proofs.lemmas.List.Elements.{All-append, All-cons, All-head, All-nil, All-tail}
 use Rattle.blk_image.specs.Bytes.{content, spliced, word_bytes}
 use Rattle.blk_image.specs.Image.{File, Image, Index, Block, bytes_of, byte, length_of, same_file, word}
 use Rattle.blk_image.specs.Steps.{TrailStep, Word, SetLength, Delete, Note, after, applied, word_step, word_steps}
-use Rattle.blk_image.specs.Told.{Told, Along, Applies}
+use Rattle.blk_image.specs.Told.{Along}
 use Rattle.blk_image.proofs.Images.{bytes_of-written, same_file-true}
-use Rattle.blk_image.proofs.Runs.{grows_then, until_last}
 use Rattle.blk_image.proofs.Splices.{content-spliced_inside}
 use Rattle.blk_format.specs.Address.{file_selector, place}
-use Rattle.blk_format.specs.BlockFiles.{IsWellFormed}
 use Rattle.blk_format.specs.Headers.{header_length, place_of_bucket, table_length}
 use Rattle.blk_format.specs.Records.{entry_next_place, node_next_place, node_prev_place, seal_of}
 use Rattle.blk_format.specs.Sealed.{is_sealed, new_seal, placed, record_at, seal_place, seal_steps, sealed_steps, update_steps, update_words}
 use Rattle.blk_volume.specs.Completion.{remove}
-use Rattle.blk_volume.specs.Found.{charge_of, kept}
-use Rattle.blk_volume.specs.ListImages.{IsWritable, completion_steps, operation_steps}
+use Rattle.blk_volume.specs.ListImages.{completion_steps, operation_steps}
 use Rattle.blk_volume.specs.ListPlans.{completion_writes, writes_of}
 use Rattle.blk_volume.specs.ListSteps.{steps_of_writes, write_steps}
 use Rattle.blk_volume.specs.ListView.{ListWrite, Next, Prev, Head, Tail, Transaction, Operation, first_or}
 use Rattle.blk_volume.specs.View.{list_of, store_of}
 use Rattle.blk_addr.specs.declared.claim_set.Claims.{Claims}
-use Rattle.blk_disk.specs.declared.tables.BlockFiles.{BlockFiles}
-use Rattle.blk_disk.specs.Tables.{all_files}
 use Rattle.blk_index.specs.Making.{deletions}
 use Rattle.blk_alloc.specs.Mending.{AreNeeded, IsNeeded}
 use Rattle.blk_alloc.specs.Rebuilding.{IsRebuilding}
 use Rattle.blk_alloc.proofs.Needed.{range_content}
 use Rattle.blk_repair_laws.specs.ChainRepair.{bucket_steps, chain_repair_steps, chain_steps, chains_steps, kept_records, next_steps, next_words_steps}
 use Rattle.blk_repair_laws.specs.EndRepair.{end_writes}
-use Rattle.blk_repair_laws.specs.LinkRepair.{link_repair_steps}
-use Rattle.blk_repair_laws.specs.ListRepair.{HoldsTheSame, completed_image, dropped_nodes, end_steps, ended_image, list_repair_steps, removal_steps}
-use Rattle.blk_repair_laws.proofs.LinkRepair.{links-repaired}
-use Rattle.blk_scan.specs.declared.scan.Scan.{Scan}
-use Rattle.blk_repair.specs.Counters.{counted_words, crash_place, index_steps, index_word_steps, index_words_steps, is_in_crash_word, writes_crash_word}
-use Rattle.blk_repair.specs.Deletions.{Deletes, is_unclaimed, is_unlinked, last_block_file, last_first_file}
-use Rattle.blk_repair.specs.Repair.{EndsWithCrashWord, MendsFiles, MendsLinks, MendsRest, RepairsInOrder, counting_steps}
+use Rattle.blk_repair_laws.specs.ListRepair.{completed_image, dropped_nodes, end_steps, ended_image, list_repair_steps, removal_steps}
+use Rattle.blk_repair.specs.Counters.{counted_words, index_word_steps, index_words_steps, is_in_crash_word, writes_crash_word}
 use Rattle.blk_repair.specs.Seals.{seals_steps}
 use Rattle.blk_repair.proofs.MapRuns.{index-same}
 
@@ -105,7 +94,7 @@ spare-removals (node ∷ nodes) image =
     let first : List TrailStep = operation_steps remove node image in
     spare-append first (removal_steps nodes (after first image)) (spare-writes (writes_of remove node (list_of image)) image) (spare-removals nodes (after first image))
 
-spare-list : (image : Image) → SpareIt (list_repair_steps image)
+pub spare-list : (image : Image) → SpareIt (list_repair_steps image)
 spare-list image =
     let end : List TrailStep = end_steps (completed_image image) in
     let out : List TrailStep = removal_steps (dropped_nodes (ended_image image)) (ended_image image) in
@@ -148,29 +137,15 @@ spare-chains records bucket (suc count) image =
     let first : List TrailStep = chain_steps bucket (records bucket) image in
     spare-append first (chains_steps records (bucket + 1) count (after first image)) (spare-chain bucket (records bucket) image) (spare-chains records (bucket + 1) count (after first image))
 
-spare-table : (image : Image) → SpareIt (chain_repair_steps image)
+pub spare-table : (image : Image) → SpareIt (chain_repair_steps image)
 unfolding chain_repair_steps
 spare-table image = spare-chains (kept_records image) 0 table_length image
-
--- both
-links-are : (image : Image) (steps : List TrailStep) → MendsLinks image steps → steps ≡ link_repair_steps image
-links-are image steps links =
-    links.joined ∙ ap (λ (l : List TrailStep). l ++ links.behind) links.front_is
-    ∙ ap (λ (l : List TrailStep). list_repair_steps image ++ l) (links.behind_is ∙ ap (λ (l : List TrailStep). chain_repair_steps (after l image)) links.front_is)
-
-spare-both : (image : Image) (steps : List TrailStep) → MendsLinks image steps → SpareIt steps
-spare-both image steps links =
-    subst SpareIt (sym (links-are image steps links))
-    (spare-append (list_repair_steps image) (chain_repair_steps (after (list_repair_steps image) image)) (spare-list image) (spare-table (after (list_repair_steps image) image)))
 
 -- ---- the files
 
 pub spare-deletions : (files : List File) → SpareIt (deletions files)
 spare-deletions [] = All-nil IsOther
 spare-deletions (file ∷ files) = All-cons IsOther (Delete file) (deletions files) refl (spare-deletions files)
-
-spare-deleted : (goes : File → Bool) (first : File) (image : Image) (steps : List TrailStep) → Deletes goes first image steps → SpareIt steps
-spare-deleted goes first image steps deletes = subst SpareIt (sym deletes.are) (spare-deletions (filter goes deletes.files))
 
 both-parts : (a b : Bool) → (a && b) ≡ true → (a ≡ true) × (b ≡ true)
 both-parts true b e = (refl, e)
@@ -210,19 +185,10 @@ module _ (claims : Claims) (numbers : List ℕ) (from : Image) (long : header_le
           let here : P file = subst P (sym (same_file-true file Index parts.0)) there in
           absurd (here is needed)
 
-  spare-all : (steps : List TrailStep) (image : Image) → Along (IsRebuilding claims numbers from) image steps → AreNeeded image steps → SpareIt steps
+  pub spare-all : (steps : List TrailStep) (image : Image) → Along (IsRebuilding claims numbers from) image steps → AreNeeded image steps → SpareIt steps
   spare-all [] image along needed = All-nil IsOther
   spare-all (step ∷ steps) image along needed =
       All-cons IsOther step steps (spare-needed step image along.0 (along-now (IsRebuilding claims numbers from) steps (applied step image) along.1) needed.0) (spare-all steps (applied step image) along.1 needed.1)
-
-spare-files : (files : BlockFiles) (claims : Claims) (image : Image) (steps : List TrailStep) → header_length ≤ length_of image Index → MendsFiles files claims image steps → SpareIt steps
-spare-files files claims image steps long mends =
-    let others = mends.behind_is in
-    let left : Image = after mends.front image in
-    subst SpareIt (sym mends.joined)
-    (spare-append mends.front mends.behind (spare-all claims (all_files files) image long mends.front image mends.front_is.along mends.front_is.needed)
-    (subst SpareIt (sym others.joined)
-    (spare-append others.front others.behind (spare-deleted (is_unlinked files) last_first_file left others.front others.front_is) (spare-deleted (is_unclaimed claims) last_block_file (after others.front left) others.behind others.behind_is))))
 
 -- ---- the rest
 
@@ -232,75 +198,20 @@ spare-seal image w =
     spare-choice (is_sealed (seal_place w) (record_at image w)) (word_step (Block (file_selector w)) (place w + seal_place w) (seal_of (seal_place w) (record_at image w)))
     (spare-block (file_selector w) (place w + seal_place w) (seal_of (seal_place w) (record_at image w)))
 
-spare-seals : (words : List ℕ) (image : Image) → SpareIt (seals_steps words image)
+pub spare-seals : (words : List ℕ) (image : Image) → SpareIt (seals_steps words image)
 spare-seals [] image = All-nil IsOther
 spare-seals (w ∷ words) image =
     let first : List TrailStep = seal_steps image w in
     spare-append first (seals_steps words (after first image)) (spare-seal image w) (spare-seals words (after first image))
 
-spare-words : (words : List (ℕ × ℕ)) (image : Image) → All (λ (w : ℕ × ℕ). is_in_crash_word w.0 4 ≡ false) words → SpareIt (index_words_steps words image)
+pub spare-words : (words : List (ℕ × ℕ)) (image : Image) → All (λ (w : ℕ × ℕ). is_in_crash_word w.0 4 ≡ false) words → SpareIt (index_words_steps words image)
 spare-words [] image others = All-nil IsOther
 spare-words (w ∷ words) image others =
     let O : ℕ × ℕ → Type 0 = (λ (w : ℕ × ℕ). is_in_crash_word w.0 4 ≡ false) in
     let first : List TrailStep = index_word_steps w.0 w.1 image in
     spare-append first (index_words_steps words (after first image)) (spare-choice (word image Index w.0 == w.1) (word_step Index w.0 w.1) (spare-place w.0 w.1 (All-head O w words others))) (spare-words words (after first image) (All-tail O w words others))
 
-counted-elsewhere : (items bytes id : ℕ) → All (λ (w : ℕ × ℕ). is_in_crash_word w.0 4 ≡ false) (counted_words items bytes id)
+pub counted-elsewhere : (items bytes id : ℕ) → All (λ (w : ℕ × ℕ). is_in_crash_word w.0 4 ≡ false) (counted_words items bytes id)
 counted-elsewhere items bytes id =
     let O : ℕ × ℕ → Type 0 = (λ (w : ℕ × ℕ). is_in_crash_word w.0 4 ≡ false) in
     All-cons O (268, items) ((8, items) ∷ (12, bytes) ∷ (20, id) ∷ []) refl (All-cons O (8, items) ((12, bytes) ∷ (20, id) ∷ []) refl (All-cons O (12, bytes) ((20, id) ∷ []) refl (All-cons O (20, id) [] refl (All-nil O))))
-
--- ---- all of it
-
--- the last of some steps makes the crash word 1, and none before it writes inside that word
-pub record EndsSo (steps : List TrailStep) : Type 0 where
-  pub before : List TrailStep
-  pub are : steps ≡ before ++ word_step Index crash_place 1
-  pub first : SpareIt before
-
--- so do those that end with such steps
-ends-behind : (front behind steps : List TrailStep) → steps ≡ front ++ behind → SpareIt front → EndsSo behind → EndsSo steps
-ends-behind front behind steps joined spare ends = record {
-  before = front ++ ends.before;
-  are = joined ∙ ap (λ (l : List TrailStep). front ++ l) ends.are ∙ sym (append_assoc front ends.before (word_step Index crash_place 1));
-  first = spare-append front ends.before spare ends.first;
-}
-
-ends-index : (items bytes id : ℕ) (image : Image) → EndsSo (index_steps items bytes id image)
-ends-index items bytes id image = record {
-  before = index_words_steps (counted_words items bytes id) image;
-  are = refl;
-  first = spare-words (counted_words items bytes id) image (counted-elsewhere items bytes id);
-}
-
-ends-counting : (entry : Image) (id : ℕ) (image : Image) → EndsSo (counting_steps entry id image)
-ends-counting entry id image = ends-index (length (kept entry)) (sum_by charge_of (kept entry) % 2 ^ 32) id image
-
-ends-rest : (scan : Scan) (entry : Image) (id : ℕ) (image : Image) (steps : List TrailStep) → MendsRest scan entry id image steps → EndsSo steps
-ends-rest scan entry id image steps rest =
-    ends-behind rest.front rest.behind steps rest.joined (subst SpareIt (sym rest.front_is) (spare-seals scan.bare.items image)) (subst EndsSo (sym rest.behind_is) (ends-counting entry id (after rest.front image)))
-
--- the index has its header still once the links are mended
-long-still : (entry : Image) (steps : List TrailStep) → IsWellFormed entry → IsWritable entry → MendsLinks entry steps → header_length ≤ length_of (after steps entry) Index
-long-still entry steps well_formed writable links =
-    let all = (links-repaired entry well_formed writable).0 in
-    let last : HoldsTheSame entry (after (link_repair_steps entry) entry) = until_last (HoldsTheSame entry) (HoldsTheSame entry) (link_repair_steps entry) entry all in
-    subst (λ (l : List TrailStep). header_length ≤ length_of (after l entry) Index) (sym (links-are entry steps links)) last.writable.has_header
-
-pub repairs-end : (files : BlockFiles) (scan : Scan) (id : ℕ) (entry : Image) (steps : List TrailStep) → IsWellFormed entry → IsWritable entry → RepairsInOrder files scan entry id entry steps → EndsSo steps
-repairs-end files scan id entry steps well_formed writable repairs =
-    let behind = repairs.behind_is in
-    let linked : Image = after repairs.front entry in
-    ends-behind repairs.front repairs.behind steps repairs.joined (spare-both entry repairs.front repairs.front_is)
-    (ends-behind behind.front behind.behind repairs.behind behind.joined
-    (spare-files files scan.claims linked behind.front (long-still entry repairs.front well_formed writable repairs.front_is) behind.front_is) (ends-rest scan entry id (after behind.front linked) behind.behind behind.behind_is))
-
--- what ends so still does where other steps were made before
-pub then-ends : {a b : Told} (c : Told) (steps : List TrailStep) (from : Image) → a.files ≡ Some from → Applies a b steps → SpareIt steps → ForSome b.files (λ _. EndsWithCrashWord b c) → EndsWithCrashWord a c
-then-ends {a} {b} c steps from there first spare second =
-    let rest : EndsWithCrashWord b c = second (after steps from) (first.files ∙ ap (option_map (after steps)) there) in
-    record {
-      before = steps ++ rest.before;
-      applies = subst (Applies a c) (sym (append_assoc steps rest.before (word_step Index crash_place 1))) (grows_then first rest.applies);
-      first = spare-append steps rest.before spare rest.first;
-    }

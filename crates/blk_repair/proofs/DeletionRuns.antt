@@ -15,12 +15,12 @@ use Rattle.blk_image.specs.Footprint.{SameOutside, whole}
 use Rattle.blk_image.specs.Image.{File, Index, Block, External, Image, has_file}
 use Rattle.blk_image.specs.Order.{IsBefore, IsNextFile}
 use Rattle.blk_image.specs.Steps.{TrailStep, Delete, after, applied}
-use Rattle.blk_image.specs.Told.{Told, Applies, Passes}
+use Rattle.blk_image.specs.Told.{Told, Applies}
 use Rattle.blk_image.proofs.ByteSteps.{are_bytes-step}
 use Rattle.blk_image.proofs.Footprints.{outside_step}
 use Rattle.blk_image.proofs.Images.{with_file-other}
 use Rattle.blk_image.proofs.Orders.{before_trans}
-use Rattle.blk_image.proofs.Runs.{grows_none, grows_then, passes_end, passes_none, passes_step, passes_then, passes_weaker, some_inj, told_whole}
+use Rattle.blk_image.proofs.Runs.{grows_none, grows_then, passes_end, some_inj, told_whole}
 use Rattle.blk_format.specs.Address.{external, external_number, external_word, file_selector, is_address, is_block_kind, kind_of, names_blocks, names_external}
 use Rattle.blk_format.specs.BlockFiles.{files_along, is_among, kind_among, linked, linked_as, max_entries_in, next_file_in, stands_in, stands_in_blocks}
 use Rattle.blk_format.specs.Claims.{Claim, BlockOf, ExternalOf, claims_of, claims_of_all, has_claim}
@@ -52,8 +52,10 @@ use Rattle.blk_repair_laws.proofs.MendedParts.{blocks-alike, external-leaves, wo
 use Rattle.blk_repair_laws.proofs.OwnClaims.{claim-file}
 use Rattle.blk_repair_laws.proofs.RecordSeals.{linked-of, same-sealed}
 use Rattle.blk_repair.specs.Deletions.{DeletesAll, DeletesUpTo, IsMidDeletion, deletion_of, is_number_claimed, is_unclaimed, is_unlinked}
+use Rattle.blk_repair.specs.Endings.{BreaksOff}
 use Rattle.blk_repair.specs.Maps.{IsNextRebuilt}
 use Rattle.blk_repair.specs.Seals.{HasMendedLinksOf}
+use Rattle.blk_repair.proofs.Endings.{breaks-none, breaks-step, breaks-then, breaks-weaker}
 use Rattle.blk_repair.proofs.MapRuns.{same-kind}
 
 clash : true ≡ false → ⊥
@@ -318,12 +320,12 @@ all-deleted {a} {b} goes first last made rest = record {
 }
 
 -- one deletion, or none, passes what it leaves
-passes-one : {a b : Told} (goes : File → Bool) (file : File) (P : Image → Type 0) → ForSome a.files P → (goes file ≡ true → ForSome a.files (λ image. P (applied (Delete file) image))) → Applies a b (deletion_of goes file) → Passes a b P
-passes-one {a} {b} goes file P is leaves applies = by_test (goes file) refl applies
+breaks-one : {a b : Told} (goes : File → Bool) (file : File) (P : Image → Type 0) → ForSome a.files P → (goes file ≡ true → ForSome a.files (λ image. P (applied (Delete file) image))) → Applies a b (deletion_of goes file) → BreaksOff a b P
+breaks-one {a} {b} goes file P is leaves applies = by_test (goes file) refl applies
   where
-    by_test : (t : Bool) → goes file ≡ t → Applies a b (if t then Delete file ∷ [] else []) → Passes a b P
-    by_test true e made = passes_step P made tt (λ image there. (is image there, leaves e image there))
-    by_test false e made = passes_none P (told_same a b made) is
+    by_test : (t : Bool) → goes file ≡ t → Applies a b (if t then Delete file ∷ [] else []) → BreaksOff a b P
+    by_test true e made = breaks-step P refl made tt (λ image there. (is image there, leaves e image there))
+    by_test false e made = breaks-none P (told_same a b made) is
 
 -- where a file doesn't go, nothing was done
 unless-goes : {a b : Told} (goes : File → Bool) (file : File) → goes file ≡ false → Applies a b (deletion_of goes file) → b ≡ a
@@ -336,7 +338,7 @@ pub record HasDeletedBlocks (files : BlockFiles) (last : ℕ) (a b : Told) : Typ
   pub made : DeletesUpTo (is_unlinked files) (Block 3) (Block last) a b
   pub is_open : ForSome b.files (IsOpen files)
   pub linked : ForSome b.files (λ image. (n : ℕ) → n ≤ last → has_file image (Block n) ≡ true → is_among (all_files files) n ≡ true)
-  pub passed : ForSome a.files (λ from. (entry : Image) → HasMendedLinksOf entry from → Passes a b (Holds entry from))
+  pub passed : ForSome a.files (λ from. (entry : Image) → HasMendedLinksOf entry from → BreaksOff a b (Holds entry from))
   pub clean : ForSome a.files (λ from. OnlyLinked from → b ≡ a)
 
 pub blocks-begin : (files : BlockFiles) (a : Told) → ForSome a.files (IsOpen files) → HasDeletedBlocks files 3 a a
@@ -344,7 +346,7 @@ blocks-begin files a is = record {
   made = none-deleted (is_unlinked files) (Block 3) a;
   is_open = is;
   linked = λ image there n small has. first-linked files image n (is image there).agrees small;
-  passed = λ from there entry holds. passes_none (Holds entry from) refl (λ image here. subst (Holds entry from) (some_inj (sym there ∙ here)) (holds-first entry from holds));
+  passed = λ from there entry holds. breaks-none (Holds entry from) refl (λ image here. subst (Holds entry from) (some_inj (sym there ∙ here)) (holds-first entry from holds));
   clean = λ from there only. refl;
 }
 
@@ -390,11 +392,11 @@ module _ (files : BlockFiles) (last n : ℕ) (a b c : Told) (has : HasDeletedBlo
     told_whole (λ image. (k : ℕ) → k ≤ n → has_file image (Block k) ≡ true → is_among (all_files files) k ≡ true) made (λ image there. gone-apart image there away),
   )
 
-  next-passes : (from : Image) → a.files ≡ Some from → (entry : Image) → HasMendedLinksOf entry from → Passes a c (Holds entry from)
+  next-passes : (from : Image) → a.files ≡ Some from → (entry : Image) → HasMendedLinksOf entry from → BreaksOff a c (Holds entry from)
   next-passes from there entry holds =
       let first = has.passed from there entry holds in
-      passes_then first (passes-one (is_unlinked files) (Block n) (Holds entry from) (passes_end first)
-      (λ goes image here. block-goes image n (unlinked-free files image n (has.is_open image here) (not-true_is goes)) entry from (passes_end first image here)) applies) where
+      breaks-then first (breaks-one (is_unlinked files) (Block n) (Holds entry from) (passes_end first.passes)
+      (λ goes image here. block-goes image n (unlinked-free files image n (has.is_open image here) (not-true_is goes)) entry from (passes_end first.passes image here)) applies) where
         not-true_is : not (is_among (all_files files) n) ≡ true → is_among (all_files files) n ≡ false
         not-true_is e = false_from_ne_true (is_among (all_files files) n) (λ t. clash (sym e ∙ not_from_true (is_among (all_files files) n) t))
 
@@ -417,8 +419,8 @@ module _ (files : BlockFiles) (last n : ℕ) (a b c : Told) (has : HasDeletedBlo
         clean = next-clean;
       }
 
-pub blocks-said : {files : BlockFiles} {last : ℕ} {a b : Told} → HasDeletedBlocks files last a b → ForSome a.files (λ from. (entry : Image) → HasMendedLinksOf entry from → Passes a b (IsMidDeletion entry from))
-blocks-said {files} {last} {a} {b} has from there entry holds = passes_weaker (has.passed from there entry holds) (holds-said entry from) (holds-said entry from)
+pub blocks-said : {files : BlockFiles} {last : ℕ} {a b : Told} → HasDeletedBlocks files last a b → ForSome a.files (λ from. (entry : Image) → HasMendedLinksOf entry from → BreaksOff a b (IsMidDeletion entry from))
+blocks-said {files} {last} {a} {b} has from there entry holds = breaks-weaker (has.passed from there entry holds) (holds-said entry from)
 
 -- none is behind the last
 module _ (files : BlockFiles) (last : ℕ) (a b : Told) (has : HasDeletedBlocks files last a b) (none : ForSome b.files (λ image. (n : ℕ) → last < n → has_file image (Block n) ≡ false)) where
@@ -533,7 +535,7 @@ pub record HasDeletedExternals (claims : Claims) (last : File) (a b : Told) : Ty
   pub made : DeletesUpTo (is_unclaimed claims) (Block 255) last a b
   pub is_open : (files : BlockFiles) → ForSome a.files (IsOpen files) → ForSome b.files (IsOpen files)
   pub claimed : ForSome b.files (λ image. (number : ℕ) → (IsBefore last (External number) → ⊥) → has_file image (External number) ≡ true → is_number_claimed claims number ≡ true)
-  pub passed : ForSome a.files (λ from. (entry : Image) → IsNextRebuilt entry claims from → Passes a b (Holds entry from))
+  pub passed : ForSome a.files (λ from. (entry : Image) → IsNextRebuilt entry claims from → BreaksOff a b (Holds entry from))
   pub clean : ForSome a.files (λ from. (entry : Image) → IsNextRebuilt entry claims from → OnlyClaimed from (claims_of_loaded (kept from)) → b ≡ a)
 
 pub externals-begin : (claims : Claims) (a : Told) → HasDeletedExternals claims (Block 255) a a
@@ -541,7 +543,7 @@ externals-begin claims a = record {
   made = none-deleted (is_unclaimed claims) (Block 255) a;
   is_open = λ files is. is;
   claimed = λ image there number late has. absurd (late (inl (omega arith)));
-  passed = λ from there entry next. passes_none (Holds entry from) refl (λ image here. subst (Holds entry from) (some_inj (sym there ∙ here)) (holds-first entry from next.holds));
+  passed = λ from there entry next. breaks-none (Holds entry from) refl (λ image here. subst (Holds entry from) (some_inj (sym there ∙ here)) (holds-first entry from next.holds));
   clean = λ from there entry next only. refl;
 }
 
@@ -582,11 +584,11 @@ module _ (claims : Claims) (last : File) (number : ℕ) (a b c : Told) (has : Ha
   next-still_open files is true made = told_whole (IsOpen files) made (λ image there. external-open files image number (is image there))
   next-still_open files is false made = subst (λ (t : Told). ForSome t.files (IsOpen files)) (sym (told_same b c made)) is
 
-  next-kept : (from : Image) → a.files ≡ Some from → (entry : Image) → IsNextRebuilt entry claims from → Passes a c (Holds entry from)
+  next-kept : (from : Image) → a.files ≡ Some from → (entry : Image) → IsNextRebuilt entry claims from → BreaksOff a c (Holds entry from)
   next-kept from there entry rebuilt =
       let first = has.passed from there entry rebuilt in
-      passes_then first (passes-one (is_unclaimed claims) (External number) (Holds entry from) (passes_end first)
-      (λ goes image here. let now = passes_end first image here in external-goes image number (sym (number-is entry image claims rebuilt.claimed now.holds.keeps.kept_same number) ∙ not-true_is goes) entry from now) applies) where
+      breaks-then first (breaks-one (is_unclaimed claims) (External number) (Holds entry from) (passes_end first.passes)
+      (λ goes image here. let now = passes_end first.passes image here in external-goes image number (sym (number-is entry image claims rebuilt.claimed now.holds.keeps.kept_same number) ∙ not-true_is goes) entry from now) applies) where
         not-true_is : not (is_number_claimed claims number) ≡ true → is_number_claimed claims number ≡ false
         not-true_is e = false_from_ne_true (is_number_claimed claims number) (λ t. clash (sym e ∙ not_from_true (is_number_claimed claims number) t))
 
@@ -607,8 +609,8 @@ module _ (claims : Claims) (last : File) (number : ℕ) (a b c : Told) (has : Ha
     clean = next-all_claimed;
   }
 
-pub externals-said : {claims : Claims} {last : File} {a b : Told} → HasDeletedExternals claims last a b → ForSome a.files (λ from. (entry : Image) → IsNextRebuilt entry claims from → Passes a b (IsMidDeletion entry from))
-externals-said {claims} {last} {a} {b} has from there entry next = passes_weaker (has.passed from there entry next) (holds-said entry from) (holds-said entry from)
+pub externals-said : {claims : Claims} {last : File} {a b : Told} → HasDeletedExternals claims last a b → ForSome a.files (λ from. (entry : Image) → IsNextRebuilt entry claims from → BreaksOff a b (IsMidDeletion entry from))
+externals-said {claims} {last} {a} {b} has from there entry next = breaks-weaker (has.passed from there entry next) (holds-said entry from)
 
 -- none is behind the last
 module _ (claims : Claims) (last : File) (a b : Told) (has : HasDeletedExternals claims last a b) (none : ForSome b.files (λ image. (number : ℕ) → IsBefore last (External number) → has_file image (External number) ≡ false)) where
@@ -617,7 +619,7 @@ module _ (claims : Claims) (last : File) (a b : Told) (has : HasDeletedExternals
 
   pub externals-only : ForSome a.files (λ from. (entry : Image) → IsNextRebuilt entry claims from → ForSome b.files (λ image. OnlyClaimed image (claims_of_loaded (kept image))))
   externals-only from there entry next image here number small =
-      let now = passes_end (has.passed from there entry next) image here in
+      let now = passes_end (has.passed from there entry next).passes image here in
       let same = number-is entry image claims next.claimed now.holds.keeps.kept_same number in
       both_ways (has_file image (External number)) (has_claim (claims_of_loaded (kept image)) (ExternalOf number)) (λ is. sym same ∙ all-claimed image here number is) (λ is. (kept-named image number is).there)
 

@@ -10,7 +10,9 @@ pub mod MapRuns
 pub mod WholeChains
 pub mod FrontRuns
 pub mod TableRuns
+pub mod CrashWord
+pub mod Endings
 pub mod DeletionRuns
 pub mod RepairRuns
-pub mod CrashWord
 pub mod PartRuns
+pub mod EndingRuns

@@ -51,7 +51,7 @@ pub removals-lead : (nodes : List ℕ) → Leads (removal_steps nodes) (removal_
 removals-lead nodes image = sym (append-nil (removal_steps nodes image))
 
 -- no step of them is a note
-quiet-mending : (nodes others : List ℕ) (image : Image) → IsQuiet (mending_steps nodes others image)
+pub quiet-mending : (nodes others : List ℕ) (image : Image) → IsQuiet (mending_steps nodes others image)
 quiet-mending nodes others image =
     let first : List TrailStep = completion_steps image in
     let between : Image = after first image in
@@ -86,7 +86,7 @@ module _ (image : Image) (nodes others : List ℕ) (scanned : IsListScanned node
   pub steps-are : list_repair_steps image ≡ mending_steps nodes others image
   steps-are = ap (λ (l : List TrailStep). completion_steps image ++ l) from-end
 
-  repaired : Along (HoldsTheSame image) image (mending_steps nodes others image) × IsListMended image (after (mending_steps nodes others image) image)
+  pub repaired : Along (HoldsTheSame image) image (mending_steps nodes others image) × IsListMended image (after (mending_steps nodes others image) image)
   repaired = subst (λ (l : List TrailStep). Along (HoldsTheSame image) image l × IsListMended image (after l image)) steps-are (lists-repaired image scanned.well_formed scanned.writable)
 
   -- the end can be mended

@@ -34,7 +34,7 @@ use Rattle.blk_repair_laws.proofs.RecordSeals.{growth-leaves}
 use Rattle.blk_repair.specs.Maps.{AreFilesMended, IsNextRebuilt}
 
 -- at each word the links stay mended
-moment-keeps : (entry from : Image) (claims : Claims) (numbers : List ℕ) (image : Image) → KeepsMendedLinks entry from → IsRebuilding claims numbers from image → KeepsMendedLinks entry image
+pub moment-keeps : (entry from : Image) (claims : Claims) (numbers : List ℕ) (image : Image) → KeepsMendedLinks entry from → IsRebuilding claims numbers from image → KeepsMendedLinks entry image
 moment-keeps entry from claims numbers image keeps moment = links-on entry from image keeps (links-grow from image keeps.mended moment.stays)
 
 forget : (a b : Told) (P : Image → Type 0) → PassesNeeded a b P → Passes a b P

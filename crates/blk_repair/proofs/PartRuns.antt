@@ -10,7 +10,6 @@ use Rattle.blk_format.specs.BlockFiles.{is_among}
 use Rattle.blk_format.specs.Headers.{table_length}
 use Rattle.blk_volume.specs.Chains.{IsChain}
 use Rattle.blk_volume.specs.Found.{kept}
-use Rattle.blk_volume.specs.ListImages.{IsWritable}
 use Rattle.blk_volume.specs.View.{store_of}
 use Rattle.blk_addr.specs.declared.claim_set.Claims.{Claims}
 use Rattle.blk_disk.specs.declared.tables.BlockFiles.{BlockFiles}
@@ -25,9 +24,8 @@ use Rattle.blk_repair.specs.Counters.{IsNextCounted, index_steps}
 use Rattle.blk_repair.specs.Deletions.{Deletes, DeletesAll, DeletesOthers, is_unclaimed, is_unlinked, last_block_file, last_first_file}
 use Rattle.blk_repair.specs.Maps.{Rebuilds}
 use Rattle.blk_repair.specs.Parts.{AppliesOf, Exactly, InTurn}
-use Rattle.blk_repair.specs.Repair.{AreBucketsScanned, EndsWithCrashWord, IsNextFinished, IsRepairable, MendsRest, RepairsInOrder, counting_steps}
+use Rattle.blk_repair.specs.Repair.{AreBucketsScanned, IsNextFinished, MendsRest, counting_steps}
 use Rattle.blk_repair.specs.Seals.{seals_steps}
-use Rattle.blk_repair.proofs.CrashWord.{EndsSo, repairs-end}
 use Rattle.blk_repair.proofs.RepairRuns.{counted-told, same-files}
 
 -- steps of one kind were made, and then steps of another on what they left
@@ -96,10 +94,3 @@ rest-made scan entry from {a} {b} c words items bytes id w i bs there next first
     (λ mid here.
     exactly-made (counting_steps entry id) mid
     (subst (λ (n : ℕ). Applies b c (index_steps (length (kept entry)) n id mid)) counted.bytes_are (subst (λ (n : ℕ). Applies b c (index_steps n bytes id mid)) counted.items_are (second mid here))))
-
--- ---- all of it
-
-pub repair-ends : {a b : Told} (files : BlockFiles) (scan : Scan) (id : ℕ) (from : Image) → IsWritable from → IsRepairable scan from → AppliesOf (RepairsInOrder files scan from id) from a b → EndsWithCrashWord a b
-repair-ends {a} {b} files scan id from writable is made =
-    let ends : EndsSo made.steps = repairs-end files scan id from made.steps is.well_formed writable made.are in
-    record { before = ends.before; applies = subst (Applies a b) ends.are made.applies; first = ends.first }

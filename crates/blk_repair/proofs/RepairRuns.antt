@@ -8,7 +8,7 @@ use Rattle.std.proofs.lemmas.List.Elements.{All-weaker}
 use Rattle.blk_image.specs.Image.{File, Image, AreBytes}
 use Rattle.blk_image.specs.Steps.{TrailStep, after}
 use Rattle.blk_image.specs.Told.{Told, Applies, Passes}
-use Rattle.blk_image.proofs.Runs.{passes_end, passes_then, passes_weaker}
+use Rattle.blk_image.proofs.Runs.{passes_end}
 use Rattle.blk_model.specs.Holding.{open_state}
 use Rattle.blk_model.specs.Items.{Row}
 use Rattle.blk_format.specs.Headers.{HasWholeIndex}
@@ -41,7 +41,7 @@ use Rattle.blk_repair_laws.proofs.ChainRepair.{chains-stay, records-stay}
 use Rattle.blk_repair_laws.proofs.LinkRepair.{chains-links, kept-walked}
 use Rattle.blk_repair_laws.proofs.ListRepair.{holds-trans}
 use Rattle.blk_repair_laws.proofs.Mended.{mended-folders}
-use Rattle.blk_repair_laws.proofs.MendedChanges.{holds-mid, keeps-mid, repaired-kept}
+use Rattle.blk_repair_laws.proofs.MendedChanges.{keeps-mid, repaired-kept}
 use Rattle.blk_repair_laws.proofs.RecordSeals.{keeps-more, keeps-none}
 use Rattle.blk_repair_laws.proofs.SoundFolders.{mended-none}
 use Rattle.blk_scan.specs.declared.chains.KeptChains.{KeptChains}
@@ -76,13 +76,7 @@ none-before a b told none = by_files a.files refl
     by_files None there = there
     by_files (Some from) there = let now = told from there in absurd (no_some now.0 (sym none ∙ now.1))
 
--- what is passed by a call, and by another on what it left
-pub joined : {a b c : Told} {P : Image → Type 0} (R : Image → Type 0) (from : Image) → a.files ≡ Some from → Passes a b P → ForSome b.files R → ForSome b.files (λ mid. R mid → Passes b c P) → Passes a c P
-joined {a} {b} {c} {P} R from there first is second =
-    let now = still-told from there first in
-    passes_then first (second now.0 now.1 (is now.0 now.1))
-
--- and what the other leaves
+-- what is passed by a call, and what another leaves on what it left
 pub led : {a b : Told} (c : Told) {P : Image → Type 0} (R S : Image → Type 0) (from : Image) → a.files ≡ Some from → Passes a b P → ForSome b.files R → ForSome b.files (λ mid. R mid → ForSome c.files S) → ForSome c.files S
 led {a} {b} c {P} R S from there first is second =
     let now = still-told from there first in
@@ -162,22 +156,11 @@ list-scanned scan nodes others from n o writable is = record { well_formed = is.
 
 -- the list was mended, and the chains are next
 module _ (scan : Scan) (a b : Told) (from : Image) (there : a.files ≡ Some from) (is : IsRepairable scan from) (passes : Passes a b (HoldsTheSame from)) where
-  -- each word of the list's repair is one of the whole
-  pub list-stops : Passes a b (IsMidRepair from)
-  list-stops = passes_weaker passes (holds-mid from) (holds-mid from)
-
   module _ (mended : ForSome b.files (IsListMended from)) where
     pub chains-next : ForSome b.files (AreBucketsScanned scan.chains)
     chains-next mid here = buckets-scanned from mid (passes_end passes mid here) (mended mid here) scan.chains is.scanned.chains
 
     module _ (c : Told) (chained : ForSome b.files (λ mid. AreBucketsScanned scan.chains mid → Passes b c (HoldsTheSame mid))) where
-      pub links-stops : Passes a c (IsMidRepair from)
-      links-stops =
-          let now = still-told from there passes in
-          let holds : HoldsTheSame from now.0 = passes_end passes now.0 now.1 in
-          let on : (i : Image) → HoldsTheSame now.0 i → IsMidRepair from i = (λ i h. holds-mid from i (holds-trans from now.0 i holds h)) in
-          passes_then list-stops (passes_weaker (chained now.0 now.1 (chains-next now.0 now.1)) on on)
-
       pub links-done : ForSome b.files (λ mid. AreBucketsScanned scan.chains mid → ForSome c.files (AreChainsMended mid)) → ForSome c.files (AreLinksMended scan from)
       links-done done last here =
           let now = still-told from there passes in
@@ -212,11 +195,6 @@ module _ (claims : Claims) (a b c : Told) (entry from : Image) (there : a.files 
   claims-now mid here = claims-next entry from mid claims next (passes_end first mid here)
 
   module _ (second : ForSome b.files (λ mid. (entry : Image) → IsNextRebuilt entry claims mid → Passes b c (IsMidDeletion entry mid))) where
-    pub deletions-stop : Passes a c (IsMidRepair entry)
-    deletions-stop =
-        let now = still-told from there first in
-        passes_then (passes_weaker first (deletion-mid entry from) (deletion-mid entry from)) (passes_weaker (second now.0 now.1 entry (claims-now now.0 now.1)) (deletion-mid entry now.0) (deletion-mid entry now.0))
-
     pub deletions-done : ForSome b.files OnlyLinked → ForSome b.files (λ mid. (entry : Image) → IsNextRebuilt entry claims mid → ForSome c.files (λ image. OnlyClaimed image (claims_of_loaded (kept image)))) → ForSome c.files (AreOthersDeleted entry from)
     deletions-done linked claimed last here =
         let now = still-told from there first in
@@ -227,11 +205,6 @@ module _ (claims : Claims) (a b c : Told) (entry from : Image) (there : a.files 
 module _ (claims : Claims) (a b c : Told) (entry from : Image) (there : a.files ≡ Some from) (next : IsNextRebuilt entry claims from) (first : Passes a b (KeepsMendedLinks entry)) (mended : ForSome b.files (AreFilesMended entry from)) where
   rebuilt-now : ForSome b.files (IsNextRebuilt entry claims)
   rebuilt-now mid here = record { holds = (mended mid here).holds; claimed = next.claimed }
-
-  pub store-stops : ForSome b.files (λ mid. (entry : Image) → IsNextRebuilt entry claims mid → Passes b c (IsMidRepair entry)) → Passes a c (IsMidRepair entry)
-  store-stops second =
-      let now = still-told from there first in
-      passes_then (passes_weaker first (keeps-mid entry) (keeps-mid entry)) (second now.0 now.1 entry (rebuilt-now now.0 now.1))
 
   pub store-done : ForSome b.files (λ mid. (entry : Image) → IsNextRebuilt entry claims mid → ForSome c.files (AreOthersDeleted entry mid)) → ForSome c.files (AreOnlyKeptLeft entry from)
   store-done second last here =
@@ -279,7 +252,7 @@ counted-told scan entry image items bytes i b told holds =
     }
 
 -- nothing is left
-repaired-for : (scan : Scan) (entry from mid last : Image) (words : List ℕ) (items bytes id : ℕ) → words ≡ scan.bare.items → IsNextFinished scan entry from → AreSealedNow entry from words mid → IsIndexMended entry mid last → HasIndexWords items bytes id last → IsRepairedFor id entry last
+pub repaired-for : (scan : Scan) (entry from mid last : Image) (words : List ℕ) (items bytes id : ℕ) → words ≡ scan.bare.items → IsNextFinished scan entry from → AreSealedNow entry from words mid → IsIndexMended entry mid last → HasIndexWords items bytes id last → IsRepairedFor id entry last
 repaired-for scan entry from mid last words items bytes id w next sealed index has =
     let others : AreOthersSealed entry words from = subst (λ (ws : List ℕ). AreOthersSealed entry ws from) (sym w) next.links.others in
     let keeps : KeepsMendedLinks entry last = index.holds.keeps in
@@ -299,7 +272,7 @@ repaired-for scan entry from mid last words items bytes id w next sealed index h
       stands_for = λ limits. subst (λ (rows : List Row). StandsFor last (open_state rows limits)) keeps.found_same (mended-folders last limits mended index.holds.writable.bytes);
     }
 
-links-mid : (entry image : Image) → HasMendedLinksOf entry image → IsMidRepair entry image
+pub links-mid : (entry image : Image) → HasMendedLinksOf entry image → IsMidRepair entry image
 links-mid entry image holds = keeps-mid entry image holds.keeps
 
 module _ (scan : Scan) (words : List ℕ) (w : words ≡ scan.bare.items) where
@@ -308,14 +281,6 @@ module _ (scan : Scan) (words : List ℕ) (w : words ≡ scan.bare.items) where
   seals-next entry from next = record { holds = next.links.holds; are_kept = subst (All (IsOfKept entry)) (sym w) next.links.scanned.bare.are_kept }
 
   module _ (a b : Told) (entry from : Image) (there : a.files ≡ Some from) (next : IsNextFinished scan entry from) (first : Passes a b (HasMendedLinksOf entry)) where
-    pub seals-stop : Passes a b (IsMidRepair entry)
-    seals-stop = passes_weaker first (links-mid entry) (links-mid entry)
-
-    pub rest-stops : (c : Told) → ForSome b.files (λ mid. (entry : Image) → HasMendedLinksOf entry mid → Passes b c (HasMendedLinksOf entry)) → Passes a c (IsMidRepair entry)
-    rest-stops c second =
-        let now = still-told from there first in
-        passes_then seals-stop (passes_weaker (second now.0 now.1 entry (passes_end first now.0 now.1)) (links-mid entry) (links-mid entry))
-
     pub rest-done : (c : Told) (items bytes id : ℕ) → items ≡ length scan.kept.items % 2 ^ 32 → bytes ≡ scan.bytes % 2 ^ 32 → ForSome b.files (AreSealedNow entry from words)
         → ForSome b.files (λ mid. (entry : Image) → IsNextCounted entry items bytes mid → ForSome c.files (IsIndexMended entry mid)) → ForSome c.files (HasIndexWords items bytes id) → ForSome c.files (IsRepairedFor id entry)
     rest-done c items bytes id i bs sealed index has last here =

@@ -164,10 +164,13 @@ quiet-chains records bucket (suc count) image =
     let first : List TrailStep = chain_steps bucket (records bucket) image in
     quiet-append first (chains_steps records (bucket + 1) count (after first image)) (quiet-chain bucket (records bucket) image) (quiet-chains records (bucket + 1) count (after first image))
 
+pub quiet-repair : (image : Image) → IsQuiet (chain_repair_steps image)
+quiet-repair image = subst IsQuiet (sym (all-left image)) (quiet-chains (kept_records image) 0 65536 image)
+
 -- what a front of the steps passes, and where all of them lead
 pub repair-passes : (old now : Told) (records ends : List ℕ) (whole : List Bool) → ForSome old.files (λ from. AreChainsScanned records ends whole from → AppliesPrefix old now (chain_repair_steps from)) → ForSome old.files (λ from. AreChainsScanned records ends whole from → Passes old now (HoldsTheSame from))
 repair-passes old now records ends whole part from there scanned =
-    passes_part (HoldsTheSame from) (HoldsTheSame from) (part from there scanned) (subst IsQuiet (sym (all-left from)) (quiet-chains (kept_records from) 0 65536 from)) (λ i h. h)
+    passes_part (HoldsTheSame from) (HoldsTheSame from) (part from there scanned) (quiet-repair from) (λ i h. h)
     (λ i is_there. subst (λ (x : Image). Along (HoldsTheSame from) x (chain_repair_steps from)) (some_inj (sym there ∙ is_there)) (chains-repaired from scanned.well_formed scanned.writable scanned.keeps_all).0)
 
 pub repair-mends : (old now : Told) (records ends : List ℕ) (whole : List Bool) → ForSome old.files (λ from. AreChainsScanned records ends whole from → Applies old now (chain_repair_steps from)) → ForSome old.files (λ from. AreChainsScanned records ends whole from → ForSome now.files (AreChainsMended from))

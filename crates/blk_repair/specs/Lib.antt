@@ -4,6 +4,7 @@ pub mod Chains
 pub mod Removals
 pub mod Seals
 pub mod Counters
+pub mod Endings
 pub mod Maps
 pub mod Deletions
 pub mod Repair

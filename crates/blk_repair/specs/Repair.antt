@@ -1,10 +1,10 @@
 -- The whole repair of a folder, by what its audit told.
-use Rattle.std.specs.Prelude.{ℕ, ◌≡◌, ◌⊎◌, ◌+◌, ◌%◌, ◌^◌, ◌==◌, if◌then◌else◌, List, [], ◌++◌, length, All, false}
+use Rattle.std.specs.Prelude.{ℕ, ◌≡◌, ◌⊎◌, ◌+◌, ◌%◌, ◌^◌, ◌==◌, if◌then◌else◌, List, [], length}
 use Rattle.std.specs.List.{sum_by}
 use Rattle.std.specs.declared.option.Option.{Option}
 use Rattle.blk_image.specs.Image.{Image, Index, byte}
-use Rattle.blk_image.specs.Steps.{TrailStep, word_step}
-use Rattle.blk_image.specs.Told.{Told, Applies}
+use Rattle.blk_image.specs.Steps.{TrailStep}
+use Rattle.blk_image.specs.Told.{Told}
 use Rattle.blk_model.specs.Holding.{open_state}
 use Rattle.blk_model.specs.State.{Bounds}
 use Rattle.blk_format.specs.BlockFiles.{IsWellFormed}
@@ -25,7 +25,7 @@ use Rattle.blk_repair_laws.specs.MendedLinks.{HasMendedLinks}
 use Rattle.blk_scan.specs.declared.chains.KeptChains.{KeptChains}
 use Rattle.blk_scan.specs.declared.scan.Scan.{Scan}
 use Rattle.blk_scan.specs.Scans.{AreChainsTold, IsScanOf}
-use Rattle.blk_repair.specs.Counters.{IsShortIndexWord, crash_place, index_steps, writes_crash_word}
+use Rattle.blk_repair.specs.Counters.{IsShortIndexWord, index_steps}
 use Rattle.blk_repair.specs.Damages.{IsChainsRepairDamage, IsListRepairDamage}
 use Rattle.blk_repair.specs.Deletions.{DeletesOthers}
 use Rattle.blk_repair.specs.Maps.{Rebuilds}
@@ -53,12 +53,6 @@ pub record IsRepairedFor (id : ℕ) (entry image : Image) : Type 0 where
 -- the session is the one after that of the entry
 abbrev pub IsRepaired : Image → Image → Type 0
 IsRepaired entry image = IsRepairedFor (next_id (this_id_of (byte entry Index))) entry image
-
--- the last step made the crash word 1, and no step before it wrote inside that word
-pub record EndsWithCrashWord (old new : Told) : Type 0 where
-  pub before : List TrailStep
-  pub applies : Applies old new (before ++ word_step Index crash_place 1)
-  pub first : All (λ step. writes_crash_word step ≡ false) before
 
 -- nothing is to be mended but words of the index, and no seal was told to be
 pub record NeedsOnlyWords (scan : Scan) (image : Image) : Type 0 where

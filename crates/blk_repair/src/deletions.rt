@@ -3,7 +3,7 @@ ghost use Rattle.std.specs.Prelude.{◌≡◌, ◌<◌, ◌≤◌, ℕ, None, So
 ghost use Rattle.std.specs.Option.{ForSome};
 ghost use Rattle.blk_image.specs.Image.{Image, has_file, Block as block, External as external};
 ghost use Rattle.blk_image.specs.Order.{IsBefore, IsNextFile};
-ghost use Rattle.blk_image.specs.Told.{Applies, Passes, Rises, Stays};
+ghost use Rattle.blk_image.specs.Told.{Applies, Rises, Stays};
 ghost use Rattle.blk_io.specs.FileNames.{file_of};
 ghost use Rattle.blk_volume.specs.Found.{kept};
 ghost use Rattle.blk_volume.specs.Loads.{claims_of_loaded};
@@ -11,6 +11,7 @@ ghost use Rattle.blk_volume.specs.Sound.{OnlyClaimed, OnlyLinked};
 ghost use Rattle.blk_disk.specs.declared.tables.BlockFiles.{BlockFiles};
 ghost use Rattle.blk_disk.specs.Open.{IsOpen};
 ghost use Rattle.blk_repair.specs.Deletions.{DeletesAll, DeletesSome, IsMidDeletion, deletion_of, is_number_claimed, is_unclaimed, is_unlinked, last_block_file, last_first_file};
+ghost use Rattle.blk_repair.specs.Endings.{BreaksOff};
 ghost use Rattle.blk_repair.specs.Maps.{IsNextRebuilt};
 ghost use Rattle.blk_repair.specs.Seals.{HasMendedLinksOf};
 
@@ -31,8 +32,8 @@ pub fn delete_unlinked<F: Folder>(f: &mut F, files: &BlockFiles) -> Result<(), F
     ensures steps { OnOk result (DeletesAll (is_unlinked files.now) last_first_file (F.told f.old) (F.told f.new)) }
     ensures prefix { DeletesSome (is_unlinked files.now) last_first_file (F.told f.old) (F.told f.new) }
 
-    // Where the links are mended they stay so at each deletion, with the same kept and found; and what was mended of the files and of the seals is so still.
-    ensures stops { ForSome (F.told f.old).files (λ from. (entry : Image) → HasMendedLinksOf entry from → Passes (F.told f.old) (F.told f.new) (IsMidDeletion entry from)) }
+    // Where the links are mended they stay so at each deletion, with the same kept and found, and the crash word is spared; and what was mended of the files and of the seals is so still.
+    ensures stops { ForSome (F.told f.old).files (λ from. (entry : Image) → HasMendedLinksOf entry from → BreaksOff (F.told f.old) (F.told f.new) (IsMidDeletion entry from)) }
 
     ensures is_open { ForSome (F.told f.new).files (IsOpen files.now) }
 
@@ -61,8 +62,8 @@ pub fn delete_unclaimed<F: Folder>(f: &mut F, claims: &Claims) -> Result<(), Fai
     ensures steps { OnOk result (DeletesAll (is_unclaimed claims.now) last_block_file (F.told f.old) (F.told f.new)) }
     ensures prefix { DeletesSome (is_unclaimed claims.now) last_block_file (F.told f.old) (F.told f.new) }
 
-    // The links then stay mended at each deletion, with the same kept and found; and what was mended of the files and of the seals is so still.
-    ensures stops { ForSome (F.told f.old).files (λ from. (entry : Image) → IsNextRebuilt entry claims.now from → Passes (F.told f.old) (F.told f.new) (IsMidDeletion entry from)) }
+    // The links then stay mended at each deletion, with the same kept and found, and the crash word is spared; and what was mended of the files and of the seals is so still.
+    ensures stops { ForSome (F.told f.old).files (λ from. (entry : Image) → IsNextRebuilt entry claims.now from → BreaksOff (F.told f.old) (F.told f.new) (IsMidDeletion entry from)) }
 
     ensures is_open { (files : BlockFiles) → ForSome (F.told f.old).files (IsOpen files) → ForSome (F.told f.new).files (IsOpen files) }
 

@@ -2,7 +2,7 @@
 ghost use Rattle.std.specs.Prelude.{◌≡◌, ◌≤◌, ◌%◌, ◌^◌, ℕ, None, OnOk, OnErr, All};
 ghost use Rattle.std.specs.Option.{ForSome};
 ghost use Rattle.blk_image.specs.Image.{Image, Index as index, byte};
-ghost use Rattle.blk_image.specs.Told.{Applies, Passes, Rises, Stays};
+ghost use Rattle.blk_image.specs.Told.{Applies, Rises, Stays};
 ghost use Rattle.blk_format.specs.Headers.{this_id_of};
 ghost use Rattle.blk_io.specs.Faults.{IfDamaged, IfDevice};
 ghost use Rattle.blk_disk.specs.Open.{IsOpen};
@@ -18,9 +18,10 @@ ghost use Rattle.blk_repair_laws.specs.MendedLinks.{HasMendedLinks};
 ghost use Rattle.blk_scan.specs.Scans.{ChainsStandIf, StandAmong};
 ghost use Rattle.blk_repair.specs.Damages.{IsChainsRepairDamage};
 ghost use Rattle.blk_repair.specs.Deletions.{DeletesOthers};
+ghost use Rattle.blk_repair.specs.Endings.{BreaksOff, EndsOrBreaksOff, EndsWithCrashWord};
 ghost use Rattle.blk_repair.specs.Maps.{IsNextRebuilt};
 ghost use Rattle.blk_repair.specs.Parts.{AppliesOf, InTurn};
-ghost use Rattle.blk_repair.specs.Repair.{AreBucketsScanned, AreLinksMended, AreOnlyKeptLeft, AreOthersDeleted, EndsWithCrashWord, IsBehindRepairDamage, IsLinksRepairDamage, IsNextFinished, IsRepairDamage, IsRepairable, IsRepaired, IsRepairedFor, IsRestRepairDamage, MendsFiles, MendsLinks, MendsRest, NeedsOnlyWords, RepairsInOrder, counting_steps, next_id as id_after};
+ghost use Rattle.blk_repair.specs.Repair.{AreBucketsScanned, AreLinksMended, AreOnlyKeptLeft, AreOthersDeleted, IsBehindRepairDamage, IsLinksRepairDamage, IsNextFinished, IsRepairDamage, IsRepairable, IsRepaired, IsRepairedFor, IsRestRepairDamage, MendsFiles, MendsLinks, MendsRest, NeedsOnlyWords, RepairsInOrder, counting_steps, next_id as id_after};
 
 use crate::counters::mend_index;
 use crate::deletions::{delete_unclaimed, delete_unlinked};
@@ -53,11 +54,13 @@ pub fn repair<F: Folder>(f: &mut F, files: &mut BlockFiles, scan: &Scan) -> Resu
 
     // With the scan of a well-formed folder nothing is left to mend in the end, and at each word the same is kept and found.
     ensures mended { OnOk result (ForSome (F.told f.old).files (λ from. IsRepairable scan.now from → ForSome (F.told f.new).files (IsRepaired from))) }
-    ensures stops { ForSome (F.told f.old).files (λ from. IsRepairable scan.now from → Passes (F.told f.old) (F.told f.new) (IsMidRepair from)) }
 
-    // The steps are those of the parts, in their order; so the last makes the crash word 1, and no other writes inside it.
+    // Where it is cut short the crash word wasn't written, or it was by the last step, and all is mended as at its end.
+    ensures stops { ForSome (F.told f.old).files (λ from. IsRepairable scan.now from → EndsOrBreaksOff (F.told f.old) (F.told f.new) (IsMidRepair from) (IsRepaired from)) }
+
+    // The steps are those of the parts, in their order; the last makes the crash word 1, and no other writes inside it.
     ensures steps { OnOk result (ForSome (F.told f.old).files (λ from. IsRepairable scan.now from → AppliesOf (RepairsInOrder files.old scan.now from (id_after (this_id_of (byte from index)))) from (F.told f.old) (F.told f.new))) }
-    ensures last { OnOk result (ForSome (F.told f.old).files (λ from. IsRepairable scan.now from → EndsWithCrashWord (F.told f.old) (F.told f.new))) }
+    ensures last { OnOk result (ForSome (F.told f.old).files (λ from. IsRepairable scan.now from → EndsWithCrashWord (F.told f.old) (F.told f.new) (IsMidRepair from) (IsRepaired from))) }
 
     ensures is_open { ForSome (F.told f.new).files (IsOpen files.new) }
 
@@ -99,7 +102,8 @@ fn mend_all<F: Folder>(
     ensures keeps { KeepsStanding files.old files.new }
     ensures fitted { OnOk result (AreFitted files.old files.new) }
     ensures mended { OnOk result (ForSome (F.told f.old).files (λ from. IsRepairable scan.now from → ForSome (F.told f.new).files (IsRepairedFor this_id from))) }
-    ensures stops { ForSome (F.told f.old).files (λ from. IsRepairable scan.now from → Passes (F.told f.old) (F.told f.new) (IsMidRepair from)) }
+    ensures stops { ForSome (F.told f.old).files (λ from. IsRepairable scan.now from → EndsOrBreaksOff (F.told f.old) (F.told f.new) (IsMidRepair from) (IsRepairedFor this_id from)) }
+    ensures last { OnOk result (ForSome (F.told f.old).files (λ from. IsRepairable scan.now from → EndsWithCrashWord (F.told f.old) (F.told f.new) (IsMidRepair from) (IsRepairedFor this_id from))) }
     ensures steps { OnOk result (ForSome (F.told f.old).files (λ from. IsRepairable scan.now from → AppliesOf (RepairsInOrder files.old scan.now from this_id) from (F.told f.old) (F.told f.new))) }
     ensures is_open { ForSome (F.told f.new).files (IsOpen files.new) }
     ensures clean { OnOk result (ForSome (F.told f.old).files (λ from. IsRepairable scan.now from → NeedsOnlyWords scan.now from → Applies (F.told f.old) (F.told f.new) (counting_steps from this_id from))) }
@@ -126,7 +130,8 @@ fn mend_behind<F: Folder>(
     ensures keeps { KeepsStanding files.old files.new }
     ensures fitted { OnOk result (AreFitted files.old files.new) }
     ensures mended { OnOk result (ForSome (F.told f.old).files (λ from. (entry : Image) → AreLinksMended scan.now entry from → ForSome (F.told f.new).files (IsRepairedFor this_id entry))) }
-    ensures stops { ForSome (F.told f.old).files (λ from. (entry : Image) → AreLinksMended scan.now entry from → Passes (F.told f.old) (F.told f.new) (IsMidRepair entry)) }
+    ensures stops { ForSome (F.told f.old).files (λ from. (entry : Image) → AreLinksMended scan.now entry from → EndsOrBreaksOff (F.told f.old) (F.told f.new) (IsMidRepair entry) (IsRepairedFor this_id entry)) }
+    ensures last { OnOk result (ForSome (F.told f.old).files (λ from. (entry : Image) → AreLinksMended scan.now entry from → EndsWithCrashWord (F.told f.old) (F.told f.new) (IsMidRepair entry) (IsRepairedFor this_id entry))) }
     ensures steps { OnOk result (ForSome (F.told f.old).files (λ from. (entry : Image) → AreLinksMended scan.now entry from → AppliesOf (InTurn (MendsFiles files.old scan.now.claims) (MendsRest scan.now entry this_id)) from (F.told f.old) (F.told f.new))) }
     ensures is_open { ForSome (F.told f.new).files (IsOpen files.new) }
     ensures clean { OnOk result (ForSome (F.told f.old).files (λ from. (entry : Image) → AreLinksMended scan.now entry from → NeedsOnlyWords scan.now from → Applies (F.told f.old) (F.told f.new) (counting_steps entry this_id from))) }
@@ -147,7 +152,7 @@ fn mend_store<F: Folder>(f: &mut F, files: &mut BlockFiles, claims: &Claims) -> 
     ensures keeps { KeepsStanding files.old files.new }
     ensures fitted { OnOk result (AreFitted files.old files.new) }
     ensures mended { OnOk result (ForSome (F.told f.old).files (λ from. (entry : Image) → IsNextRebuilt entry claims.now from → ForSome (F.told f.new).files (AreOnlyKeptLeft entry from))) }
-    ensures stops { ForSome (F.told f.old).files (λ from. (entry : Image) → IsNextRebuilt entry claims.now from → Passes (F.told f.old) (F.told f.new) (IsMidRepair entry)) }
+    ensures stops { ForSome (F.told f.old).files (λ from. (entry : Image) → IsNextRebuilt entry claims.now from → BreaksOff (F.told f.old) (F.told f.new) (IsMidRepair entry)) }
     ensures steps { OnOk result (ForSome (F.told f.old).files (λ from. AppliesOf (MendsFiles files.old claims.now) from (F.told f.old) (F.told f.new))) }
     ensures is_open { ForSome (F.told f.new).files (IsOpen files.new) }
     ensures clean { OnOk result (ForSome (F.told f.old).files (λ from. (entry : Image) → IsNextRebuilt entry claims.now from → HasMendedFiles from → HasOnlyKeptFiles from → Stays (F.told f.old) (F.told f.new))) }
@@ -166,7 +171,7 @@ fn mend_store<F: Folder>(f: &mut F, files: &mut BlockFiles, claims: &Claims) -> 
 fn delete_others<F: Folder>(f: &mut F, files: &BlockFiles, claims: &Claims) -> Result<(), Failed>
     requires is_open { ForSome (F.told f.old).files (IsOpen files.now) }
     ensures mended { OnOk result (ForSome (F.told f.old).files (λ from. (entry : Image) → IsNextRebuilt entry claims.now from → ForSome (F.told f.new).files (AreOthersDeleted entry from))) }
-    ensures stops { ForSome (F.told f.old).files (λ from. (entry : Image) → IsNextRebuilt entry claims.now from → Passes (F.told f.old) (F.told f.new) (IsMidRepair entry)) }
+    ensures stops { ForSome (F.told f.old).files (λ from. (entry : Image) → IsNextRebuilt entry claims.now from → BreaksOff (F.told f.old) (F.told f.new) (IsMidRepair entry)) }
     ensures steps { OnOk result (ForSome (F.told f.old).files (λ from. AppliesOf (DeletesOthers files.now claims.now) from (F.told f.old) (F.told f.new))) }
     ensures is_open { ForSome (F.told f.new).files (IsOpen files.now) }
     ensures clean { OnOk result (ForSome (F.told f.old).files (λ from. (entry : Image) → IsNextRebuilt entry claims.now from → HasOnlyKeptFiles from → Stays (F.told f.old) (F.told f.new))) }
@@ -183,7 +188,7 @@ fn mend_links<F: Folder>(f: &mut F, files: &BlockFiles, scan: &Scan) -> Result<(
     requires stand { StandAmong files.now scan.now }
     requires is_open { ForSome (F.told f.old).files (IsOpen files.now) }
     ensures mended { OnOk result (ForSome (F.told f.old).files (λ from. IsRepairable scan.now from → ForSome (F.told f.new).files (AreLinksMended scan.now from))) }
-    ensures stops { ForSome (F.told f.old).files (λ from. IsRepairable scan.now from → Passes (F.told f.old) (F.told f.new) (IsMidRepair from)) }
+    ensures stops { ForSome (F.told f.old).files (λ from. IsRepairable scan.now from → BreaksOff (F.told f.old) (F.told f.new) (IsMidRepair from)) }
     ensures steps { OnOk result (ForSome (F.told f.old).files (λ from. IsRepairable scan.now from → AppliesOf MendsLinks from (F.told f.old) (F.told f.new))) }
     ensures is_open { ForSome (F.told f.new).files (IsOpen files.now) }
     ensures clean { OnOk result (ForSome (F.told f.old).files (λ from. IsRepairable scan.now from → HasMendedLinks from → Stays (F.told f.old) (F.told f.new))) }
@@ -202,7 +207,7 @@ fn mend_buckets<F: Folder>(f: &mut F, files: &BlockFiles, scan: &Scan) -> Result
     requires stand { ChainsStandIf files.now scan.now.chains }
     requires is_open { ForSome (F.told f.old).files (IsOpen files.now) }
     ensures mended { OnOk result (ForSome (F.told f.old).files (λ from. AreBucketsScanned scan.now.chains from → ForSome (F.told f.new).files (AreChainsMended from))) }
-    ensures stops { ForSome (F.told f.old).files (λ from. AreBucketsScanned scan.now.chains from → Passes (F.told f.old) (F.told f.new) (HoldsTheSame from)) }
+    ensures stops { ForSome (F.told f.old).files (λ from. AreBucketsScanned scan.now.chains from → BreaksOff (F.told f.old) (F.told f.new) (HoldsTheSame from)) }
     ensures steps { OnOk result (ForSome (F.told f.old).files (λ from. AreBucketsScanned scan.now.chains from → Applies (F.told f.old) (F.told f.new) (chain_repair_steps from))) }
     ensures is_open { ForSome (F.told f.new).files (IsOpen files.now) }
     ensures clean { OnOk result (ForSome (F.told f.old).files (λ from. AreBucketsScanned scan.now.chains from → HasMendedLinks from → Stays (F.told f.old) (F.told f.new))) }
@@ -228,7 +233,8 @@ fn mend_rest<F: Folder>(
     requires stand { All (CanBeSealed files.now) scan.now.bare.items }
     requires is_open { ForSome (F.told f.old).files (IsOpen files.now) }
     ensures mended { OnOk result (ForSome (F.told f.old).files (λ from. (entry : Image) → IsNextFinished scan.now entry from → ForSome (F.told f.new).files (IsRepairedFor this_id entry))) }
-    ensures stops { ForSome (F.told f.old).files (λ from. (entry : Image) → IsNextFinished scan.now entry from → Passes (F.told f.old) (F.told f.new) (IsMidRepair entry)) }
+    ensures stops { ForSome (F.told f.old).files (λ from. (entry : Image) → IsNextFinished scan.now entry from → EndsOrBreaksOff (F.told f.old) (F.told f.new) (IsMidRepair entry) (IsRepairedFor this_id entry)) }
+    ensures last { OnOk result (ForSome (F.told f.old).files (λ from. (entry : Image) → IsNextFinished scan.now entry from → EndsWithCrashWord (F.told f.old) (F.told f.new) (IsMidRepair entry) (IsRepairedFor this_id entry))) }
     ensures steps { OnOk result (ForSome (F.told f.old).files (λ from. (entry : Image) → IsNextFinished scan.now entry from → AppliesOf (MendsRest scan.now entry this_id) from (F.told f.old) (F.told f.new))) }
     ensures is_open { ForSome (F.told f.new).files (IsOpen files.now) }
     ensures clean { OnOk result (ForSome (F.told f.old).files (λ from. (entry : Image) → IsNextFinished scan.now entry from → NeedsOnlyWords scan.now from → Applies (F.told f.old) (F.told f.new) (counting_steps entry this_id from))) }

@@ -51,7 +51,7 @@ stands_after far command keeps_old keeps notes_old notes left old new at noted k
       kept = subst (λ (s : State). keeps s (after (noted.steps ++ Note (note_number (notes_old + 1)) ∷ []) at.image)) (sym (state_after-one far.opened far.done command)) (kept (after (noted.steps ++ Note (note_number (notes_old + 1)) ∷ []) at.image) here);
       noted = counts ∙ number ∙ sym one_longer;
       few = let few = at.few in omega (arith, few, one_longer);
-      progress = λ trail told. one_more far.from far.opened far.done far.start old new command at.began (at.progress trail told)
+      progress = one_more far.from far.opened far.done far.start old new command at.began at.progress
           (subst (λ (n : ℕ). IsNoted old new command.moment command.request n (state_now far)) number noted);
     }
 
@@ -102,7 +102,7 @@ module _ (far : SoFar) (moment : ℕ) (request : Request) (keeps_old keeps : Sta
   of_step (Err fault.Device) answered kept noted counts printed untold =
       let number = next_note far keeps_old notes_old left old at in
       record {
-        stops = λ trail told more. stopped far.from far.opened far.done more far.start old new command at.began (at.progress trail told)
+        stops = λ more. stopped far.from far.opened far.done more far.start old new command at.began at.progress
             (subst (λ (n : ℕ). IsStepped old new moment request n (state_now far)) number (stepped at.image at.here (state_now far) at.kept));
         printed = subst (Appends w_old w_new) (sym (one_text (outcome_text (step (state_now far) moment request)))) (front at.image at.here (state_now far) at.kept);
       }

@@ -3,11 +3,10 @@ use Rattle.std.proofs.Common.{ℕ, zero, suc, ◌+◌, ◌*◌, ◌^◌, ◌<◌
 use Rattle.std.specs.Option.{option_map, ForSome}
 use Rattle.std.proofs.lemmas.List.{append-nil, length-append, take-append-le}
 use Rattle.blk_image.specs.Image.{Image}
-use Rattle.blk_image.specs.Steps.{TrailStep, after}
-use Rattle.blk_image.specs.Told.{Applies, Told, Passes}
+use Rattle.blk_image.specs.Steps.{after}
+use Rattle.blk_image.specs.Told.{Told, Passes}
 use Rattle.blk_image.proofs.Runs.{passes_end, passes_weaker}
 use Rattle.blk_model.specs.Holding.{open_state, rest}
-use Rattle.blk_model.specs.Items.{IsValidHolding}
 use Rattle.blk_model.specs.State.{Bounds, State}
 use Rattle.blk_volume.specs.Found.{found}
 use Rattle.blk_volume.specs.StandsFor.{StandsFor}
@@ -16,12 +15,12 @@ use Rattle.blk_io.specs.declared.fault.Fault.{Fault}
 use Rattle.blk_io.specs.declared.fault.Fault.TheVariants as fault
 use Rattle.blk_io.specs.Streams.{Appends, Readings, later_of}
 use Rattle.blk_headline.specs.Lines.{lines, whole_lines}
-use Rattle.blk_headline.specs.Opening.{HoldsStill, IsUsable, has_opened, open_mark}
+use Rattle.blk_headline.specs.Opening.{FailsToOpen, HoldsStill, IsUsable, Opens, open_mark}
 use Rattle.blk_headline.specs.Progress.{IsWholeRun, Progress, Stops}
 use Rattle.blk_headline.specs.Run.{Run, Stamped, Turn, bound_names, clock_after, closings, commands, commands_of, cut_after, last_state, refuse, run_of, state_after, text_of, turns}
 use Rattle.blk_headline.specs.Script.{Script, session_script}
 use Rattle.blk_headline.proofs.Composing.{ended, some_after}
-use Rattle.blk_headline.proofs.Openings.{begun, opening_of_a_trail, unopened}
+use Rattle.blk_headline.proofs.Openings.{begun, failed}
 use Rattle.blk_headline.proofs.Turns.{clock_after-more, commands_of-append, more_turns, text_of-append}
 use Rattle.blk_cache.specs.Opening.{EndsSession}
 use Rattle.blk_run.specs.declared.ending.Status.TheVariants as status
@@ -48,9 +47,9 @@ module _ (far : SoFar) (keeps : State → Image → Type 0) (stands_for : (state
   some_same : {x y : Image} → Some x ≡ Some y → x ≡ y
   some_same e = cc
 
-  whole : ForSome far.start.trail (λ _. IsWholeRun far.from far.opened (far.done ++ closes.commands) far.start new)
-  whole trail is =
-      ended far.from far.opened (far.done ++ closes.commands) far.start told new stands.began (stands.progress trail is)
+  whole : IsWholeRun far.from far.opened (far.done ++ closes.commands) far.start new
+  whole =
+      ended far.from far.opened (far.done ++ closes.commands) far.start told new stands.began stands.progress
       (λ image here. subst (λ (i : Image). Passes told new (HoldsStill i)) (some_same (sym stands.here ∙ here)) held)
 
   -- the folder was closed
@@ -68,7 +67,7 @@ module _ (far : SoFar) (keeps : State → Image → Type 0) (stands_for : (state
 
   -- the folder failed where it was to be closed
   pub ends_unfinished : EndsRun (Err fault.Device) far new clock_old clock_new
-  ends_unfinished = record { commands = closes.commands; are = closes.are; closes = λ trail is. (whole trail is).stops }
+  ends_unfinished = record { commands = closes.commands; are = closes.are; closes = whole.stops }
 
 -- a Close failed
 pub ends_unclosed : (why : Fault) (far : SoFar) (keeps : State → Image → Type 0) (notes left : ℕ) (new : Told) (clock_old clock_new : Option Readings) → ClosesAll (Err why) far keeps notes left new clock_old clock_new → EndsRun (Err why) far new clock_old clock_new
@@ -145,14 +144,12 @@ module _ (from : Image) (limits : Bounds) (readings : Readings) (old : Outside) 
   abbrev pub begun_far : SoFar
   begun_far = record { start = old.folder; from = from; opened = opened; done = [] }
 
-  -- the beginning: what `start` says, its last step where the trail is told joined with what holds at each word
-  pub begins : (keeps : State → Image → Type 0) (stands_for : (state : State) (image : Image) → keeps state image → StandsFor image state) (still : Image → Image → Type 0)
-      (holds_still : (from image : Image) → still from image → HoldsStill from image) (told : Told) (notes left : ℕ) → IsUsable from → Passes old.folder told (still from)
-      → (before : List TrailStep) → Applies old.folder told (before ++ open_mark ∷ []) → has_opened before ≡ false → ForSome told.files (keeps opened) → notes ≡ 0 → left < 2 ^ 65 → StandsAt begun_far keeps notes left told
+  -- the beginning, behind the opening
+  pub begins : (keeps : State → Image → Type 0) (told : Told) (notes left : ℕ) → IsUsable from → Opens from opened old.folder told → ForSome told.files (keeps opened) → notes ≡ 0 → left < 2 ^ 65 → StandsAt begun_far keeps notes left told
   unfolding state_after
-  begins keeps stands_for still holds_still told notes left usable passes before last unmarked kept none few =
-      let image : Image = after passes.steps from in
-      let here : told.files ≡ Some image = some_after from there passes.applies in
+  begins keeps told notes left usable opens kept none few =
+      let image : Image = after (opens.before ++ open_mark ∷ []) from in
+      let here : told.files ≡ Some image = some_after from there opens.applies in
       record {
         began = there;
         image = image;
@@ -160,17 +157,15 @@ module _ (from : Image) (limits : Bounds) (readings : Readings) (old : Outside) 
         kept = kept image here;
         noted = none;
         few = omega (arith, few);
-        progress = λ trail is. begun from opened old.folder told there usable
-            (opening_of_a_trail from opened old.folder told trail before there is (passes_weaker passes (holds_still from) (holds_still from)) last unmarked (λ i at. stands_for opened i (kept i at)));
+        progress = begun from opened old.folder told there usable opens;
       }
 
   -- the folder failed in the opening
-  pub exit_unopened : (still : Image → Image → Type 0) → ((from image : Image) → still from image → HoldsStill from image) → (new : Outside) → IsUsable from → IsValidHolding (found from) → Passes old.folder new.folder (still from)
-      → new.written ≡ old.written → new.left ≡ old.left → IsUnopened limits from old new
-  exit_unopened still holds_still new usable holding passes printed left = record {
+  pub exit_unopened : (new : Outside) → IsUsable from → FailsToOpen from opened old.folder new.folder → new.written ≡ old.written → new.left ≡ old.left → IsUnopened limits from old new
+  exit_unopened new usable fails printed left = record {
     unprinted = printed;
     unread = left;
-    stops = λ commands. unopened from limits commands old.folder new.folder there usable holding (passes_weaker passes (holds_still from) (holds_still from));
+    stops = λ commands. failed from opened commands old.folder new.folder there usable fails;
   }
 
   module _ (clock_first : Option Readings) (first_read : clock_first ≡ option_map later_of old.clock) where
@@ -199,16 +194,16 @@ module _ (from : Image) (limits : Bounds) (readings : Readings) (old : Outside) 
                 ∙ ap (option_map (λ r. clock_after (later_of r) (length (commands (run_with all))))) (sym clock);
           }
 
-      pub is_whole : ForSome old.folder.trail (λ _. IsWholeRun from opened (commands (run_with all)) old.folder new.folder)
-      is_whole trail is = subst (λ (l : List Stamped). IsWholeRun from opened l old.folder new.folder) (sym all_commands) (ends.closes.whole trail is)
+      pub is_whole : IsWholeRun from opened (commands (run_with all)) old.folder new.folder
+      is_whole = subst (λ (l : List Stamped). IsWholeRun from opened l old.folder new.folder) (sym all_commands) ends.closes.whole
 
     -- the folder failed behind these turns
     stops_behind : (all made : List Turn) → all ≡ made → (clock_mid clock_new : Option Readings) → clock_mid ≡ option_map (λ r. clock_after r (length (commands_of made))) clock_first → (new : Told)
-        → EndsRun (Err fault.Device) (with_more begun_far (commands_of made)) new clock_mid clock_new → ForSome old.folder.trail (λ _. Stops from opened (commands (run_with all)) old.folder new)
-    stops_behind all made same clock_mid clock_new read new ends trail is =
+        → EndsRun (Err fault.Device) (with_more begun_far (commands_of made)) new clock_mid clock_new → Stops from opened (commands (run_with all)) old.folder new
+    stops_behind all made same clock_mid clock_new read new ends =
         subst (λ (l : List Stamped). Stops from opened l old.folder new)
         (sym (commands_are opened (later_of readings) all made ends.commands same (ends.are (clock_after (later_of readings) (length (commands_of made))) (clock_made made clock_mid read))))
-        (ends.closes trail is)
+        ends.closes
 
     -- The exits of a session.
 
@@ -361,7 +356,7 @@ module _ (from : Image) (limits : Bounds) (readings : Readings) (old : Outside) 
               printed = subst (λ (w : Option (List ℕ)). Appends old.written w (text_of all)) (sym unprinted_since)
                   (appends_longer old.written mid.written (text_of made) (text_of later) (text_of all) (ap (λ (l : List Turn). text_of l) begin ∙ text_of-append made later) plays.part.plays.printed);
               ended = tt;
-              stopped = λ trail is. subst (λ (l : List Stamped). Stops from opened l old.folder new.folder) (sym more.1) (subst (λ (t : Told). Stops from opened (commands_of made ++ more.0) old.folder t) same (plays.part.plays.stops trail is more.0));
+              stopped = subst (λ (l : List Stamped). Stops from opened l old.folder new.folder) (sym more.1) (subst (λ (t : Told). Stops from opened (commands_of made ++ more.0) old.folder t) same (plays.part.plays.stops more.0));
             };
           }
 
@@ -502,7 +497,7 @@ module _ (from : Image) (limits : Bounds) (readings : Readings) (old : Outside) 
               printed = subst (λ (w : Option (List ℕ)). Appends old.written w (text_of script_turns)) (sym unprinted_since)
                   (appends_longer old.written mid.written (text_of plays.made) [] (text_of script_turns) (ap (λ (l : List Turn). text_of l) begin ∙ text_of-append plays.made []) plays.plays.printed);
               ended = tt;
-              stopped = λ trail is. subst (λ (l : List Stamped). Stops from opened l old.folder new.folder) (sym more.1) (subst (λ (t : Told). Stops from opened (commands_of plays.made ++ more.0) old.folder t) same (plays.plays.stops trail is more.0));
+              stopped = subst (λ (l : List Stamped). Stops from opened l old.folder new.folder) (sym more.1) (subst (λ (t : Told). Stops from opened (commands_of plays.made ++ more.0) old.folder t) same (plays.plays.stops more.0));
             };
           }
 

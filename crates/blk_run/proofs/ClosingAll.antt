@@ -160,10 +160,10 @@ module _ {Y : Type 0} (slots : List (Option Y)) (keeps : State → Image → Typ
             let enough : left + 2 * length (bound_names state) ≡ (left + 2 * length (bound_names (state_then state command))) + 2 = omega (arith, one_less) in
             subst (λ (n : ℕ). StandsAt (with_more far so_far.closed) keeps notes n now) enough so_far.stands
 
-        stops : ForSome far.start.trail (λ _. Stops far.from far.opened (far.done ++ (so_far.closed ++ command ∷ following clock_old)) far.start new)
-        stops trail told =
+        stops : Stops far.from far.opened (far.done ++ (so_far.closed ++ command ∷ following clock_old)) far.start new
+        stops =
             subst (λ (l : List Stamped). Stops far.from far.opened l far.start new) (append_assoc far.done so_far.closed (command ∷ following clock_old))
-            (stopped far.from far.opened (far.done ++ so_far.closed) (following clock_old) far.start now new command so_far.stands.began (so_far.stands.progress trail told)
+            (stopped far.from far.opened (far.done ++ so_far.closed) (following clock_old) far.start now new command so_far.stands.began so_far.stands.progress
             (subst (λ (n : ℕ). IsStepped now new moment (to_close name) n state) (next_note (with_more far so_far.closed) keeps notes (left + 2 * length (bound_names (state_then state command))) now room) (stepped so_far.stands.image so_far.stands.here state so_far.stands.kept)))
 
         no_files : {image : Image} → ◌≡◌ {A = Option Image} (Some image) None → ⊥

@@ -1,5 +1,5 @@
 -- What a cache promises, as the laws on runs take it.
-use Rattle.std.proofs.Common.{◌≡◌, ℕ, ◌<◌, ◌+◌, Bool, true, false, List, [], ◌∷◌, ◌++◌, length, Option, Some, None, refl, sym, ◌∙◌, ap, subst}
+use Rattle.std.proofs.Common.{◌≡◌, ℕ, ◌<◌, ◌+◌, Bool, true, false, List, [], ◌∷◌, ◌++◌, length, Option, Some, None, inl, inr, refl, sym, ◌∙◌, ap, subst}
 use Rattle.std.specs.Prelude.{All, ◌&&◌, ◌==◌, is_some, slice_index_or}
 use Rattle.std.specs.List.{position}
 use Rattle.std.specs.Option.{ForSome}
@@ -9,27 +9,27 @@ use Rattle.std.proofs.lemmas.List.Elements.{All-head, All-tail}
 use Rattle.blk_image.specs.Bytes.{word_bytes}
 use Rattle.blk_image.specs.Image.{Image, Index, same_file}
 use Rattle.blk_image.specs.Steps.{TrailStep, Word, SetLength, Delete, Note, word_step}
-use Rattle.blk_image.specs.Told.{Applies, Told, Trail, Passes}
-use Rattle.blk_image.proofs.Runs.{passes_weaker}
+use Rattle.blk_image.specs.Told.{Along, Told}
+use Rattle.blk_image.proofs.Runs.{until_weaker2}
 use Rattle.blk_model.proofs.Same.{same_bytes}
+use Rattle.blk_model.specs.Holding.{open_state}
 use Rattle.blk_model.specs.Request.{Request, to_create, to_open, to_read, to_write, to_size, to_sparse_write, to_sparse_read, to_sparse_range, to_doom, to_doom_key, to_close, to_list, to_trim, to_total}
-use Rattle.blk_model.specs.State.{State, named_by}
+use Rattle.blk_model.specs.State.{Bounds, State, named_by}
+use Rattle.blk_volume.specs.Found.{found}
 use Rattle.blk_volume.specs.Layout.{Layout}
 use Rattle.blk_volume.specs.StandsFor.{StandsFor}
 use Rattle.blk_kept.proofs.Keeping.{kept-stands}
 use Rattle.blk_handles.specs.Bindings.{Binding, Bindings, binding_of}
 use Rattle.blk_repair.specs.Counters.{crash_place, is_in_crash_word, writes_crash_word}
-use Rattle.blk_repair.specs.Repair.{EndsWithCrashWord}
 use Rattle.blk_cache.specs.declared.cache.Cache.{Cache}
 use Rattle.blk_cache.specs.CacheKeeping.{IsBoundAs, KeepsState}
 use Rattle.blk_cache.specs.Opening as opening
 use Rattle.blk_cache.specs.Stepping.{IsPlain}
-use Rattle.blk_headline.specs.Opening.{HoldsStill, Opens, has_opened, marks_open, open_mark}
+use Rattle.blk_headline.specs.Opening.{FailsToOpen, HoldsStill, Opens, has_opened, marks_open, open_mark}
 use Rattle.blk_headline.specs.Run.{bound_names}
 use Rattle.blk_headline.specs.Laws.{IsLeastBound}
 use Rattle.blk_headline.specs.Script.{is_built}
 use Rattle.blk_headline.proofs.Closing.{least_of_slots, none_closed, none_of_slots}
-use Rattle.blk_headline.proofs.Openings.{opening_of_a_trail}
 
 -- The opening.
 
@@ -61,20 +61,31 @@ unmarked (step ∷ steps) none =
 pub held_still : (from image : Image) → opening.HoldsStill from image → HoldsStill from image
 held_still from image held = record { usable = held.usable; formed = held.formed; found_same = held.found_same }
 
-pub passes_held : (from : Image) (old new : Told) → Passes old new (opening.HoldsStill from) → Passes old new (HoldsStill from)
-passes_held from old new passed = passes_weaker passed (held_still from) (held_still from)
+still_along : (from : Image) (steps : List TrailStep) → Along (opening.HoldsStill from) from steps → Along (HoldsStill from) from steps
+still_along from steps all = until_weaker2 (opening.HoldsStill from) (HoldsStill from) (opening.HoldsStill from) (HoldsStill from) steps from (held_still from) (held_still from) all
 
--- the clauses of `start`, where the trail is told
-pub opens_of_start : (from : Image) (opened : State) (old new : Told) (trail : Trail) → old.files ≡ Some from → old.trail ≡ Some trail → Passes old new (opening.HoldsStill from) → EndsWithCrashWord old new
-    → ForSome new.files (λ image. StandsFor image opened) → Opens from opened old new
+-- what `start` opened
+pub opened_by_start : (from : Image) (limits : Bounds) (old new : Told) → old.files ≡ Some from → opening.Opens from old new → Opens from (open_state (found from) limits) old new
 unfolding word_step
-opens_of_start from opened old new trail there told passed last stands =
-    opening_of_a_trail from opened old new trail last.before there told (passes_held from old new passed) last.applies (unmarked last.before last.first) stands
+opened_by_start from limits old new there opens = record {
+  before = opens.before;
+  quiet = opens.quiet;
+  unmarked = unmarked opens.before opens.first;
+  applies = opens.applies;
+  along = still_along from (opens.before ++ open_mark ∷ []) (opens.along from there);
+  stands = λ image here. opens.leaves image here limits;
+}
 
--- the last step of `start`
-pub last_applies : (old new : Told) → (last : EndsWithCrashWord old new) → Applies old new (last.before ++ open_mark ∷ [])
-unfolding word_step
-last_applies old new last = last.applies
+-- what it opened, or where it broke off
+pub failed_by_start : (from : Image) (limits : Bounds) (old new : Told) → old.files ≡ Some from → opening.OpensOrBreaksOff from old new → FailsToOpen from (open_state (found from) limits) old new
+failed_by_start from limits old new there (inl broken) = inl (record {
+  steps = broken.passes.steps;
+  quiet = broken.passes.quiet;
+  unmarked = unmarked broken.passes.steps broken.unmarked;
+  applies = broken.passes.applies;
+  along = still_along from broken.passes.steps (broken.passes.along from there);
+})
+failed_by_start from limits old new there (inr opens) = inr (opened_by_start from limits old new there opens)
 
 -- What is kept.
 

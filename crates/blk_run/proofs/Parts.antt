@@ -73,9 +73,9 @@ module _ (far : SoFar) (first second : List Turn) (old mid new : Around) (keeps_
   -- up to one in which the folder failed
   pub made_then_stopped : AreStopped second (with_more far (commands_of first)) mid new → AreStopped (first ++ second) far old new
   made_then_stopped stopped = record {
-    stops = λ trail told more. subst (λ (l : List Stamped). Stops far.from far.opened l far.start new.folder)
+    stops = λ more. subst (λ (l : List Stamped). Stops far.from far.opened l far.start new.folder)
         (append_assoc far.done (commands_of first) (commands_of second ++ more)
-        ∙ ap (λ (l : List Stamped). far.done ++ l) (sym (append_assoc (commands_of first) (commands_of second) more) ∙ ap (λ (l : List Stamped). l ++ more) (sym (commands_of-append first second)))) (stopped.stops trail told more);
+        ∙ ap (λ (l : List Stamped). far.done ++ l) (sym (append_assoc (commands_of first) (commands_of second) more) ∙ ap (λ (l : List Stamped). l ++ more) (sym (commands_of-append first second)))) (stopped.stops more);
     printed = subst (Appends old.written new.written) (sym (text_of-append first second)) (then_part (text_of first) (text_of second) old.written mid.written new.written before.printed stopped.printed);
   }
 
@@ -99,8 +99,8 @@ module _ (far : SoFar) (first second : List Turn) (old new : Around) (keeps : St
 
   pub stopped_only : AreStopped first far old new → AreStopped (first ++ second) far old new
   stopped_only stopped = record {
-    stops = λ trail told more. subst (λ (l : List Stamped). Stops far.from far.opened (far.done ++ l) far.start new.folder)
-        (sym (append_assoc (commands_of first) (commands_of second) more) ∙ ap (λ (l : List Stamped). l ++ more) (sym (commands_of-append first second))) (stopped.stops trail told (commands_of second ++ more));
+    stops = λ more. subst (λ (l : List Stamped). Stops far.from far.opened (far.done ++ l) far.start new.folder)
+        (sym (append_assoc (commands_of first) (commands_of second) more) ∙ ap (λ (l : List Stamped). l ++ more) (sym (commands_of-append first second))) (stopped.stops (commands_of second ++ more));
     printed = subst (Appends old.written new.written) (sym (text_of-append first second)) (part_of (text_of first) (text_of second) old.written new.written stopped.printed);
   }
 

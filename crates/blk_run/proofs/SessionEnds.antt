@@ -3,7 +3,7 @@ use Rattle.std.proofs.Common.{ℕ, ◌+◌, ◌*◌, ◌^◌, ◌<◌, ◌≤◌
 use Rattle.std.specs.Prelude.{IsErrAnd, if◌then◌else◌}
 use Rattle.std.specs.Option.{option_map, ForSome}
 use Rattle.blk_image.specs.Image.{Image}
-use Rattle.blk_image.specs.Told.{Passes, Rises, Told}
+use Rattle.blk_image.specs.Told.{Rises, Told}
 use Rattle.blk_io.specs.Faults.{damage_of}
 use Rattle.blk_io.specs.declared.fault.Damage.{Damage}
 use Rattle.blk_io.specs.declared.fault.Fault.{Fault}
@@ -13,12 +13,10 @@ use Rattle.blk_model.specs.Holding.{open_state}
 use Rattle.blk_model.specs.Sizes.{handle_names}
 use Rattle.blk_model.specs.State.{Bounds, State}
 use Rattle.blk_volume.specs.Found.{found}
-use Rattle.blk_repair.specs.Repair.{EndsWithCrashWord}
 use Rattle.blk_headline.specs.Opening.{IsUsable}
 use Rattle.blk_headline.specs.Run.{Run, commands_of}
 use Rattle.blk_cache.specs.declared.fault.StepFault.{StepFault}
 use Rattle.blk_cache.specs.declared.fault.StepFault.TheVariants as step_fault
-use Rattle.blk_volume.specs.StandsFor.{StandsFor}
 use Rattle.blk_cache.specs.declared.fault.OpenFault.{OpenFault}
 use Rattle.blk_cache.specs.declared.fault.OpenFault.TheVariants as open_fault
 use Rattle.blk_cache.specs.Opened.{IsFirstDamage}
@@ -37,14 +35,14 @@ use Rattle.blk_run.specs.Session.{Ending, MayEnd, Outside, Runs, Session, all_ma
 use Rattle.blk_run.specs.Statuses.{CauseOf, may_close, status_after}
 use Rattle.blk_run.proofs.Assembling.{begins, begun_far, exit_device, exit_long, exit_long_device, exit_ok, exit_refused, exit_sink, exit_sink_device, exit_source, exit_source_device, exit_whole_device}
 use Rattle.blk_run.proofs.Parts.{handed_on}
-use Rattle.blk_run.proofs.HeadlineBridge.{held_still, last_applies, unmarked}
+use Rattle.blk_run.proofs.HeadlineBridge.{opened_by_start}
 
 -- what is opened stands at the beginning of a run
-pub begins_at : (from : Image) (limits : Bounds) (readings : Readings) (old : Outside) (there : old.folder.files ≡ Some from) (clock : old.clock ≡ Some readings) (keeps : State → Image → Type 0) (stands_for : (state : State) (image : Image) → keeps state image → StandsFor image state)
-    (told : Told) (notes left : ℕ) → IsUsable from → Passes old.folder told (opening.HoldsStill from) → EndsWithCrashWord old.folder told → ForSome told.files (keeps (open_state (found from) limits)) → notes ≡ 0 → left < 2 ^ 65
+pub begins_at : (from : Image) (limits : Bounds) (readings : Readings) (old : Outside) (there : old.folder.files ≡ Some from) (clock : old.clock ≡ Some readings) (keeps : State → Image → Type 0)
+    (told : Told) (notes left : ℕ) → IsUsable from → opening.Opens from old.folder told → ForSome told.files (keeps (open_state (found from) limits)) → notes ≡ 0 → left < 2 ^ 65
     → StandsAt (begun_far from limits readings old there clock) keeps notes left told
-begins_at from limits readings old there clock keeps stands_for told notes left usable passes last kept none few =
-    begins from limits readings old there clock keeps stands_for opening.HoldsStill held_still told notes left usable passes last.before (last_applies old.folder told last) (unmarked last.before last.first) kept none few
+begins_at from limits readings old there clock keeps told notes left usable opens kept none few =
+    begins from limits readings old there clock keeps told notes left usable (opened_by_start from limits old.folder told there opens) kept none few
 
 no_true : false ≡ true → ⊥
 no_true e = cc

@@ -20,7 +20,7 @@ pub record AreClosed (commands : List Stamped) (far : SoFar) (keeps : State → 
 -- as an answer tells: where the folder failed in one of them, a stop leaves what it may; a folder that tells its files gives no damage
 abbrev pub Closes : Result (Unit {0}) Fault → List Stamped → SoFar → (State → Image → Type 0) → (notes left : ℕ) → Told → (clock_old clock_new : Option Readings) → Type 0
 Closes (Ok done) commands far keeps notes left now clock_old clock_new = AreClosed commands far keeps notes left now clock_old clock_new
-Closes (Err fault.Device) commands far keeps notes left now clock_old clock_new = ForSome far.start.trail (λ _. Stops far.from far.opened (far.done ++ commands) far.start now)
+Closes (Err fault.Device) commands far keeps notes left now clock_old clock_new = Stops far.from far.opened (far.done ++ commands) far.start now
 Closes (Err (fault.Damaged damage)) commands far keeps notes left now clock_old clock_new = ⊥
 
 -- each bound name was closed, the least first

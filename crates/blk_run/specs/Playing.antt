@@ -32,7 +32,7 @@ state_now far = state_after far.opened far.done
 abbrev pub with_more : SoFar → List Stamped → SoFar
 with_more far more = record { start = far.start; from = far.from; opened = far.opened; done = far.done ++ more }
 
--- a run stands so far, in a folder that tells its files: its commands are done, the state after them is kept, each has its note, and they are few where so many bytes are to come; where the trail is told too, a stop would have left what it may
+-- a run stands so far, in a folder that tells its files: its commands are done, the state after them is kept, each has its note, and they are few where so many bytes are to come; at each stop it would have left what it may
 pub record StandsAt (far : SoFar) (keeps : State → Image → Type 0) (notes left : ℕ) (now : Told) : Type 0 where
   pub began : far.start.files ≡ Some far.from
   pub image : Image
@@ -40,7 +40,7 @@ pub record StandsAt (far : SoFar) (keeps : State → Image → Type 0) (notes le
   pub kept : keeps (state_now far) image
   pub noted : notes ≡ length far.done
   pub few : 2 * length far.done + left < 2 ^ 65
-  pub progress : ForSome far.start.trail (λ _. Progress far.from far.opened far.done far.start now)
+  pub progress : Progress far.from far.opened far.done far.start now
 
 -- what is told around a player, and whether something was refused
 pub record Around : Type 0 where
@@ -71,7 +71,7 @@ pub record AreMadeTo (made : List Turn) (far : SoFar) (keeps : State → Image �
 
 -- up to one in which the folder failed: whatever commands follow them, a stop leaves what it may
 pub record AreStopped (made : List Turn) (far : SoFar) (old new : Around) : Type 0 where
-  pub stops : ForSome far.start.trail (λ _. (more : List Stamped) → Stops far.from far.opened (far.done ++ (commands_of made ++ more)) far.start new.folder)
+  pub stops : (more : List Stamped) → Stops far.from far.opened (far.done ++ (commands_of made ++ more)) far.start new.folder
   pub printed : Appends old.written new.written (text_of made)
 
 -- turns were made, as an answer tells; a folder that tells its files gives no damage

@@ -13,7 +13,7 @@ use Rattle.blk_model.specs.State.{Bounds}
 use Rattle.blk_volume.specs.Found.{found}
 use Rattle.blk_io.specs.Streams.{Appends, Readings, later_of}
 use Rattle.blk_headline.specs.Lines.{lines, whole_lines}
-use Rattle.blk_headline.specs.Progress.{IsWholeRun, Stops, StopsUnopened}
+use Rattle.blk_headline.specs.Progress.{IsWholeRun, Stops}
 use Rattle.blk_headline.specs.Run.{Run, Stamped, clock_after, commands, cut_after, last_state, refuse, run_of, text_of}
 use Rattle.blk_headline.specs.Script.{Script, session_script}
 use Rattle.blk_cache.specs.Opening.{EndsSession}
@@ -97,8 +97,7 @@ UnlessDevice _ P = P
 pub record EndsAs (result : Status) (ending : Ending) (from : Image) (run : Run) (old new : Outside) : Type 0 where
   pub printed : Printed result ending run old new
   pub ended : UnlessDevice result (IsEnded run old new)
-  -- where the folder tells its trail too
-  pub stopped : ForSome old.folder.trail (λ _. Stopped result from run old new)
+  pub stopped : Stopped result from run old new
 
 -- a session whose folder was opened
 pub record Runs (result : Status) (limits : Bounds) (budget : ℕ) (from : Image) (readings : Readings) (input : List ℕ) (source sink : Type 0) (old new : Outside) : Type 0 where
@@ -114,7 +113,7 @@ pub record Runs (result : Status) (limits : Bounds) (budget : ℕ) (from : Image
 pub record IsUnopened (limits : Bounds) (from : Image) (old new : Outside) : Type 0 where
   pub unprinted : new.written ≡ old.written
   pub unread : new.left ≡ old.left
-  pub stops : (commands : List Stamped) → StopsUnopened from (open_state (found from) limits) commands old.folder new.folder
+  pub stops : (commands : List Stamped) → Stops from (open_state (found from) limits) commands old.folder new.folder
 
 -- nothing was done
 pub record DoesNothing (old new : Outside) : Type 0 where

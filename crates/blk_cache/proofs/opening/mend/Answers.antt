@@ -1,12 +1,13 @@
-use Rattle.std.proofs.Common.{sym, ap, ◌∙◌}
+use Rattle.std.proofs.Common.{inr, sym, ap, ◌∙◌}
 use Rattle.blk_image.specs.Image.{Index, byte}
 use Rattle.blk_image.specs.Told.{Told}
 use Rattle.blk_format.specs.Headers.{this_id_of}
 use Rattle.blk_repair.specs.Repair.{next_id}
+use Rattle.blk_repair.proofs.Endings.{either-pass, ends-stay}
 use Rattle.blk_repair.proofs.RepairRuns.{none-before, still-told}
 use Rattle.blk_cache.specs.declared.opening.Opened.{Opened}
 use Rattle.blk_cache.proofs.CreationTimes.{counted-moment}
-use Rattle.blk_cache.proofs.OpenRuns.{mending-damage, opened-as, untold-on}
+use Rattle.blk_cache.proofs.OpenRuns.{mending-damage, opened-as, repaired-either, repaired-opens, untold-on}
 use Rattle.blk_cache.proofs.opening.mend.Goals as goal
 
 pub returns-in_err-repair-clause-damaged : goal.returns-in_err-repair-clause-damaged
@@ -15,8 +16,20 @@ returns-in_err-repair-clause-damaged g c = mending-damage c.from_residual.result
 pub returns-in_err-mark-clause-untold : goal.returns-in_err-mark-clause-untold
 returns-in_err-mark-clause-untold g c all =
     untold-on c.from_residual-in_err-mark.result c.in_err-mark.field-0.0 (g.F.Folder.told c.args.f.now) (g.F.Folder.told c.repair.new.f) c.from_residual-in_err-mark.ensures.1
-    (none-before (g.F.Folder.told c.args.f.now) (g.F.Folder.told c.repair.new.f) (λ from there. still-told from there (c.repair.ensures.stops from there (all from there))))
+    (none-before (g.F.Folder.told c.args.f.now) (g.F.Folder.told c.repair.new.f) (λ from there. still-told from there (either-pass (c.repair.ensures.stops from there (all from there)))))
     (c.in_err-mark.ensures.untold (λ i here. let open_now = c.repair.ensures.is_open i here in open_now.whole_index))
+
+pub returns-in_err-repair-clause-stops : goal.returns-in_err-repair-clause-stops
+returns-in_err-repair-clause-stops g c from there can = repaired-either from (c.repair.ensures.stops from there can)
+
+pub returns-in_err-mark-clause-stops : goal.returns-in_err-mark-clause-stops
+returns-in_err-mark-clause-stops g c from there can = inr (ends-stay (repaired-opens from (c.in_ok-repair.ensures.last from there can)) c.in_err-mark.ensures.stays)
+
+pub returns-clause-stops : goal.returns-clause-stops
+returns-clause-stops g c from there can = inr (ends-stay (repaired-opens from (c.in_ok-repair.ensures.last from there can)) c.in_ok-mark.ensures.stays)
+
+pub returns-clause-last : goal.returns-clause-last
+returns-clause-last g c from there can = ends-stay (repaired-opens from (c.in_ok-repair.ensures.last from there can)) c.in_ok-mark.ensures.stays
 
 pub returns-clause-opened : goal.returns-clause-opened
 returns-clause-opened g c from there can image here =

@@ -1,14 +1,14 @@
-use Rattle.std.proofs.Common.{◌≡◌, Some, sym, ap, subst, ◌∙◌}
+use Rattle.std.proofs.Common.{◌≡◌, Some, inl, sym, ap, subst, ◌∙◌}
 use Rattle.std.specs.Option.{ForSome}
 use Rattle.std.proofs.lemmas.Result.{IfOk-weaker, on_ok_weaker}
 use Rattle.blk_image.specs.Image.{Image}
 use Rattle.blk_image.specs.Told.{Stays, Told}
-use Rattle.blk_image.proofs.Runs.{passes_stayed, passes_weaker, some_inj}
+use Rattle.blk_image.proofs.Runs.{some_inj}
 use Rattle.blk_format.specs.BlockFiles.{first_damage, IsWellFormed}
 use Rattle.blk_io.specs.declared.fault.Damage.{Damage}
 use Rattle.blk_io.specs.Faults.{damage_of}
 use Rattle.blk_index.specs.Start.{IsFinished}
-use Rattle.blk_repair.specs.Repair.{EndsWithCrashWord}
+use Rattle.blk_repair.proofs.Endings.{either-stayed, either-weaker, ends-stayed, ends-weaker}
 use Rattle.blk_cache.specs.Opening.{IfOpenDamaged}
 use Rattle.blk_cache.proofs.CarriedFaults.{damaged-on, if-damaged, if-memory, open-damaged-weaker, open-damaged-where, open-memory-weaker}
 use Rattle.blk_scan.proofs.FirstDamages.{formed-of}
@@ -18,7 +18,7 @@ use Rattle.blk_cache.proofs.opening.open_finished.Goals as goal
 use Rattle.blk_cache.proofs.opening.open_finished.Goals.{After-open_loaded}
 
 pub returns-in_err-files-clause-stops : goal.returns-in_err-files-clause-stops
-returns-in_err-files-clause-stops g c from there fin = stayed-still from there c.in_err-files.ensures.stays
+returns-in_err-files-clause-stops g c from there fin = inl (stayed-still from there c.in_err-files.ensures.stays)
 
 pub returns-in_err-files-clause-damaged : goal.returns-in_err-files-clause-damaged
 returns-in_err-files-clause-damaged g c =
@@ -59,12 +59,13 @@ returns-clause-checked g c = on_ok_weaker c.open_loaded.result (λ _ from there 
 pub returns-clause-stops : goal.returns-clause-stops
 returns-clause-stops g c from there fin =
     let mid = c.open_loaded.ensures.stops from (ap (λ (t : Told). t.files) c.in_ok-files.ensures.stays ∙ there) (formed g c from there fin) in
-    passes_stayed c.in_ok-files.ensures.stays (passes_weaker mid (mid-still from) (mid-still from))
+    either-stayed c.in_ok-files.ensures.stays (either-weaker mid (mid-still from) (λ i stands. stands))
 
 pub returns-clause-last : goal.returns-clause-last
 returns-clause-last g c =
     on_ok_weaker c.open_loaded.result
-    (λ made from there fin. subst (λ (t : Told). EndsWithCrashWord t (g.F.Folder.told c.open_loaded.new.f)) c.in_ok-files.ensures.stays (made from (ap (λ (t : Told). t.files) c.in_ok-files.ensures.stays ∙ there) (formed g c from there fin))) c.open_loaded.ensures.last
+    (λ ends from there fin.
+    ends-stayed c.in_ok-files.ensures.stays (ends-weaker (ends from (ap (λ (t : Told). t.files) c.in_ok-files.ensures.stays ∙ there) (formed g c from there fin)) (mid-still from) (λ i stands. stands))) c.open_loaded.ensures.last
 
 -- a damage of a finished folder comes only where it tells nothing
 never : (g : given.Over) (c : After-open_loaded g) (P : Damage → Image → Type 0) → IfOpenDamaged c.open_loaded.result (λ damage. ForSome (g.F.Folder.told c.args.f.now).files (λ from. IsFinished from → P damage from))

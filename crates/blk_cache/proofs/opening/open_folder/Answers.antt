@@ -1,8 +1,7 @@
-use Rattle.std.proofs.Common.{inl, inr, sym, ap, subst, ◌∙◌}
+use Rattle.std.proofs.Common.{inl, inr, sym, ap, ◌∙◌}
 use Rattle.std.proofs.lemmas.Result.{IfOk-weaker, on_ok_weaker}
 use Rattle.blk_image.specs.Told.{Told, Stays}
-use Rattle.blk_image.proofs.Runs.{passes_stayed}
-use Rattle.blk_repair.specs.Repair.{EndsWithCrashWord}
+use Rattle.blk_repair.proofs.Endings.{either-stayed, ends-stayed}
 use Rattle.blk_cache.specs.Opened.{IsFirstDamage}
 use Rattle.blk_cache.proofs.CarriedFaults.{damaged-on, if-damaged, if-memory, no-memory, open-damaged-weaker, open-memory-weaker}
 use Rattle.blk_scan.proofs.FirstDamages.{length-checked, looked-as}
@@ -10,7 +9,7 @@ use Rattle.blk_cache.proofs.OpenRuns.{first-of_look, looking-as, stayed-still, u
 use Rattle.blk_cache.proofs.opening.open_folder.Goals as goal
 
 pub returns-in_err-look-clause-stops : goal.returns-in_err-look-clause-stops
-returns-in_err-look-clause-stops g c from there = stayed-still from there c.in_err-look.ensures.stays
+returns-in_err-look-clause-stops g c from there = inl (stayed-still from there c.in_err-look.ensures.stays)
 
 pub returns-in_err-look-clause-damaged : goal.returns-in_err-look-clause-damaged
 returns-in_err-look-clause-damaged g c =
@@ -29,7 +28,7 @@ pub open_new-requires : goal.open_new-requires
 open_new-requires g c = record { unfinished = λ i here. looked-as _ _ i c.in-Unfinished.is (c.in_ok-look.ensures.looked i (sym (ap (λ (t : Told). t.files) c.in_ok-look.ensures.stays) ∙ here)) }
 
 pub returns-in_err-open_new-in-Unfinished-clause-stops : goal.returns-in_err-open_new-in-Unfinished-clause-stops
-returns-in_err-open_new-in-Unfinished-clause-stops g c from there = passes_stayed c.in_ok-look.ensures.stays (c.open_new.ensures.stops from (ap (λ (t : Told). t.files) c.in_ok-look.ensures.stays ∙ there))
+returns-in_err-open_new-in-Unfinished-clause-stops g c from there = either-stayed c.in_ok-look.ensures.stays (c.open_new.ensures.stops from (ap (λ (t : Told). t.files) c.in_ok-look.ensures.stays ∙ there))
 
 pub returns-in_err-open_new-in-Unfinished-clause-damaged : goal.returns-in_err-open_new-in-Unfinished-clause-damaged
 returns-in_err-open_new-in-Unfinished-clause-damaged g c =
@@ -57,11 +56,11 @@ pub returns-in_ok-open_new-in-Unfinished-clause-checked : goal.returns-in_ok-ope
 returns-in_ok-open_new-in-Unfinished-clause-checked g c from there = inl (looked-as _ _ from c.in-Unfinished.is (c.in_ok-look.ensures.looked from there))
 
 pub returns-in_ok-open_new-in-Unfinished-clause-stops : goal.returns-in_ok-open_new-in-Unfinished-clause-stops
-returns-in_ok-open_new-in-Unfinished-clause-stops g c from there = passes_stayed c.in_ok-look.ensures.stays (c.open_new.ensures.stops from (ap (λ (t : Told). t.files) c.in_ok-look.ensures.stays ∙ there))
+returns-in_ok-open_new-in-Unfinished-clause-stops g c from there = either-stayed c.in_ok-look.ensures.stays (c.open_new.ensures.stops from (ap (λ (t : Told). t.files) c.in_ok-look.ensures.stays ∙ there))
 
 pub returns-in_ok-open_new-in-Unfinished-clause-last : goal.returns-in_ok-open_new-in-Unfinished-clause-last
 returns-in_ok-open_new-in-Unfinished-clause-last g c from there =
-    subst (λ (t : Told). EndsWithCrashWord t (g.F.Folder.told c.open_new.new.f)) c.in_ok-look.ensures.stays (c.in_ok-open_new-in-Unfinished.ensures.last from (ap (λ (t : Told). t.files) c.in_ok-look.ensures.stays ∙ there))
+    ends-stayed c.in_ok-look.ensures.stays (c.in_ok-open_new-in-Unfinished.ensures.last from (ap (λ (t : Told). t.files) c.in_ok-look.ensures.stays ∙ there))
 
 pub open_finished-requires : goal.open_finished-requires
 open_finished-requires g c = record {
@@ -82,12 +81,12 @@ returns-in-Finished-clause-checked g c =
 
 pub returns-in-Finished-clause-stops : goal.returns-in-Finished-clause-stops
 returns-in-Finished-clause-stops g c from there =
-    passes_stayed c.in_ok-look.ensures.stays (c.open_finished.ensures.stops from (ap (λ (t : Told). t.files) c.in_ok-look.ensures.stays ∙ there) (looked-as _ _ from c.in-Finished.is (c.in_ok-look.ensures.looked from there)))
+    either-stayed c.in_ok-look.ensures.stays (c.open_finished.ensures.stops from (ap (λ (t : Told). t.files) c.in_ok-look.ensures.stays ∙ there) (looked-as _ _ from c.in-Finished.is (c.in_ok-look.ensures.looked from there)))
 
 pub returns-in-Finished-clause-last : goal.returns-in-Finished-clause-last
 returns-in-Finished-clause-last g c =
     on_ok_weaker c.open_finished.result
-    (λ made from there. subst (λ (t : Told). EndsWithCrashWord t (g.F.Folder.told c.open_finished.new.f)) c.in_ok-look.ensures.stays (made from (ap (λ (t : Told). t.files) c.in_ok-look.ensures.stays ∙ there) (looked-as _ _ from c.in-Finished.is (c.in_ok-look.ensures.looked from there)))) c.open_finished.ensures.last
+    (λ made from there. ends-stayed c.in_ok-look.ensures.stays (made from (ap (λ (t : Told). t.files) c.in_ok-look.ensures.stays ∙ there) (looked-as _ _ from c.in-Finished.is (c.in_ok-look.ensures.looked from there)))) c.open_finished.ensures.last
 
 pub returns-in-Finished-clause-first : goal.returns-in-Finished-clause-first
 returns-in-Finished-clause-first g c =

@@ -1,12 +1,28 @@
 use Rattle.std.proofs.Common.{inr, inl, sym, ap, ◌∙◌}
 use Rattle.blk_image.specs.Told.{Told}
+use Rattle.blk_repair.proofs.Endings.{either-stayed, ends-stayed}
 use Rattle.blk_cache.specs.Opened.{IsOpeningDamage}
 use Rattle.blk_cache.proofs.CarriedFaults.{damaged-on, if-memory, open-damaged-weaker, scan-damaged-on}
 use Rattle.blk_cache.proofs.OpenRuns.{scanned-can, stayed-mid, untold-as}
 use Rattle.blk_cache.proofs.opening.open_loaded.Goals as goal
 
 pub returns-in_err-scan-clause-stops : goal.returns-in_err-scan-clause-stops
-returns-in_err-scan-clause-stops g c from there well = stayed-mid from there well c.in_err-scan.ensures.stays
+returns-in_err-scan-clause-stops g c from there well = inl (stayed-mid from there well c.in_err-scan.ensures.stays)
+
+pub returns-in_err-mend-clause-stops : goal.returns-in_err-mend-clause-stops
+returns-in_err-mend-clause-stops g c from there well =
+    either-stayed c.in_ok-scan.ensures.stays
+    (c.mend.ensures.stops from (ap (λ (t : Told). t.files) c.in_ok-scan.ensures.stays ∙ there) (scanned-can c.args.files c.in_ok-scan.scan from well (c.requires.is_open from there) (c.in_ok-scan.ensures.scanned from there)))
+
+pub returns-clause-stops : goal.returns-clause-stops
+returns-clause-stops g c from there well =
+    either-stayed c.in_ok-scan.ensures.stays
+    (c.mend.ensures.stops from (ap (λ (t : Told). t.files) c.in_ok-scan.ensures.stays ∙ there) (scanned-can c.args.files c.in_ok-scan.scan from well (c.requires.is_open from there) (c.in_ok-scan.ensures.scanned from there)))
+
+pub returns-clause-last : goal.returns-clause-last
+returns-clause-last g c from there well =
+    ends-stayed c.in_ok-scan.ensures.stays
+    (c.in_ok-mend.ensures.last from (ap (λ (t : Told). t.files) c.in_ok-scan.ensures.stays ∙ there) (scanned-can c.args.files c.in_ok-scan.scan from well (c.requires.is_open from there) (c.in_ok-scan.ensures.scanned from there)))
 
 pub returns-in_err-scan-clause-damaged : goal.returns-in_err-scan-clause-damaged
 returns-in_err-scan-clause-damaged g c =

@@ -1,15 +1,14 @@
-use Rattle.std.proofs.Common.{sym, ap, subst, ◌∙◌}
+use Rattle.std.proofs.Common.{inl, sym, ap, ◌∙◌}
 use Rattle.std.proofs.lemmas.Result.{IfOk-weaker, on_ok_weaker}
 use Rattle.blk_image.specs.Told.{Told}
-use Rattle.blk_image.proofs.Runs.{passes_stayed}
 use Rattle.blk_io.proofs.Carried.{if_damaged_weaker}
-use Rattle.blk_repair.specs.Repair.{EndsWithCrashWord}
+use Rattle.blk_repair.proofs.Endings.{either-stayed, ends-stayed}
 use Rattle.blk_cache.proofs.CreationTimes.{made-needs}
 use Rattle.blk_cache.proofs.OpenRuns.{empty-stands, load-untold, loading-damage, made-can, made-formed, stayed-mid, untold-on}
 use Rattle.blk_cache.proofs.opening.open_made.Goals as goal
 
 pub returns-in_err-files-clause-stops : goal.returns-in_err-files-clause-stops
-returns-in_err-files-clause-stops g c from there made = stayed-mid from there (made-formed from made) c.in_err-files.ensures.stays
+returns-in_err-files-clause-stops g c from there made = inl (stayed-mid from there (made-formed from made) c.in_err-files.ensures.stays)
 
 pub returns-in_err-files-clause-damaged : goal.returns-in_err-files-clause-damaged
 returns-in_err-files-clause-damaged g c =
@@ -34,12 +33,12 @@ returns-clause-opened g c =
 
 pub returns-clause-stops : goal.returns-clause-stops
 returns-clause-stops g c from there made =
-    passes_stayed c.in_ok-files.ensures.stays (c.mend.ensures.stops from (ap (λ (t : Told). t.files) c.in_ok-files.ensures.stays ∙ there) (made-can c.empty.result from made c.empty.ensures))
+    either-stayed c.in_ok-files.ensures.stays (c.mend.ensures.stops from (ap (λ (t : Told). t.files) c.in_ok-files.ensures.stays ∙ there) (made-can c.empty.result from made c.empty.ensures))
 
 pub returns-clause-last : goal.returns-clause-last
 returns-clause-last g c =
     on_ok_weaker c.mend.result
-    (λ ends from there made. subst (λ (t : Told). EndsWithCrashWord t (g.F.Folder.told c.mend.new.f)) c.in_ok-files.ensures.stays (ends from (ap (λ (t : Told). t.files) c.in_ok-files.ensures.stays ∙ there) (made-can c.empty.result from made c.empty.ensures))) c.mend.ensures.last
+    (λ ends from there made. ends-stayed c.in_ok-files.ensures.stays (ends from (ap (λ (t : Told). t.files) c.in_ok-files.ensures.stays ∙ there) (made-can c.empty.result from made c.empty.ensures))) c.mend.ensures.last
 
 pub returns-clause-untold : goal.returns-clause-untold
 returns-clause-untold g c all =

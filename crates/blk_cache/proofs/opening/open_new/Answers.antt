@@ -1,25 +1,25 @@
-use Rattle.std.proofs.Common.{◌≡◌, ◌∙◌, Some}
+use Rattle.std.proofs.Common.{◌≡◌, ◌∙◌, Some, inl}
 use Rattle.std.proofs.lemmas.Result.{IfOk-weaker, on_ok_weaker}
 use Rattle.blk_image.specs.Image.{Image}
 use Rattle.blk_image.specs.Told.{Passes}
-use Rattle.blk_image.proofs.Runs.{passes_then, passes_weaker}
+use Rattle.blk_image.proofs.Runs.{passes_end}
 use Rattle.blk_format.proofs.Finished.{whole_index}
 use Rattle.blk_io.proofs.Carried.{if_damaged_weaker}
-use Rattle.blk_format.specs.NewFolder.{new_index_words}
-use Rattle.blk_index.specs.Making.{folder_steps}
-use Rattle.blk_repair.proofs.CrashWord.{then-ends}
+use Rattle.blk_repair.specs.Endings.{BreaksOff}
+use Rattle.blk_repair.proofs.Endings.{either-then, either-weaker, ends-then, ends-weaker}
 use Rattle.blk_repair.proofs.RepairRuns.{none-before, still-told}
-use Rattle.blk_cache.proofs.MakingSteps.{spare-folder}
+use Rattle.blk_cache.proofs.MakingRuns.{making-breaks}
 use Rattle.blk_cache.specs.Opened.{IsJustMade}
 use Rattle.blk_cache.specs.Opening.{HoldsStill}
 use Rattle.blk_cache.proofs.CreationTimes.{made-moment}
-use Rattle.blk_cache.proofs.OpenRuns.{made-formed, made-opened, made-still, making-still, passes-silent}
+use Rattle.blk_cache.proofs.OpenRuns.{made-formed, made-opened, made-stands, made-still, making-still, passes-silent}
 use Rattle.blk_cache.proofs.opening.open_new.Given as given
 use Rattle.blk_cache.proofs.opening.open_new.Goals as goal
 use Rattle.blk_cache.proofs.opening.open_new.Goals.{After-open_made}
 
 pub returns-in_err-make-clause-stops : goal.returns-in_err-make-clause-stops
-returns-in_err-make-clause-stops g c from there = making-still from c.args.moment (c.requires.unfinished from there) c.make.ensures.stops
+returns-in_err-make-clause-stops g c from there =
+    inl (making-breaks from c.args.moment there (c.requires.unfinished from there) (passes_end (making-still from c.args.moment (c.requires.unfinished from there) c.make.ensures.stops)) c.make.ensures.prefix)
 
 pub returns-in_err-make-clause-silent : goal.returns-in_err-make-clause-silent
 returns-in_err-make-clause-silent g c none = passes-silent c.make.ensures.stops none
@@ -30,6 +30,9 @@ open_made-requires g c = record { complete = λ i here. whole_index i (made-form
 module _ (g : given.Over) (c : After-open_made g) (from : Image) (there : (g.F.Folder.told c.args.f.now).files ≡ Some from) where
   abbrev first : Passes (g.F.Folder.told c.args.f.now) (g.F.Folder.told c.make.new.f) (HoldsStill from)
   first = making-still from c.args.moment (c.requires.unfinished from there) c.make.ensures.stops
+
+  broken : BreaksOff (g.F.Folder.told c.args.f.now) (g.F.Folder.told c.make.new.f) (HoldsStill from)
+  broken = making-breaks from c.args.moment there (c.requires.unfinished from there) (passes_end first) c.make.ensures.prefix
 
   abbrev mid : Image
   mid = (still-told from there first).0
@@ -46,16 +49,18 @@ returns-clause-opened g c =
 
 pub returns-clause-stops : goal.returns-clause-stops
 returns-clause-stops g c from there =
-    let still = made-still from (mid g c from there) in
-    passes_then (first g c from there)
-    (passes_weaker (c.open_made.ensures.stops (mid g c from there) (here g c from there) (made g c from there)) (λ i. still i (c.requires.unfinished from there) (made g c from there)) (λ i. still i (c.requires.unfinished from there) (made g c from there)))
+    let un = c.requires.unfinished from there in
+    let is = made g c from there in
+    either-then (broken g c from there)
+    (either-weaker (c.open_made.ensures.stops (mid g c from there) (here g c from there) is) (λ i. made-still from (mid g c from there) i un is) (λ i. made-stands from (mid g c from there) i un is))
 
 pub returns-clause-last : goal.returns-clause-last
 returns-clause-last g c =
     on_ok_weaker c.open_made.result
     (λ ends from there.
-    let making = c.in_ok-make.ensures.steps in
-    then-ends (g.F.Folder.told c.open_made.new.f) (folder_steps making.deleted (new_index_words c.args.moment)) from there making.applies (spare-folder making.deleted c.args.moment) (λ i now. ends i now (c.args.moment, c.in_ok-make.ensures.made i now))) c.open_made.ensures.last
+    let un = c.requires.unfinished from there in
+    let is = made g c from there in
+    ends-then (broken g c from there) (ends-weaker (ends (mid g c from there) (here g c from there) is) (λ i. made-still from (mid g c from there) i un is) (λ i. made-stands from (mid g c from there) i un is))) c.open_made.ensures.last
 
 pub returns-clause-untold : goal.returns-clause-untold
 returns-clause-untold g c =

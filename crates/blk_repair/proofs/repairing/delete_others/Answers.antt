@@ -1,24 +1,25 @@
 use Rattle.std.proofs.Common.{◌∙◌}
 use Rattle.std.proofs.lemmas.Result.{on_ok_weaker}
-use Rattle.blk_image.proofs.Runs.{passes_weaker}
 use Rattle.blk_repair.specs.Deletions.{Deletes, is_unclaimed, is_unlinked, last_block_file, last_first_file}
+use Rattle.blk_repair.proofs.EndingRuns.{deletions-break}
+use Rattle.blk_repair.proofs.Endings.{breaks-weaker}
 use Rattle.blk_repair.proofs.PartRuns.{deletes-made, in-turn}
-use Rattle.blk_repair.proofs.RepairRuns.{deletion-mid, deletions-done, deletions-stop, here-still}
+use Rattle.blk_repair.proofs.RepairRuns.{deletion-mid, deletions-done, here-still}
 use Rattle.blk_repair.proofs.repairing.delete_others.Goals as goal
 
 pub returns-in_err-delete_unlinked-clause-stops : goal.returns-in_err-delete_unlinked-clause-stops
-returns-in_err-delete_unlinked-clause-stops g c from there entry next = passes_weaker (c.delete_unlinked.ensures.stops from there entry next.holds) (deletion-mid entry from) (deletion-mid entry from)
+returns-in_err-delete_unlinked-clause-stops g c from there entry next = breaks-weaker (c.delete_unlinked.ensures.stops from there entry next.holds) (deletion-mid entry from)
 
 pub returns-clause-mended : goal.returns-clause-mended
 returns-clause-mended g c =
     on_ok_weaker c.delete_unclaimed.result
     (λ claimed from there entry next.
-    deletions-done c.args.claims.now (g.F.Folder.told c.args.f.now) (g.F.Folder.told c.delete_unlinked.new.f) (g.F.Folder.told c.delete_unclaimed.new.f) entry from there next (c.delete_unlinked.ensures.stops from there entry next.holds) c.delete_unclaimed.ensures.stops
-    c.in_ok-delete_unlinked.ensures.linked claimed) c.delete_unclaimed.ensures.claimed
+    deletions-done c.args.claims.now (g.F.Folder.told c.args.f.now) (g.F.Folder.told c.delete_unlinked.new.f) (g.F.Folder.told c.delete_unclaimed.new.f) entry from there next (c.delete_unlinked.ensures.stops from there entry next.holds).passes
+    (λ mid here entry rest. (c.delete_unclaimed.ensures.stops mid here entry rest).passes) c.in_ok-delete_unlinked.ensures.linked claimed) c.delete_unclaimed.ensures.claimed
 
 pub returns-clause-stops : goal.returns-clause-stops
 returns-clause-stops g c from there entry next =
-    deletions-stop c.args.claims.now (g.F.Folder.told c.args.f.now) (g.F.Folder.told c.delete_unlinked.new.f) (g.F.Folder.told c.delete_unclaimed.new.f) entry from there next (c.delete_unlinked.ensures.stops from there entry next.holds) c.delete_unclaimed.ensures.stops
+    deletions-break c.args.claims.now (g.F.Folder.told c.args.f.now) (g.F.Folder.told c.delete_unlinked.new.f) (g.F.Folder.told c.delete_unclaimed.new.f) entry from there next (c.delete_unlinked.ensures.stops from there entry next.holds) c.delete_unclaimed.ensures.stops
 
 pub returns-clause-is_open : goal.returns-clause-is_open
 returns-clause-is_open g c = c.delete_unclaimed.ensures.is_open c.args.files.now c.delete_unlinked.ensures.is_open

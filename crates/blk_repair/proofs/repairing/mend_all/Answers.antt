@@ -5,24 +5,30 @@ use Rattle.blk_image.specs.Told.{Told, Applies}
 use Rattle.blk_io.proofs.Carried.{if_damaged_weaker, told_at_end}
 use Rattle.blk_repair.specs.Parts.{InTurn}
 use Rattle.blk_repair.specs.Repair.{AreLinksMended, IsRepairedFor, MendsFiles, MendsLinks, MendsRest, counting_steps}
+use Rattle.blk_repair.proofs.EndingRuns.{joined-either, joined-ends}
 use Rattle.blk_repair.proofs.PartRuns.{in-turn}
-use Rattle.blk_repair.proofs.RepairRuns.{here-still, joined, led, none-before, still-told}
+use Rattle.blk_repair.proofs.RepairRuns.{here-still, led, none-before, still-told}
 use Rattle.blk_repair.proofs.repairing.mend_all.Goals as goal
 
 pub returns-clause-mended : goal.returns-clause-mended
 returns-clause-mended g c =
     on_ok_weaker c.mend_behind.result
     (λ made from there is.
-    led (g.F.Folder.told c.mend_behind.new.f) (AreLinksMended c.args.scan.now from) (IsRepairedFor c.args.this_id from) from there (c.mend_links.ensures.stops from there is) (c.in_ok-mend_links.ensures.mended from there is) (λ mid here next. made mid here from next))
+    led (g.F.Folder.told c.mend_behind.new.f) (AreLinksMended c.args.scan.now from) (IsRepairedFor c.args.this_id from) from there (c.mend_links.ensures.stops from there is).passes (c.in_ok-mend_links.ensures.mended from there is) (λ mid here next. made mid here from next))
     c.mend_behind.ensures.mended
 
 pub returns-clause-stops : goal.returns-clause-stops
-returns-clause-stops g c from there is = joined (AreLinksMended c.args.scan.now from) from there (c.mend_links.ensures.stops from there is) (c.in_ok-mend_links.ensures.mended from there is) (λ mid here next. c.mend_behind.ensures.stops mid here from next)
+returns-clause-stops g c from there is = joined-either (AreLinksMended c.args.scan.now from) from there (c.mend_links.ensures.stops from there is) (c.in_ok-mend_links.ensures.mended from there is) (λ mid here next. c.mend_behind.ensures.stops mid here from next)
+
+pub returns-clause-last : goal.returns-clause-last
+returns-clause-last g c =
+    on_ok_weaker c.mend_behind.result
+    (λ ends from there is. joined-ends (AreLinksMended c.args.scan.now from) from there (c.mend_links.ensures.stops from there is) (c.in_ok-mend_links.ensures.mended from there is) (λ mid here next. ends mid here from next)) c.mend_behind.ensures.last
 
 pub returns-clause-untold : goal.returns-clause-untold
 returns-clause-untold g c all =
     if_damaged_weaker c.mend_behind.result _ _
-    (λ damage none. none-before (g.F.Folder.told c.args.f.now) (g.F.Folder.told c.mend_links.new.f) (λ from there. still-told from there (c.mend_links.ensures.stops from there (all from there))) none)
+    (λ damage none. none-before (g.F.Folder.told c.args.f.now) (g.F.Folder.told c.mend_links.new.f) (λ from there. still-told from there (c.mend_links.ensures.stops from there (all from there)).passes) none)
     (c.mend_behind.ensures.untold
     (told_at_end (g.F.Folder.told c.args.f.now).files (g.F.Folder.told c.mend_links.new.f).files (λ mid. (entry : Image) × AreLinksMended c.args.scan.now entry mid) c.mend_links.ensures.silent
     (λ from there mid here. (from, c.in_ok-mend_links.ensures.mended from there (all from there) mid here))))

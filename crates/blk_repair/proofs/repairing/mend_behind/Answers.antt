@@ -2,20 +2,22 @@ use Rattle.std.proofs.Common.{◌≡◌, Some, subst}
 use Rattle.std.proofs.lemmas.Result.{on_ok_weaker}
 use Rattle.std.specs.Option.{ForSome}
 use Rattle.blk_image.specs.Image.{Image}
-use Rattle.blk_image.specs.Told.{Told, Applies, Passes}
+use Rattle.blk_image.specs.Told.{Told, Applies}
 use Rattle.blk_io.proofs.Carried.{if_damaged_weaker, told_at_end}
 use Rattle.blk_repair_laws.specs.MendedChanges.{IsMidRepair}
 use Rattle.blk_addr.specs.declared.claim_set.Claims.{Claims}
+use Rattle.blk_repair.specs.Endings.{BreaksOff}
 use Rattle.blk_repair.specs.Parts.{AppliesOf}
 use Rattle.blk_repair.specs.Repair.{AreLinksMended, IsNextFinished, IsRepairedFor, MendsFiles, MendsRest, counting_steps}
+use Rattle.blk_repair.proofs.EndingRuns.{joined-either, joined-ends}
 use Rattle.blk_repair.proofs.PartRuns.{in-turn}
-use Rattle.blk_repair.proofs.RepairRuns.{files-next, finished-next, here-still, joined, led, none-before, still-told}
+use Rattle.blk_repair.proofs.RepairRuns.{files-next, finished-next, here-still, led, none-before, still-told}
 use Rattle.blk_repair.proofs.repairing.mend_behind.Given as given
 use Rattle.blk_repair.proofs.repairing.mend_behind.Goals as goal
 
 module _ (g : given.Over) (c : goal.After-mend_rest g) (from : Image) (there : (g.F.Folder.told c.args.f.now).files ≡ Some from) (entry : Image) (links : AreLinksMended c.args.scan.now entry from) where
   -- the files were mended
-  first : Passes (g.F.Folder.told c.args.f.now) (g.F.Folder.told c.mend_store.new.f) (IsMidRepair entry)
+  first : BreaksOff (g.F.Folder.told c.args.f.now) (g.F.Folder.told c.mend_store.new.f) (IsMidRepair entry)
   first = c.mend_store.ensures.stops from there entry (files-next c.args.scan.now c.claims.result.now c.claims.ensures entry from links)
 
   -- and the rest is next
@@ -27,16 +29,21 @@ pub returns-clause-mended : goal.returns-clause-mended
 returns-clause-mended g c =
     on_ok_weaker c.mend_rest.result
     (λ made from there entry links.
-    led (g.F.Folder.told c.mend_rest.new.f) (IsNextFinished c.args.scan.now entry) (IsRepairedFor c.args.this_id entry) from there (first g c from there entry links) (handed g c from there entry links) (λ mid here next. made mid here entry next))
+    led (g.F.Folder.told c.mend_rest.new.f) (IsNextFinished c.args.scan.now entry) (IsRepairedFor c.args.this_id entry) from there (first g c from there entry links).passes (handed g c from there entry links) (λ mid here next. made mid here entry next))
     c.mend_rest.ensures.mended
 
 pub returns-clause-stops : goal.returns-clause-stops
-returns-clause-stops g c from there entry links = joined (IsNextFinished c.args.scan.now entry) from there (first g c from there entry links) (handed g c from there entry links) (λ mid here next. c.mend_rest.ensures.stops mid here entry next)
+returns-clause-stops g c from there entry links = joined-either (IsNextFinished c.args.scan.now entry) from there (first g c from there entry links) (handed g c from there entry links) (λ mid here next. c.mend_rest.ensures.stops mid here entry next)
+
+pub returns-clause-last : goal.returns-clause-last
+returns-clause-last g c =
+    on_ok_weaker c.mend_rest.result
+    (λ ends from there entry links. joined-ends (IsNextFinished c.args.scan.now entry) from there (first g c from there entry links) (handed g c from there entry links) (λ mid here next. ends mid here entry next)) c.mend_rest.ensures.last
 
 pub returns-clause-untold : goal.returns-clause-untold
 returns-clause-untold g c some =
     if_damaged_weaker c.mend_rest.result _ _
-    (λ damage none. none-before (g.F.Folder.told c.args.f.now) (g.F.Folder.told c.mend_store.new.f) (λ from there. still-told from there (first g c from there (some from there).0 (some from there).1)) none)
+    (λ damage none. none-before (g.F.Folder.told c.args.f.now) (g.F.Folder.told c.mend_store.new.f) (λ from there. still-told from there (first g c from there (some from there).0 (some from there).1).passes) none)
     (c.mend_rest.ensures.untold
     (told_at_end (g.F.Folder.told c.args.f.now).files (g.F.Folder.told c.mend_store.new.f).files (λ mid. (entry : Image) × IsNextFinished c.args.scan.now entry mid) c.mend_store.ensures.silent
     (λ from there mid here. ((some from there).0, handed g c from there (some from there).0 (some from there).1 mid here))))

@@ -6,26 +6,34 @@ use Rattle.blk_image.specs.Told.{Applies, Passes}
 use Rattle.blk_io.proofs.Carried.{if_damaged_weaker, told_at_end}
 use Rattle.blk_repair_laws.specs.ChainRepair.{chain_repair_steps}
 use Rattle.blk_repair_laws.specs.ListRepair.{HoldsTheSame, IsListMended, list_repair_steps}
+use Rattle.blk_repair_laws.proofs.MendedChanges.{holds-mid}
+use Rattle.blk_repair.specs.Endings.{BreaksOff}
 use Rattle.blk_repair.specs.Parts.{Exactly}
 use Rattle.blk_repair.specs.Removals.{IsListScanned}
 use Rattle.blk_repair.specs.Repair.{AreBucketsScanned, IsRepairable}
+use Rattle.blk_repair.proofs.EndingRuns.{links-break, list-breaks}
+use Rattle.blk_repair.proofs.Endings.{breaks-weaker}
 use Rattle.blk_repair.proofs.ListRuns.{steps-are}
 use Rattle.blk_repair.proofs.PartRuns.{exactly-made, in-turn}
-use Rattle.blk_repair.proofs.RepairRuns.{can-write, chains-next, here-still, links-done, links-stops, list-clean, list-scanned, list-stops, none-before, still-told}
+use Rattle.blk_repair.proofs.RepairRuns.{can-write, chains-next, here-still, links-done, list-clean, list-scanned, none-before, still-told}
 use Rattle.blk_repair.proofs.repairing.mend_links.Given as given
 use Rattle.blk_repair.proofs.repairing.mend_links.Goals as goal
 
 pub returns-in_err-mend_list-clause-stops : goal.returns-in_err-mend_list-clause-stops
 returns-in_err-mend_list-clause-stops g c from there is =
-    list-stops c.args.scan.now (g.F.Folder.told c.args.f.now) (g.F.Folder.told c.mend_list.new.f) from there is
-    (c.mend_list.ensures.stops from there
-    (list-scanned c.args.scan.now c.walked_nodes.result.now c.kept_nodes.result.now from c.walked_nodes.ensures c.kept_nodes.ensures (can-write c.args.files.now from (g.met.F.Folder.are_bytes c.args.f.now from there) (c.requires.is_open from there)) is))
+    breaks-weaker
+    (list-breaks (g.F.Folder.told c.args.f.now) (g.F.Folder.told c.mend_list.new.f) c.walked_nodes.result.now c.kept_nodes.result.now from there
+    (list-scanned c.args.scan.now c.walked_nodes.result.now c.kept_nodes.result.now from c.walked_nodes.ensures c.kept_nodes.ensures (can-write c.args.files.now from (g.met.F.Folder.are_bytes c.args.f.now from there) (c.requires.is_open from there)) is)
+    c.mend_list.ensures.prefix) (holds-mid from)
 
 module _ (g : given.Over) (c : goal.After-mend_buckets g) (from : Image) (there : (g.F.Folder.told c.args.f.now).files ≡ Some from) (is : IsRepairable c.args.scan.now from) where
   scanned : IsListScanned c.walked_nodes.result.now c.kept_nodes.result.now from
   scanned =
       list-scanned c.args.scan.now c.walked_nodes.result.now c.kept_nodes.result.now from c.walked_nodes.ensures c.kept_nodes.ensures (can-write c.args.files.now from (g.met.F.Folder.are_bytes c.args.f.now from there) (c.requires.is_open from there))
       is
+
+  first : BreaksOff (g.F.Folder.told c.args.f.now) (g.F.Folder.told c.mend_list.new.f) (HoldsTheSame from)
+  first = list-breaks (g.F.Folder.told c.args.f.now) (g.F.Folder.told c.mend_list.new.f) c.walked_nodes.result.now c.kept_nodes.result.now from there scanned c.mend_list.ensures.prefix
 
   held : Passes (g.F.Folder.told c.args.f.now) (g.F.Folder.told c.mend_list.new.f) (HoldsTheSame from)
   held = c.mend_list.ensures.stops from there scanned
@@ -37,12 +45,13 @@ pub returns-clause-mended : goal.returns-clause-mended
 returns-clause-mended g c =
     on_ok_weaker c.mend_buckets.result
     (λ made from there is.
-    links-done c.args.scan.now (g.F.Folder.told c.args.f.now) (g.F.Folder.told c.mend_list.new.f) from there is (held g c from there is) (mended g c from there is) (g.F.Folder.told c.mend_buckets.new.f) c.mend_buckets.ensures.stops made)
+    links-done c.args.scan.now (g.F.Folder.told c.args.f.now) (g.F.Folder.told c.mend_list.new.f) from there is (held g c from there is) (mended g c from there is) (g.F.Folder.told c.mend_buckets.new.f)
+    (λ mid here scanned. (c.mend_buckets.ensures.stops mid here scanned).passes) made)
     c.mend_buckets.ensures.mended
 
 pub returns-clause-stops : goal.returns-clause-stops
 returns-clause-stops g c from there is =
-    links-stops c.args.scan.now (g.F.Folder.told c.args.f.now) (g.F.Folder.told c.mend_list.new.f) from there is (held g c from there is) (mended g c from there is) (g.F.Folder.told c.mend_buckets.new.f) c.mend_buckets.ensures.stops
+    links-break c.args.scan.now (g.F.Folder.told c.args.f.now) (g.F.Folder.told c.mend_list.new.f) (g.F.Folder.told c.mend_buckets.new.f) from there is (first g c from there is) (mended g c from there is) c.mend_buckets.ensures.stops
 
 pub returns-clause-untold : goal.returns-clause-untold
 returns-clause-untold g c all =

@@ -1,17 +1,19 @@
-use Rattle.std.proofs.Common.{◌∙◌, ap, ◌%◌, ◌^◌, ℕ}
+use Rattle.std.proofs.Common.{◌∙◌, ap, ◌%◌, ◌^◌, ℕ, inl}
 use Rattle.std.proofs.lemmas.Result.{on_ok_weaker}
 use Rattle.blk_io.proofs.Carried.{if_damaged_weaker}
 use Rattle.blk_repair.specs.Counters.{index_steps}
 use Rattle.blk_repair.proofs.CounterRuns.{index-open}
+use Rattle.blk_repair.proofs.EndingRuns.{rest-ends, rest-may, seals-break}
+use Rattle.blk_repair.proofs.Endings.{breaks-weaker}
 use Rattle.blk_repair.proofs.PartRuns.{rest-made}
 use Rattle.blk_repair.proofs.Progress.{stays-open}
-use Rattle.blk_repair.proofs.RepairRuns.{none-before, on_ok-both, rest-clean, rest-done, rest-stops, seals-next, seals-stop, still-told}
+use Rattle.blk_repair.proofs.RepairRuns.{links-mid, none-before, on_ok-both, rest-clean, rest-done, seals-next, still-told}
 use Rattle.blk_repair.proofs.repairing.mend_rest.Goals as goal
 
 pub returns-in_err-seal_records-clause-stops : goal.returns-in_err-seal_records-clause-stops
 returns-in_err-seal_records-clause-stops g c from there entry next =
-    seals-stop c.args.scan.now c.bare.result.now c.bare.ensures (g.F.Folder.told c.args.f.now) (g.F.Folder.told c.seal_records.new.f) entry from there next
-    (c.seal_records.ensures.stops from there entry (seals-next c.args.scan.now c.bare.result.now c.bare.ensures entry from next))
+    inl (breaks-weaker
+    (seals-break (g.F.Folder.told c.args.f.now) (g.F.Folder.told c.seal_records.new.f) c.bare.result.now entry from there (seals-next c.args.scan.now c.bare.result.now c.bare.ensures entry from next) c.seal_records.ensures.prefix.made) (links-mid entry))
 
 pub returns-clause-mended : goal.returns-clause-mended
 returns-clause-mended g c =
@@ -24,8 +26,19 @@ returns-clause-mended g c =
 
 pub returns-clause-stops : goal.returns-clause-stops
 returns-clause-stops g c from there entry next =
-    rest-stops c.args.scan.now c.bare.result.now c.bare.ensures (g.F.Folder.told c.args.f.now) (g.F.Folder.told c.seal_records.new.f) entry from there next
-    (c.seal_records.ensures.stops from there entry (seals-next c.args.scan.now c.bare.result.now c.bare.ensures entry from next)) (g.F.Folder.told c.mend_index.new.f) c.mend_index.ensures.stops
+    rest-may c.args.scan.now c.bare.result.now c.bare.ensures (g.F.Folder.told c.args.f.now) (g.F.Folder.told c.seal_records.new.f) (g.F.Folder.told c.mend_index.new.f) entry from there next
+    (seals-break (g.F.Folder.told c.args.f.now) (g.F.Folder.told c.seal_records.new.f) c.bare.result.now entry from there (seals-next c.args.scan.now c.bare.result.now c.bare.ensures entry from next) c.seal_records.ensures.prefix.made)
+    c.low_word-items.result c.low_word-bytes.result c.args.this_id (c.low_word-items.ensures ∙ ap (λ (n : ℕ). n % 2 ^ 32) c.items.ensures) (c.low_word-bytes.ensures ∙ ap (λ (n : ℕ). n % 2 ^ 32) c.bytes.ensures) c.ranges.this_id.fits
+    (λ mid here. (c.seal_records.ensures.is_open mid here).whole_index) (c.in_ok-seal_records.ensures.sealed from there entry (seals-next c.args.scan.now c.bare.result.now c.bare.ensures entry from next)) c.mend_index.ensures.prefix.made
+
+pub returns-clause-last : goal.returns-clause-last
+returns-clause-last g c =
+    on_ok_weaker c.mend_index.result
+    (λ made from there entry next.
+    rest-ends c.args.scan.now c.bare.result.now c.bare.ensures (g.F.Folder.told c.args.f.now) (g.F.Folder.told c.seal_records.new.f) (g.F.Folder.told c.mend_index.new.f) entry from there next
+    (seals-break (g.F.Folder.told c.args.f.now) (g.F.Folder.told c.seal_records.new.f) c.bare.result.now entry from there (seals-next c.args.scan.now c.bare.result.now c.bare.ensures entry from next) c.seal_records.ensures.prefix.made)
+    c.low_word-items.result c.low_word-bytes.result c.args.this_id (c.low_word-items.ensures ∙ ap (λ (n : ℕ). n % 2 ^ 32) c.items.ensures) (c.low_word-bytes.ensures ∙ ap (λ (n : ℕ). n % 2 ^ 32) c.bytes.ensures) c.ranges.this_id.fits
+    (λ mid here. (c.seal_records.ensures.is_open mid here).whole_index) (c.in_ok-seal_records.ensures.sealed from there entry (seals-next c.args.scan.now c.bare.result.now c.bare.ensures entry from next)) made) c.mend_index.ensures.steps
 
 pub returns-clause-is_open : goal.returns-clause-is_open
 returns-clause-is_open g c =

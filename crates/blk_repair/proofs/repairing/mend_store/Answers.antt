@@ -1,16 +1,16 @@
 use Rattle.std.proofs.Common.{ℕ, List, sym, subst, ◌∙◌}
-use Rattle.blk_image.proofs.Runs.{passes_weaker}
 use Rattle.blk_io.proofs.Carried.{carried, if_damaged_weaker}
 use Rattle.blk_alloc.specs.Rebuilding.{IsShortReadOf}
-use Rattle.blk_repair_laws.proofs.MendedChanges.{keeps-mid}
 use Rattle.blk_repair.specs.Deletions.{DeletesOthers}
 use Rattle.blk_repair.specs.Maps.{Rebuilds}
+use Rattle.blk_repair.proofs.EndingRuns.{rebuilds-break, store-breaks}
 use Rattle.blk_repair.proofs.PartRuns.{in-turn, others-same}
-use Rattle.blk_repair.proofs.RepairRuns.{files-right, here-still, same-files, store-done, store-stops}
+use Rattle.blk_repair.proofs.RepairRuns.{files-right, here-still, same-files, store-done}
 use Rattle.blk_repair.proofs.repairing.mend_store.Goals as goal
 
 pub returns-in_err-mend_files-clause-stops : goal.returns-in_err-mend_files-clause-stops
-returns-in_err-mend_files-clause-stops g c from there entry next = passes_weaker (c.mend_files.ensures.stops from there entry next.holds.keeps) (keeps-mid entry) (keeps-mid entry)
+returns-in_err-mend_files-clause-stops g c from there entry next =
+    rebuilds-break (g.F.Folder.told c.args.f.now) (g.F.Folder.told c.mend_files.new.f) c.args.files.now c.args.claims.now entry from there next (c.mend_files.ensures.rebuilds from there)
 
 pub returns-in_err-mend_files-clause-damaged : goal.returns-in_err-mend_files-clause-damaged
 returns-in_err-mend_files-clause-damaged g c =
@@ -19,7 +19,8 @@ returns-in_err-mend_files-clause-damaged g c =
 
 pub returns-in_err-delete_others-clause-stops : goal.returns-in_err-delete_others-clause-stops
 returns-in_err-delete_others-clause-stops g c from there entry next =
-    store-stops c.args.claims.now (g.F.Folder.told c.args.f.now) (g.F.Folder.told c.mend_files.new.f) (g.F.Folder.told c.delete_others.new.f) entry from there next (c.mend_files.ensures.stops from there entry next.holds.keeps) (c.in_ok-mend_files.ensures.mended from there entry next)
+    store-breaks c.args.claims.now (g.F.Folder.told c.args.f.now) (g.F.Folder.told c.mend_files.new.f) (g.F.Folder.told c.delete_others.new.f) entry from there next
+    (rebuilds-break (g.F.Folder.told c.args.f.now) (g.F.Folder.told c.mend_files.new.f) c.args.files.now c.args.claims.now entry from there next (c.mend_files.ensures.rebuilds from there)) (c.in_ok-mend_files.ensures.mended from there entry next)
     c.delete_others.ensures.stops
 
 pub returns-clause-mended : goal.returns-clause-mended
@@ -29,7 +30,8 @@ returns-clause-mended g c from there entry next =
 
 pub returns-clause-stops : goal.returns-clause-stops
 returns-clause-stops g c from there entry next =
-    store-stops c.args.claims.now (g.F.Folder.told c.args.f.now) (g.F.Folder.told c.mend_files.new.f) (g.F.Folder.told c.delete_others.new.f) entry from there next (c.mend_files.ensures.stops from there entry next.holds.keeps) (c.in_ok-mend_files.ensures.mended from there entry next)
+    store-breaks c.args.claims.now (g.F.Folder.told c.args.f.now) (g.F.Folder.told c.mend_files.new.f) (g.F.Folder.told c.delete_others.new.f) entry from there next
+    (rebuilds-break (g.F.Folder.told c.args.f.now) (g.F.Folder.told c.mend_files.new.f) c.args.files.now c.args.claims.now entry from there next (c.mend_files.ensures.rebuilds from there)) (c.in_ok-mend_files.ensures.mended from there entry next)
     c.delete_others.ensures.stops
 
 pub returns-clause-clean : goal.returns-clause-clean

@@ -1,15 +1,15 @@
-use Rattle.std.proofs.Common.{ℕ, sym, ◌∙◌, ap, subst}
+use Rattle.std.proofs.Common.{ℕ, inl, refl, sym, ◌∙◌, ap, subst}
 use Rattle.std.proofs.lemmas.Result.{on_ok_weaker}
 use Rattle.std.specs.Option.{ForSome}
-use Rattle.blk_image.specs.Image.{Index, byte}
 use Rattle.blk_image.specs.Told.{Told, Applies}
-use Rattle.blk_format.specs.Headers.{this_id_of}
+use Rattle.blk_image.proofs.Runs.{some_inj}
 use Rattle.blk_io.proofs.Carried.{if_damaged_weaker}
 use Rattle.blk_disk.specs.Open.{IsOpen}
+use Rattle.blk_repair_laws.specs.MendedChanges.{IsMidRepair}
+use Rattle.blk_repair.specs.Endings.{EndsOrBreaksOff, EndsWithCrashWord}
 use Rattle.blk_repair.specs.Parts.{AppliesOf}
 use Rattle.blk_repair.specs.Repair.{IsRepairable, IsRepairedFor, RepairsInOrder, counting_steps, next_id}
-use Rattle.blk_repair.proofs.PartRuns.{repair-ends}
-use Rattle.blk_repair.proofs.RepairRuns.{can-write}
+use Rattle.blk_repair.proofs.Endings.{breaks-none, either-stayed, ends-stayed}
 use Rattle.blk_repair.proofs.repairing.repair.Goals as goal
 
 pub returns-in_err-this_id-clause-is_open : goal.returns-in_err-this_id-clause-is_open
@@ -38,12 +38,21 @@ returns-clause-steps g c =
     (subst (λ (t : Told). AppliesOf (RepairsInOrder c.args.files.now c.args.scan.now from c.next_id.result) from t (g.F.Folder.told c.mend_all.new.f)) c.in_ok-this_id.ensures.stays (made from (ap (λ (t : Told). t.files) c.in_ok-this_id.ensures.stays ∙ there) is)))
     c.mend_all.ensures.steps
 
+pub returns-in_err-this_id-clause-stops : goal.returns-in_err-this_id-clause-stops
+returns-in_err-this_id-clause-stops g c from there is = inl (breaks-none (IsMidRepair from) c.in_err-this_id.ensures.stays (λ i here. subst (IsMidRepair from) (some_inj (sym there ∙ here)) (record { well_formed = is.well_formed; kept_same = refl; found_same = refl })))
+
+pub returns-clause-stops : goal.returns-clause-stops
+returns-clause-stops g c from there is =
+    subst (λ (id : ℕ). EndsOrBreaksOff (g.F.Folder.told c.args.f.now) (g.F.Folder.told c.mend_all.new.f) (IsMidRepair from) (IsRepairedFor id from)) (c.next_id.ensures ∙ ap next_id (c.in_ok-this_id.ensures.word from there))
+    (either-stayed c.in_ok-this_id.ensures.stays (c.mend_all.ensures.stops from (ap (λ (t : Told). t.files) c.in_ok-this_id.ensures.stays ∙ there) is))
+
 pub returns-clause-last : goal.returns-clause-last
 returns-clause-last g c =
     on_ok_weaker c.mend_all.result
-    (λ made from there is.
-    repair-ends c.args.files.now c.args.scan.now (next_id (this_id_of (byte from Index))) from (can-write c.args.files.now from (g.met.F.Folder.are_bytes c.args.f.now from there) (c.requires.is_open from there)) is (made from there is))
-    (returns-clause-steps g c)
+    (λ ends from there is.
+    subst (λ (id : ℕ). EndsWithCrashWord (g.F.Folder.told c.args.f.now) (g.F.Folder.told c.mend_all.new.f) (IsMidRepair from) (IsRepairedFor id from)) (c.next_id.ensures ∙ ap next_id (c.in_ok-this_id.ensures.word from there))
+    (ends-stayed c.in_ok-this_id.ensures.stays (ends from (ap (λ (t : Told). t.files) c.in_ok-this_id.ensures.stays ∙ there) is)))
+    c.mend_all.ensures.last
 
 pub returns-clause-clean : goal.returns-clause-clean
 returns-clause-clean g c =

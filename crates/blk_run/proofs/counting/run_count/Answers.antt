@@ -1,7 +1,7 @@
 use Rattle.std.proofs.Common.{◌≡◌, ◌≢◌, ◌<◌, ◌*◌, ◌^◌, ◌⊎◌, inl, inr, refl, sym, ◌∙◌, arith}
 use Rattle.blk_model.specs.Bounds.{bounds_of}
 use Rattle.blk_model.specs.Sizes.{handle_names}
-use Rattle.blk_repair_laws.proofs.FoundHolding.{found-holding}
+use Rattle.blk_repair.proofs.Endings.{either-pass}
 use Rattle.blk_headline.specs.Script.{count_script}
 use Rattle.blk_cache.specs.CacheKeeping.{KeepsState}
 use Rattle.blk_run.specs.declared.ending.Status.{Status}
@@ -9,7 +9,7 @@ use Rattle.blk_run.specs.declared.ending.Status.TheVariants as status
 use Rattle.blk_run.proofs.Counted.{counted, first_is, left_same, none_printed, opened_open, passed, told_still, told_totals}
 use Rattle.blk_run.proofs.Assembling.{exit_unopened}
 use Rattle.blk_run.proofs.Completeness.{complete_script}
-use Rattle.blk_run.proofs.HeadlineBridge.{cache_stands, held_still}
+use Rattle.blk_run.proofs.HeadlineBridge.{failed_by_start}
 use Rattle.blk_run.proofs.ScriptCauses.{count_cause}
 use Rattle.blk_run.proofs.ScriptEnds.{script_of_runs}
 use Rattle.blk_run.proofs.SessionEnds.{begins_at, device_cause, rises_since, sink_cause}
@@ -22,18 +22,27 @@ pub returns-in-Ok-clause-printed : goal.returns-in-Ok-clause-printed
 returns-in-Ok-clause-printed g c = record {
   item_count = c.in-Ok.cache.items;
   byte_count = c.in-Ok.cache.bytes;
-  totals = λ from there. counted (bounds_of c.args.limits) (g.F.Folder.told c.args.folder.now) (g.F.Folder.told c.start.new.f) c.in-Ok.cache from there (c.start.ensures.stops from there) c.in-Ok.ensures.keeps;
+  totals = λ from there. counted (bounds_of c.args.limits) (g.F.Folder.told c.args.folder.now) (g.F.Folder.told c.start.new.f) c.in-Ok.cache from there (either-pass (c.start.ensures.stops from there)) c.in-Ok.ensures.keeps;
   printed = c.count.ensures.printed;
 }
 
 pub returns-in-Ok-clause-ended : goal.returns-in-Ok-clause-ended
 returns-in-Ok-clause-ended g c well from there =
-    left_same (bounds_of c.args.limits) (g.F.Folder.told c.args.folder.now) (g.F.Folder.told c.start.new.f) c.in-Ok.cache from there (c.start.ensures.stops from there) c.in-Ok.ensures.keeps (g.F.Folder.told c.count.new.folder) c.count.ensures.stops
+    left_same (bounds_of c.args.limits) (g.F.Folder.told c.args.folder.now) (g.F.Folder.told c.start.new.f) c.in-Ok.cache from there (either-pass (c.start.ensures.stops from there)) c.in-Ok.ensures.keeps (g.F.Folder.told c.count.new.folder) c.count.ensures.stops
     c.in-Ok.ensures.session (c.count.ensures.ended well) (c.count.ensures.session well)
 
 pub returns-in-Ok-clause-stops : goal.returns-in-Ok-clause-stops
 returns-in-Ok-clause-stops g c from there =
-    passed (bounds_of c.args.limits) (g.F.Folder.told c.args.folder.now) (g.F.Folder.told c.start.new.f) c.in-Ok.cache from there (c.start.ensures.stops from there) c.in-Ok.ensures.keeps (g.F.Folder.told c.count.new.folder) c.count.ensures.stops
+    passed (bounds_of c.args.limits) (g.F.Folder.told c.args.folder.now) (g.F.Folder.told c.start.new.f) c.in-Ok.cache from there (either-pass (c.start.ensures.stops from there)) c.in-Ok.ensures.keeps (g.F.Folder.told c.count.new.folder) c.count.ensures.stops
+
+pub returns-in-Err-Device-clause-stops : goal.returns-in-Err-Device-clause-stops
+returns-in-Err-Device-clause-stops g c from there = either-pass (c.start.ensures.stops from there)
+
+pub returns-in-Err-Memory-clause-stops : goal.returns-in-Err-Memory-clause-stops
+returns-in-Err-Memory-clause-stops g c from there = either-pass (c.start.ensures.stops from there)
+
+pub returns-in-Err-Damaged-clause-stops : goal.returns-in-Err-Damaged-clause-stops
+returns-in-Err-Damaged-clause-stops g c from there = either-pass (c.start.ensures.stops from there)
 
 pub returns-in-Err-Device-clause-printed : goal.returns-in-Err-Device-clause-printed
 returns-in-Err-Device-clause-printed g c = told_totals status.Device (bounds_of c.args.limits) _ _ _ (λ line. none_printed line _)
@@ -49,20 +58,20 @@ returns-in-Err-Damaged-clause-answer g c = first_is _ c.in-Err-Damaged.damage _ 
 
 pub returns-in-Ok-clause-made : goal.returns-in-Ok-clause-made
 returns-in-Ok-clause-made g c well from there un image here readings told =
-    let mid = told_still from (c.start.ensures.stops from there) there in
+    let mid = told_still from (either-pass (c.start.ensures.stops from there)) there in
     c.count.ensures.made well mid.0 mid.1 image here ∙ c.in-Ok.ensures.made from there un mid.0 mid.1 ∙ c.now.ensures.reading readings told
 
 pub returns-in-Ok-clause-script : goal.returns-in-Ok-clause-script
 returns-in-Ok-clause-script g c from there usable readings clock left =
     let stands = begins_at from (bounds_of c.args.limits) readings (record { folder = g.F.Folder.told c.args.folder.now; written = g.K.Sink.written c.args.out.now; left = left; clock = g.C.Clock.readings c.args.clock.now }) there clock
-    (KeepsState c.in-Ok.cache) (cache_stands c.in-Ok.cache) (g.F.Folder.told c.start.new.f) c.in-Ok.cache.notes (2 * handle_names) usable (c.start.ensures.stops from there) (c.in-Ok.ensures.last from there) (c.in-Ok.ensures.keeps from there) c.in-Ok.ensures.notes (omega arith) in
+    (KeepsState c.in-Ok.cache) (g.F.Folder.told c.start.new.f) c.in-Ok.cache.notes (2 * handle_names) usable (c.in-Ok.ensures.last from there) (c.in-Ok.ensures.keeps from there) c.in-Ok.ensures.notes (omega arith) in
     script_of_runs c.count.result count_script (bounds_of c.args.limits) from readings _ _ _
     (c.count.ensures.runs from (bounds_of c.args.limits) readings left (g.F.Folder.told c.args.folder.now) (g.C.Clock.readings c.args.clock.now) (g.C.Clock.readings c.now.new.self) there clock c.now.ensures.later stands)
 
 pub returns-in-Err-Device-clause-script : goal.returns-in-Err-Device-clause-script
 returns-in-Err-Device-clause-script g c from there usable readings clock left =
     inr (exit_unopened from (bounds_of c.args.limits) readings (record { folder = g.F.Folder.told c.args.folder.now; written = g.K.Sink.written c.args.out.now; left = left; clock = g.C.Clock.readings c.args.clock.now }) there clock
-    _ held_still (record { folder = g.F.Folder.told c.start.new.f; written = g.K.Sink.written c.args.out.now; left = left; clock = g.C.Clock.readings c.now.new.self }) usable (found-holding from (g.met.F.Folder.are_bytes c.args.folder.now from there)) (c.start.ensures.stops from there) refl refl)
+    (record { folder = g.F.Folder.told c.start.new.f; written = g.K.Sink.written c.args.out.now; left = left; clock = g.C.Clock.readings c.now.new.self }) usable (failed_by_start from (bounds_of c.args.limits) (g.F.Folder.told c.args.folder.now) (g.F.Folder.told c.start.new.f) there (c.start.ensures.stops from there)) refl refl)
 
 pub returns-in-Ok-clause-cause : goal.returns-in-Ok-clause-cause
 returns-in-Ok-clause-cause g c =

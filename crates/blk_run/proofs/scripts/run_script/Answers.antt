@@ -5,10 +5,9 @@ use Rattle.blk_model.specs.Bounds.{bounds_of}
 use Rattle.blk_model.specs.Holding.{open_state}
 use Rattle.blk_model.specs.Sizes.{handle_names}
 use Rattle.blk_volume.specs.Found.{found}
-use Rattle.blk_repair_laws.proofs.FoundHolding.{found-holding}
 use Rattle.blk_run.specs.Scripts.{commands_in, script_of}
 use Rattle.blk_run.proofs.Assembling.{exit_unopened}
-use Rattle.blk_run.proofs.HeadlineBridge.{cache_stands, held_still}
+use Rattle.blk_run.proofs.HeadlineBridge.{failed_by_start}
 use Rattle.blk_run.proofs.ScriptEnds.{script_of_runs}
 use Rattle.blk_run.proofs.Completeness.{complete_script}
 use Rattle.blk_run.proofs.SessionEnds.{begins_at, cause_since, device_cause, first_of, opened_at, rises_since, sink_cause}
@@ -23,14 +22,14 @@ pub returns-in-Ok-clause-script : goal.returns-in-Ok-clause-script
 returns-in-Ok-clause-script g c from there usable readings clock left =
     let few = c.requires.few in
     let stands = begins_at from (bounds_of c.args.limits) readings (record { folder = g.F.Folder.told c.args.folder.now; written = g.K.Sink.written c.args.out.now; left = left; clock = g.C.Clock.readings c.args.clock.now }) there clock
-    (KeepsState c.in-Ok.cache) (cache_stands c.in-Ok.cache) (g.F.Folder.told c.start.new.f) (c.in-Ok.cache.notes) (2 * handle_names + 2 * commands_in c.args.fixed) usable (c.start.ensures.stops from there) (c.in-Ok.ensures.last from there) (c.in-Ok.ensures.keeps from there) c.in-Ok.ensures.notes (omega (arith, few)) in
+    (KeepsState c.in-Ok.cache) (g.F.Folder.told c.start.new.f) (c.in-Ok.cache.notes) (2 * handle_names + 2 * commands_in c.args.fixed) usable (c.in-Ok.ensures.last from there) (c.in-Ok.ensures.keeps from there) c.in-Ok.ensures.notes (omega (arith, few)) in
     script_of_runs c.play_script.result (script_of c.args.fixed) (bounds_of c.args.limits) from readings _ _ _
     (c.play_script.ensures.runs from (bounds_of c.args.limits) readings left (g.F.Folder.told c.args.folder.now) (g.C.Clock.readings c.args.clock.now) there clock c.now.ensures.later stands)
 
 pub returns-in-Err-Device-clause-script : goal.returns-in-Err-Device-clause-script
 returns-in-Err-Device-clause-script g c from there usable readings clock left =
     inr (exit_unopened from (bounds_of c.args.limits) readings (record { folder = g.F.Folder.told c.args.folder.now; written = g.K.Sink.written c.args.out.now; left = left; clock = g.C.Clock.readings c.args.clock.now }) there clock
-    _ held_still (record { folder = g.F.Folder.told c.start.new.f; written = g.K.Sink.written c.args.out.now; left = left; clock = g.C.Clock.readings c.now.new.self }) usable (found-holding from (g.met.F.Folder.are_bytes c.args.folder.now from there)) (c.start.ensures.stops from there) refl refl)
+    (record { folder = g.F.Folder.told c.start.new.f; written = g.K.Sink.written c.args.out.now; left = left; clock = g.C.Clock.readings c.now.new.self }) usable (failed_by_start from (bounds_of c.args.limits) (g.F.Folder.told c.args.folder.now) (g.F.Folder.told c.start.new.f) there (c.start.ensures.stops from there)) refl refl)
 
 pub returns-in-Ok-clause-cause : goal.returns-in-Ok-clause-cause
 returns-in-Ok-clause-cause g c =
@@ -38,7 +37,7 @@ returns-in-Ok-clause-cause g c =
     cause_since c.play_script.result (g.F.Folder.told c.args.folder.now).files _ _ ⊥ _ ⊥ (rises_since (g.F.Folder.faults c.args.folder.now) (g.F.Folder.faults c.start.new.f) (g.F.Folder.faults c.play_script.new.folder) c.start.ensures.later)
     (λ damaged from there. absurd (c.play_script.ensures.untold _
     (begins_at from (bounds_of c.args.limits) (record { ahead = []; last = 0 }) (record { folder = g.F.Folder.told c.args.folder.now; written = None; left = None; clock = Some (record { ahead = []; last = 0 }) }) there refl
-    (KeepsState c.in-Ok.cache) (cache_stands c.in-Ok.cache) (g.F.Folder.told c.start.new.f) c.in-Ok.cache.notes (2 * handle_names + 2 * commands_in c.args.fixed) (c.in-Ok.ensures.checked from there) (c.start.ensures.stops from there) (c.in-Ok.ensures.last from there) (c.in-Ok.ensures.keeps from there) c.in-Ok.ensures.notes (omega (arith, few)))
+    (KeepsState c.in-Ok.cache) (g.F.Folder.told c.start.new.f) c.in-Ok.cache.notes (2 * handle_names + 2 * commands_in c.args.fixed) (c.in-Ok.ensures.checked from there) (c.in-Ok.ensures.last from there) (c.in-Ok.ensures.keeps from there) c.in-Ok.ensures.notes (omega (arith, few)))
     damaged)) c.play_script.ensures.cause
 
 pub returns-in-Err-Damaged-clause-cause : goal.returns-in-Err-Damaged-clause-cause

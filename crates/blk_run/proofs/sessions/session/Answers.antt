@@ -5,12 +5,11 @@ use Rattle.blk_model.specs.Bounds.{bounds_of}
 use Rattle.blk_model.specs.Holding.{open_state}
 use Rattle.blk_model.specs.Sizes.{handle_names}
 use Rattle.blk_volume.specs.Found.{found}
-use Rattle.blk_repair_laws.proofs.FoundHolding.{found-holding}
 use Rattle.blk_cache.specs.CacheKeeping.{KeepsState}
 use Rattle.blk_cache.proofs.Ends.{kept-open}
 use Rattle.blk_run.specs.Session.{Outside}
 use Rattle.blk_run.proofs.Assembling.{exit_unopened}
-use Rattle.blk_run.proofs.HeadlineBridge.{cache_stands, held_still}
+use Rattle.blk_run.proofs.HeadlineBridge.{failed_by_start}
 use Rattle.blk_run.proofs.SessionEnds.{begins_at, cause_since, device_cause, first_of, opened_at, rises_since, session_of_runs, sink_cause, source_cause}
 use Rattle.blk_run.proofs.Completeness.{complete}
 use Rattle.blk_run.proofs.sessions.session.Goals as goal
@@ -24,7 +23,7 @@ pub returns-in-Ok-start-clause-session : goal.returns-in-Ok-start-clause-session
 returns-in-Ok-start-clause-session g c from there usable readings clock bytes left_is =
     let budget = c.ranges.budget.fits in
     let stands = begins_at from (bounds_of c.args.limits) readings (record { folder = g.F.Folder.told c.args.folder.now; written = g.K.Sink.written c.args.out.now; left = g.S.Source.left c.args.input.now; clock = g.C.Clock.readings c.args.clock.now }) there clock
-    (KeepsState c.in-Ok-start.cache) (cache_stands c.in-Ok-start.cache) (g.F.Folder.told c.start.new.f) c.in-Ok-start.cache.notes (2 * handle_names + (c.args.budget + 1)) usable (c.start.ensures.stops from there) (c.in-Ok-start.ensures.last from there) (c.in-Ok-start.ensures.keeps from there) c.in-Ok-start.ensures.notes (omega (arith, budget)) in
+    (KeepsState c.in-Ok-start.cache) (g.F.Folder.told c.start.new.f) c.in-Ok-start.cache.notes (2 * handle_names + (c.args.budget + 1)) usable (c.in-Ok-start.ensures.last from there) (c.in-Ok-start.ensures.keeps from there) c.in-Ok-start.ensures.notes (omega (arith, budget)) in
     session_of_runs c.play.result (bounds_of c.args.limits) c.args.budget from readings bytes _ _ _ _
     (c.play.ensures.runs from (bounds_of c.args.limits) readings bytes (g.F.Folder.told c.args.folder.now) (g.C.Clock.readings c.args.clock.now) there clock c.now.ensures.later left_is stands)
 
@@ -34,13 +33,13 @@ returns-in-Ok-start-clause-cause g c =
     cause_since c.play.result (g.F.Folder.told c.args.folder.now).files _ _ _ _ _ (rises_since (g.F.Folder.faults c.args.folder.now) (g.F.Folder.faults c.start.new.f) (g.F.Folder.faults c.play.new.folder) c.start.ensures.later)
     (λ damaged from there. absurd (c.play.ensures.untold _
     (begins_at from (bounds_of c.args.limits) (record { ahead = []; last = 0 }) (record { folder = g.F.Folder.told c.args.folder.now; written = None; left = None; clock = Some (record { ahead = []; last = 0 }) }) there refl
-    (KeepsState c.in-Ok-start.cache) (cache_stands c.in-Ok-start.cache) (g.F.Folder.told c.start.new.f) c.in-Ok-start.cache.notes (2 * handle_names + (c.args.budget + 1)) (c.in-Ok-start.ensures.checked from there) (c.start.ensures.stops from there) (c.in-Ok-start.ensures.last from there) (c.in-Ok-start.ensures.keeps from there) c.in-Ok-start.ensures.notes (omega (arith, budget)))
+    (KeepsState c.in-Ok-start.cache) (g.F.Folder.told c.start.new.f) c.in-Ok-start.cache.notes (2 * handle_names + (c.args.budget + 1)) (c.in-Ok-start.ensures.checked from there) (c.in-Ok-start.ensures.last from there) (c.in-Ok-start.ensures.keeps from there) c.in-Ok-start.ensures.notes (omega (arith, budget)))
     damaged)) c.play.ensures.cause
 
 pub returns-in-Err-Device-clause-session : goal.returns-in-Err-Device-clause-session
 returns-in-Err-Device-clause-session g c from there usable readings clock bytes left_is =
     inr (exit_unopened from (bounds_of c.args.limits) readings (record { folder = g.F.Folder.told c.args.folder.now; written = g.K.Sink.written c.args.out.now; left = g.S.Source.left c.args.input.now; clock = g.C.Clock.readings c.args.clock.now }) there clock
-    _ held_still (record { folder = g.F.Folder.told c.start.new.f; written = g.K.Sink.written c.args.out.now; left = g.S.Source.left c.args.input.now; clock = g.C.Clock.readings c.now.new.self }) usable (found-holding from (g.met.F.Folder.are_bytes c.args.folder.now from there)) (c.start.ensures.stops from there) refl refl)
+    (record { folder = g.F.Folder.told c.start.new.f; written = g.K.Sink.written c.args.out.now; left = g.S.Source.left c.args.input.now; clock = g.C.Clock.readings c.now.new.self }) usable (failed_by_start from (bounds_of c.args.limits) (g.F.Folder.told c.args.folder.now) (g.F.Folder.told c.start.new.f) there (c.start.ensures.stops from there)) refl refl)
 
 pub returns-clause-cause : goal.returns-clause-cause
 returns-clause-cause g c = first_of (Unit {0}) c.in-Err-Damaged.field-0 c.in-Err-Damaged.damage (g.F.Folder.told c.args.folder.now).files c.in-Err-Damaged.field-0-is c.in-Err-Damaged.ensures.first

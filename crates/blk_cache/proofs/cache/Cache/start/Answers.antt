@@ -1,11 +1,11 @@
-use Rattle.std.proofs.Common.{refl}
+use Rattle.std.proofs.Common.{inl, refl}
 use Rattle.blk_cache.proofs.CarriedFaults.{if-memory, of-memory, open-damaged-on, open-device-on, open-memory-on}
 use Rattle.blk_cache.proofs.OpenRuns.{stayed-still}
 use Rattle.blk_cache.proofs.Starts.{all-free, none-stand, started}
 use Rattle.blk_cache.proofs.cache.Cache.start.Goals as goal
 
 pub returns-in_err-names-clause-stops : goal.returns-in_err-names-clause-stops
-returns-in_err-names-clause-stops g c from there = stayed-still from there refl
+returns-in_err-names-clause-stops g c from there = inl (stayed-still from there refl)
 
 pub returns-in_err-names-clause-damaged : goal.returns-in_err-names-clause-damaged
 returns-in_err-names-clause-damaged g c = of-memory c.from_residual.result c.from_residual.ensures.1 _

@@ -1,0 +1,25 @@
+-- How steps end that are to mark a session as open: they break off before that, or the last of them does it.
+use Rattle.std.specs.Prelude.{◌≡◌, ◌⊎◌, List, ◌++◌, All, false}
+use Rattle.std.specs.Option.{ForSome}
+use Rattle.blk_image.specs.Image.{Image, Index}
+use Rattle.blk_image.specs.Steps.{TrailStep, word_step}
+use Rattle.blk_image.specs.Told.{Told, Along, Applies, IsQuiet, Passes}
+use Rattle.blk_repair.specs.Counters.{crash_place, writes_crash_word}
+
+-- steps were made, none of them a note, and none writes inside the crash word; P holds of the files before each of them and after the last
+pub record BreaksOff (old new : Told) (P : Image → Type 0) : Type 0 where
+  pub passes : Passes old new P
+  pub unmarked : All (λ step. writes_crash_word step ≡ false) passes.steps
+
+-- the last step made the crash word 1, and no step before it is a note or wrote inside that word; P holds of the files before each of them and after the last, and there Q too
+pub record EndsWithCrashWord (old new : Told) (P Q : Image → Type 0) : Type 0 where
+  pub before : List TrailStep
+  pub quiet : IsQuiet before
+  pub first : All (λ step. writes_crash_word step ≡ false) before
+  pub applies : Applies old new (before ++ word_step Index crash_place 1)
+  pub along : ForSome old.files (λ image. Along P image (before ++ word_step Index crash_place 1))
+  pub leaves : ForSome new.files Q
+
+-- one or the other
+abbrev pub EndsOrBreaksOff : (old new : Told) → (P Q : Image → Type 0) → Type 0
+EndsOrBreaksOff old new P Q = BreaksOff old new P ⊎ EndsWithCrashWord old new P Q
