@@ -6,3 +6,15 @@ pub mod ParentsRead
 pub mod ParentsOut
 pub mod HeldParents
 pub mod ChildrenOut
+pub mod ParentFlags
+pub mod Begun
+pub mod PartUses
+pub mod FoundParts
+pub mod PartValid
+pub mod PartRoles
+pub mod ChangedParts
+pub mod UsedParts
+pub mod PresentRuns
+pub mod PresentParts
+pub mod ReadParts
+pub mod ChangedUsed
