@@ -42,6 +42,8 @@ use Rattle.std.specs.declared.result.Result.{Result}
 use Rattle.blk_io.specs.declared.fault.Fault.{Fault}
 use Rattle.blk_io.specs.Faults.{IfDamaged}
 use Rattle.blk_io.proofs.Carried.{if_damaged_weaker}
+use Rattle.blk_ranges.specs.declared.parent_map.ParentMap.{ParentMap}
+use Rattle.blk_ranges.specs.ParentMaps.{parent_index_of, head_signature}
 
 -- ---- lists
 
@@ -235,6 +237,11 @@ module _ (state : State) (layout : Layout) (unlinked : List ℕ) (number : ℕ) 
           counters = then-counters from mid image w.counters m.counters;
           session = session-then from mid image w.session m.session;
         }
+
+-- the index of a map that was printed
+pub index-of-map : (signature key_len : ℕ) (bytes : List ℕ) (m : ParentMap) → read_parent_index bytes ≡ Some (parent_index_of m) → head_signature m.head ≡ signature → m.head.key_len ≡ key_len → HasIndex signature key_len bytes
+unfolding parent_index_of
+index-of-map signature key_len bytes m is sign len = record { index = parent_index_of m; is = is; signature_is = sign; key_len_is = len }
 
 -- ---- the calls
 

@@ -1,7 +1,7 @@
 -- A part of an object that isn't settled gets a piece: its data is written, and then its map.
-use Rattle.std.proofs.Common.{◌≡◌, ⊎_elim, ℕ, ◌+◌, ◌*◌, ◌≤◌, List, refl, ap, ap₂, sym, ◌∙◌, subst, arith, length, true, false, cond, Option, Some, None}
+use Rattle.std.proofs.Common.{◌≡◌, ⊎_elim, ℕ, ◌+◌, ◌*◌, ◌≤◌, List, refl, ap, ap₂, sym, ◌∙◌, subst, arith, length, true, false, cond, Option, Some, None, Result}
 use Rattle.std.specs.Prelude.{◌&&◌, ◌==◌, IfSome, is_some, nat_lt, unwrap_or}
-use Rattle.std.specs.Option.{option_map}
+use Rattle.std.specs.Option.{option_map, ForSome}
 use Rattle.std.specs.Ordering.{nat_cmp}
 use Rattle.std.specs.Cmp.{nat_cmp_total}
 use Rattle.std.specs.FinMap.Entries.{length-put}
@@ -10,7 +10,7 @@ use Rattle.std.proofs.lemmas.Bool.{and_from, and_parts, cases_Bool, eqb-true}
 use Rattle.std.proofs.lemmas.Bool.Decides.{nat_tests}
 use Rattle.std.proofs.lemmas.List.Sums.{sum_by-set}
 use Rattle.blk_image.specs.Image.{Image}
-use Rattle.blk_image.proofs.Runs.{some_inj}
+use Rattle.blk_image.proofs.Runs.{some_inj, passes_then}
 use Rattle.blk_model.specs.Bytes.{overwritten}
 use Rattle.blk_model.specs.Effects.{stream_after}
 use Rattle.blk_model.specs.Holding.{rest}
@@ -38,7 +38,7 @@ use Rattle.blk_kept.specs.ObjectLaws.{layout_after}
 use Rattle.blk_kept.specs.PartStates.{with_object, with_value}
 use Rattle.blk_kept.proofs.Dirtying.{set-at}
 use Rattle.blk_kept.proofs.Keeping.{kept-found}
-use Rattle.blk_object.specs.Writing.{IsPartToBeWritten, IsPartWrittenUncounted}
+use Rattle.blk_object.specs.Writing.{IsPartToBeWritten, IsPartWrittenUncounted, ForEachPartUnsettled}
 use Rattle.blk_object.proofs.GoingNext.{then-counters}
 use Rattle.blk_object.proofs.MakingTaken.{session-then}
 use Rattle.blk_object.proofs.WrittenParts.{its-row, part-listed}
@@ -50,6 +50,11 @@ use Rattle.blk_sparse.proofs.FoundParts.{row-of-part}
 use Rattle.blk_sparse.proofs.PartRoles.{covered-from, covered-more}
 use Rattle.blk_sparse.proofs.PartValid.{its-value, value-here, value-twice, value-valid}
 use Rattle.blk_volume.specs.View.{store_of}
+use Rattle.blk_image.specs.Told.{Told, Passes}
+use Rattle.blk_stream.proofs.Joined.{IsTold, told_then}
+use Rattle.blk_io.specs.declared.fault.Fault.{Fault}
+use Rattle.blk_io.specs.Faults.{IfDamaged}
+use Rattle.blk_io.proofs.Carried.{if_damaged_weaker}
 
 -- ---- rows
 

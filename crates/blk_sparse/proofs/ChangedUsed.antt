@@ -1,5 +1,5 @@
 -- A part that got a piece is used.
-use Rattle.std.proofs.Common.{◌≡◌, inl, inr, ℕ, ◌+◌, List, [], length, refl, sym, ◌∙◌, subst, Option, Some, None, Result}
+use Rattle.std.proofs.Common.{◌≡◌, inl, inr, ℕ, ◌+◌, List, [], length, refl, sym, ◌∙◌, subst, Option, Some, None, Result, ap}
 use Rattle.std.specs.Option.{ForSome}
 use Rattle.blk_image.specs.Image.{Image}
 use Rattle.blk_image.specs.Told.{Passes, Told}
@@ -12,7 +12,7 @@ use Rattle.blk_model.specs.Holding.{rest}
 use Rattle.blk_model.specs.Items.{Item, Row, part}
 use Rattle.blk_model.specs.State.{Object, State}
 use Rattle.blk_format.specs.Names.{Name}
-use Rattle.blk_format.specs.SparseIndex.{PartIndex}
+use Rattle.blk_format.specs.SparseIndex.{PartIndex, read_part_index}
 use Rattle.blk_volume.specs.Entries.{IsPart}
 use Rattle.blk_volume.specs.Layout.{IsPartAt, Layout}
 use Rattle.blk_volume.specs.Loads.{Loaded}
@@ -25,14 +25,17 @@ use Rattle.blk_object.specs.Owning.{LoadsWith}
 use Rattle.blk_object.proofs.GoingNext.{then-counters}
 use Rattle.blk_object.proofs.MakingTaken.{session-then}
 use Rattle.blk_object.proofs.WrittenParts.{its-place}
-use Rattle.blk_ranges.specs.PartMaps.{index_of}
+use Rattle.blk_ranges.specs.PartMaps.{index_of, SamePart, presence_of}
 use Rattle.blk_ranges.specs.declared.part_map.PartMap.{PartMap}
 use Rattle.blk_sparse.specs.Changing.{IsChangedUnused, IsNoted, IsToBeChanged}
 use Rattle.blk_sparse.specs.Parts.{FindsBeforeOrAfter, ForEachListedAt, IsListedAt, IsUsed}
 use Rattle.blk_sparse.specs.SparseObjects.{CanGetParts, HasPartAt, KeepsParentThen, with_piece, with_piece_written}
 use Rattle.blk_sparse.proofs.PartValid.{keeps-used, rest-whatever}
-use Rattle.blk_sparse.proofs.ReadParts.{loads-as}
+use Rattle.blk_sparse.proofs.MapsRead.{part-loads}
 use Rattle.blk_sparse.proofs.UsedParts.{its-part}
+use Rattle.blk_model.specs.Sparse.{presence_after}
+use Rattle.std.specs.Prelude.{ℤ}
+use Rattle.std.specs.Int.{cast_unsigned, w64}
 
 -- nothing is written yet
 pub nothing-found : (state : State) (layout : Layout) (unlinked : List ℕ) (number : ℕ) (object : Object) (node entry signature : ℕ) (from : Image) → CanGetParts [] state layout unlinked number object node entry signature from → Finds (rest state) from
@@ -51,7 +54,7 @@ module _ (of_part place : ℕ) (piece bytes : List ℕ) (state : State) (layout 
     name = its.name;
     index = its.index;
     role = its.role;
-    noted = subst (λ (i : PartIndex). IsNoted i place (place + length piece) bytes) (read at.was its.name its.index (loads-as state layout unlinked number object node entry signature from g.parent n of_part at).loads its.role) noted;
+    noted = subst (λ (i : PartIndex). IsNoted i place (place + length piece) bytes) (read at.was its.name its.index (part-loads state layout unlinked number object node entry signature from g.parent n of_part at) its.role) noted;
   }
 
   abbrev item : Item
@@ -98,3 +101,14 @@ module _ (of_part place : ℕ) (piece bytes : List ℕ) (state : State) (layout 
 
       pub change-untold : {A : Type 0} (r : Result A Fault) → ForSome m.files (λ i. ForEachListedAt of_part i (λ state layout unlinked item. IfDamaged r (λ _. m.files ≡ None))) → IfDamaged r (λ _. a.files ≡ None)
       change-untold {A} r untold = if_damaged_weaker r (λ _. m.files ≡ None) (λ _. a.files ≡ None) (λ damage none. absurd (let z : ◌≡◌ {A = Option Image} None (Some mid.image) = sym none ∙ mid.is in cc)) (untold mid.image mid.is (with_object state number (with_piece object n place piece)) now.now unlinked (part object.key n) listed)
+
+-- a map in which a write was noted, printed
+pub noted-map : (old new : PartMap) (place end : ℕ) (bytes : List ℕ) → SamePart old new → presence_of new ≡ presence_after (presence_of old) place end → read_part_index bytes ≡ Some (index_of new) → IsNoted (index_of old) place end bytes
+unfolding index_of
+noted-map old new place end bytes same present is = record {
+  index = index_of new;
+  is = is;
+  signature = ap (λ (s : ℤ). cast_unsigned w64 s) same.signature;
+  key_len = same.key_len;
+  presence = present;
+}

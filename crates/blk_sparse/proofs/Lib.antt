@@ -16,5 +16,6 @@ pub mod ChangedParts
 pub mod UsedParts
 pub mod PresentRuns
 pub mod PresentParts
+pub mod MapsRead
 pub mod ReadParts
 pub mod ChangedUsed

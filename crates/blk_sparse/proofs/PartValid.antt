@@ -32,23 +32,33 @@ compared-alike n = let low : nat_lt n n ≡ false = grind (arith, nat_tests) in 
 
 pub put-twice : (n : ℕ) (one two : PartValue) (parts : List (ℕ × PartValue)) → put nat_cmp n two (put nat_cmp n one parts) ≡ put nat_cmp n two parts
 put-twice n one two [] = ap (λ (r : Ordering). by_order r ((n, two) ∷ (n, one) ∷ []) ((n, two) ∷ []) ((n, one) ∷ put nat_cmp n two [])) (compared-alike n)
-put-twice n one two (p ∷ parts) = by (nat_cmp n p.0) refl where
-  by : (r : Ordering) → nat_cmp n p.0 ≡ r → put nat_cmp n two (by_order (nat_cmp n p.0) ((n, one) ∷ p ∷ parts) ((p.0, one) ∷ parts) (p ∷ put nat_cmp n one parts)) ≡ by_order (nat_cmp n p.0) ((n, two) ∷ p ∷ parts) ((p.0, two) ∷ parts) (p ∷ put nat_cmp n two parts)
-  by Less e = rw (e, compared-alike n) refl
-  by Equal e = rw e refl
-  by Greater e = rw e (ap (λ (l : List (ℕ × PartValue)). p ∷ l) (put-twice n one two parts))
+put-twice n one two (p ∷ parts) = by (put-twice n one two parts) (nat_cmp n p.0) refl where
+  by : put nat_cmp n two (put nat_cmp n one parts) ≡ put nat_cmp n two parts → (r : Ordering) → nat_cmp n p.0 ≡ r → put nat_cmp n two (put nat_cmp n one (p ∷ parts)) ≡ put nat_cmp n two (p ∷ parts)
+  by later Less e =
+      ap (λ (r : Ordering). put nat_cmp n two (by_order r ((n, one) ∷ p ∷ parts) ((p.0, one) ∷ parts) (p ∷ put nat_cmp n one parts))) e
+      ∙ ap (λ (r : Ordering). by_order r ((n, two) ∷ (n, one) ∷ p ∷ parts) ((n, two) ∷ p ∷ parts) ((n, one) ∷ put nat_cmp n two (p ∷ parts))) (compared-alike n)
+      ∙ sym (ap (λ (r : Ordering). by_order r ((n, two) ∷ p ∷ parts) ((p.0, two) ∷ parts) (p ∷ put nat_cmp n two parts)) e)
+  by later Equal e =
+      ap (λ (r : Ordering). put nat_cmp n two (by_order r ((n, one) ∷ p ∷ parts) ((p.0, one) ∷ parts) (p ∷ put nat_cmp n one parts))) e
+      ∙ ap (λ (r : Ordering). by_order r ((n, two) ∷ (p.0, one) ∷ parts) ((p.0, two) ∷ parts) ((p.0, one) ∷ put nat_cmp n two parts)) e
+      ∙ sym (ap (λ (r : Ordering). by_order r ((n, two) ∷ p ∷ parts) ((p.0, two) ∷ parts) (p ∷ put nat_cmp n two parts)) e)
+  by later Greater e =
+      ap (λ (r : Ordering). put nat_cmp n two (by_order r ((n, one) ∷ p ∷ parts) ((p.0, one) ∷ parts) (p ∷ put nat_cmp n one parts))) e
+      ∙ ap (λ (r : Ordering). by_order r ((n, two) ∷ p ∷ put nat_cmp n one parts) ((p.0, two) ∷ put nat_cmp n one parts) (p ∷ put nat_cmp n two (put nat_cmp n one parts))) e
+      ∙ ap (λ (l : List (ℕ × PartValue)). p ∷ l) later
+      ∙ sym (ap (λ (r : Ordering). by_order r ((n, two) ∷ p ∷ parts) ((p.0, two) ∷ parts) (p ∷ put nat_cmp n two parts)) e)
 
 -- a part that is found is one of them
 pub found-part : (n : ℕ) (value : PartValue) (parts : List (ℕ × PartValue)) → All IsPart parts → find nat_cmp n parts ≡ Some value → (n < part_count) × IsPartValue value
 found-part n value [] all is = absurd (let z : ◌≡◌ {A = Option PartValue} None (Some value) = is in cc)
-found-part n value (p ∷ parts) all is = by (eq_by_cmp nat_cmp n p.0) refl where
-  by : (b : Bool) → eq_by_cmp nat_cmp n p.0 ≡ b → (n < part_count) × IsPartValue value
-  by true e =
+found-part n value (p ∷ parts) all is = by (found-part n value parts (All-tail IsPart p parts all)) (eq_by_cmp nat_cmp n p.0) refl where
+  by : (find nat_cmp n parts ≡ Some value → (n < part_count) × IsPartValue value) → (b : Bool) → eq_by_cmp nat_cmp n p.0 ≡ b → (n < part_count) × IsPartValue value
+  by later true e =
       let here = All-head IsPart p parts all in
       let same : n ≡ p.0 = eqb-true n p.0 (sym (unsigned_tied n p.0) ∙ e) in
       let value_is : p.1 ≡ value = some_inj (sym (ap (λ (b : Bool). cond b (Some p.1) (find nat_cmp n parts)) e) ∙ is) in
       (subst (λ (m : ℕ). m < part_count) (sym same) here.0, subst IsPartValue value_is here.1)
-  by false e = found-part n value parts (All-tail IsPart p parts all) (sym (ap (λ (b : Bool). cond b (Some p.1) (find nat_cmp n parts)) e) ∙ is)
+  by later false e = later (sym (ap (λ (b : Bool). cond b (Some p.1) (find nat_cmp n parts)) e) ∙ is)
 
 -- ---- the object
 

@@ -1,4 +1,4 @@
--- A part is read: its map, the first run of it, and its bytes up to the first that is not present.
+-- The first run of a part, and its bytes up to the first that is not present.
 use Rattle.std.proofs.Common.{◌≡◌, ℕ, zero, suc, ◌+◌, ◌*◌, ◌<◌, ◌≤◌, List, [], ◌∷◌, map, length, take, drop, refl, ap, sym, ◌∙◌, arith, Bool, true, false, Option, Some, None, ⊎_elim, inl, inr, ◌⊎◌}
 use Rattle.std.specs.Prelude.{◌-◌, ◌/◌, ◌%◌, ◌||◌, ◌==◌, IfSome, is_some, nat_lt, slice_index, take_while, if◌then◌else◌, max}
 use Rattle.std.specs.Option.{option_and_then}
@@ -7,67 +7,13 @@ use Rattle.blk_image.specs.Image.{Image}
 use Rattle.blk_model.specs.Bytes.{numbers_from}
 use Rattle.blk_model.specs.Items.{IsPartValue, PartValue, Presence, is_block_present, part}
 use Rattle.blk_model.specs.Sparse.{byte_in, first_run, is_present_in, piece_in, up_to_missing}
-use Rattle.blk_model.specs.State.{Object, State, part_at}
-use Rattle.blk_format.specs.Names.{Name}
-use Rattle.blk_format.specs.SparseIndex.{PartIndex, read_part_index}
-use Rattle.blk_volume.specs.Entries.{IsPart, stream}
-use Rattle.blk_volume.specs.Layout.{IsPartAt, Layout, rule_of}
-use Rattle.blk_volume.specs.Loads.{Loaded}
-use Rattle.blk_volume.specs.View.{store_of}
-use Rattle.blk_laws.proofs.walks.Loads.{load-then}
+use Rattle.blk_model.specs.State.{Object, part_at}
+use Rattle.blk_format.specs.SparseIndex.{PartIndex}
 use Rattle.blk_ranges.specs.PartMaps.{index_of, presence_in, presence_of}
 use Rattle.blk_ranges.specs.Runs.{run_between}
 use Rattle.blk_ranges.specs.declared.part_map.PartMap.{PartMap}
-use Rattle.blk_object.specs.Owning.{LoadsWith}
-use Rattle.blk_object.proofs.WrittenParts.{its-place}
-use Rattle.blk_object.proofs.WrittenRoles.{IsPartRole, part-of, role-part-of}
-use Rattle.blk_sparse.specs.Changing.{LoadsAsPart}
 use Rattle.blk_sparse.specs.Reading.{IsPartRead, part_bytes, part_run}
-use Rattle.blk_sparse.specs.SparseObjects.{HasPartAt, KeepsParent}
-use Rattle.blk_sparse.proofs.ChangedParts.{IsPartRow, part-says}
-use Rattle.blk_sparse.proofs.PartValid.{its-value}
-use Rattle.blk_sparse.proofs.PresentRuns.{front-numbers, missing-front, missing-none, numbers-slice, run-none}
-
--- ---- the map
-
--- what loads as a part has its index in its third stream
-pub index-there : (image : Image) (entry : ℕ) (loaded : Loaded) (name : Name) (index : PartIndex) → LoadsWith entry loaded image → loaded.role ≡ IsPart name index → read_part_index (stream 2 loaded.streams) ≡ Some index
-index-there image entry loaded name index w role =
-    load-then (store_of image) w.rule w.node loaded w.loads (λ n e f.
-    let p : IsPartRole loaded.key loaded.streams (IsPart name index) = part-of loaded.key loaded.streams (IsPart name index) (role-part-of e loaded.key loaded.streams name index (f.facts.role ∙ ap Some role)) in
-    p.indexed ∙ ap Some (injected p.name name p.index index (sym p.is)))
-  where
-    injected : (a b : Name) (i j : PartIndex) → IsPart a i ≡ IsPart b j → i ≡ j
-    injected a b i j e = cc
-
--- ---- a part of a state
-
-module _ (state : State) (layout : Layout) (unlinked : List ℕ) (number : ℕ) (object : Object) (node entry signature : ℕ) (from : Image) (p : KeepsParent state layout unlinked number object node entry signature from) (n of_part : ℕ) (at : HasPartAt layout object n of_part) where
-  its : IsPartAt state layout object.key at.was
-  its = its-place state layout unlinked from p.kept number object p.here p.live n at.value at.has at.was at.lies
-
-  loads : LoadsWith of_part at.was from
-  loads = record { rule = rule_of layout (layout.place (part object.key n)); node = layout.place (part object.key n); loads = p.kept.represents.holds.shows.each (layout.place (part object.key n)) at.was at.lies; contents = at.record_is }
-
-  says : IsPartRow its.name its.index at.was.streams object.key n at.value
-  says = part-says state layout unlinked from p.kept number object p.here p.live n of_part at its.name its.index its.role
-
-  pub part-read : IsPartRead object n of_part from
-  part-read = record {
-    value = at.value;
-    has = at.has;
-    is_value = (its-value state p.kept.valid number object p.here n at.value at.has).1;
-    loaded = at.was;
-    loads = loads;
-    name = its.name;
-    index = its.index;
-    role = its.role;
-    bytes = says.bytes_are;
-    presence = says.presence_is;
-  }
-
-  pub loads-as : LoadsAsPart of_part from
-  loads-as = record { loaded = at.was; loads = loads; name = its.name; index = its.index; role = its.role }
+use Rattle.blk_sparse.proofs.PresentRuns.{front-numbers, missing-front, missing-none, numbers-slice, run-none, while-true, while-false}
 
 -- ---- its first run
 
@@ -124,22 +70,23 @@ present-inside value is place there = ⊎_elim
 front-inside : (value : PartValue) → IsPartValue value → (place count : ℕ) → place + length (take_while (is_present_in value.presence) (numbers_from place count)) ≤ max (length value.bytes) place
 unfolding numbers_from
 front-inside value is place zero = omega arith
-front-inside value is place (suc count) = by (is_present_in value.presence place) refl where
-  by : (b : Bool) → is_present_in value.presence place ≡ b → place + length (take_while (is_present_in value.presence) (place ∷ numbers_from (place + 1) count)) ≤ max (length value.bytes) place
-  by true e =
-      let more = front-inside value is (place + 1) count in
+front-inside value is place (suc count) = by (front-inside value is (place + 1) count) (is_present_in value.presence place) refl where
+  by : place + 1 + length (take_while (is_present_in value.presence) (numbers_from (place + 1) count)) ≤ max (length value.bytes) (place + 1) → (b : Bool) → is_present_in value.presence place ≡ b → place + length (take_while (is_present_in value.presence) (place ∷ numbers_from (place + 1) count)) ≤ max (length value.bytes) place
+  by more true e =
       let here = present-inside value is place e in
-      rw e (omega (arith, more, here))
-  by false e = rw e (omega arith)
+      let long = ap (λ (l : List ℕ). length l) (while-true (is_present_in value.presence) place (numbers_from (place + 1) count) e) in
+      omega (arith, more, here, long)
+  by more false e = let none = ap (λ (l : List ℕ). length l) (while-false (is_present_in value.presence) place (numbers_from (place + 1) count) e) in omega (arith, none)
+
+inside-slice : (bytes : List ℕ) (place k : ℕ) → place + k ≤ max (length bytes) place → map (slice_index bytes) (numbers_from place k) ≡ take k (drop place bytes)
+unfolding numbers_from
+inside-slice bytes place zero fits = refl
+inside-slice bytes place (suc k) fits = numbers-slice bytes place (suc k) (omega (arith, fits))
 
 pub bytes-front : (object : Object) (n place count : ℕ) (value : PartValue) → IsPartValue value → part_at object n ≡ Some value → part_bytes object n place count ≡ take (length (take_while (is_present_in value.presence) (numbers_from place count))) (drop place value.bytes)
 bytes-front object n place count value is has =
     ap (λ (o : Option PartValue). up_to_missing (map (λ p. option_and_then (byte_in p) o) (numbers_from place count))) has
     ∙ missing-front (is_present_in value.presence) (slice_index value.bytes) (numbers_from place count)
     ∙ ap (map (slice_index value.bytes)) (front-numbers (is_present_in value.presence) place count)
-    ∙ by (length (take_while (is_present_in value.presence) (numbers_from place count))) (front-inside value is place count)
-  where
-    by : (k : ℕ) → place + k ≤ max (length value.bytes) place → map (slice_index value.bytes) (numbers_from place k) ≡ take k (drop place value.bytes)
-    unfolding numbers_from
-    by zero fits = refl
-    by (suc k) fits = numbers-slice value.bytes place (suc k) (omega (arith, fits))
+    ∙ inside-slice value.bytes place (length (take_while (is_present_in value.presence) (numbers_from place count))) (front-inside value is place count)
+

@@ -1,6 +1,6 @@
 -- The parts that a range covers are used, one after the other.
 use Rattle.std.proofs.Common.{◌≡◌, inl, inr, ℕ, zero, suc, ◌+◌, ◌<◌, List, [], ◌∷◌, ◌++◌, map, refl, ap, sym, ◌∙◌, subst, arith, append_assoc, Bool, true, false, Some, None}
-use Rattle.std.specs.Prelude.{◌-◌, ◌/◌, filter, is_some}
+use Rattle.std.specs.Prelude.{◌-◌, ◌/◌, filter, is_some, if◌then◌else◌}
 use Rattle.std.specs.Option.{ForSome}
 use Rattle.blk_image.specs.Image.{Image}
 use Rattle.blk_image.specs.Told.{Passes, Told}

@@ -1,6 +1,7 @@
-use Rattle.std.proofs.Common.{◌≡◌, ℕ, None, sym, subst, ap, ◌∙◌}
+use Rattle.std.proofs.Common.{◌≡◌, ℕ, None, arith, sym, subst, ap, ◌∙◌}
 use Rattle.std.specs.Option.{ForSome}
 use Rattle.std.specs.Int.{cast_unsigned, w64}
+use Rattle.std.proofs.lemmas.Int.{of_z-to_z}
 use Rattle.std.proofs.lemmas.Result.{on_ok_weaker}
 use Rattle.blk_image.specs.Image.{Image}
 use Rattle.blk_image.specs.Told.{Told}
@@ -31,13 +32,15 @@ pub returns-clause-stops : goal.returns-clause-stops
 returns-clause-stops g c from there state layout unlinked number object node p =
     passes_stayed c.in_ok-key_len.ensures.stays
     (c.give_index.ensures.stops from (ap (λ (t : Told). t.files) c.in_ok-key_len.ensures.stays ∙ there) state layout unlinked number object node (cast_unsigned w64 c.args.signature) p c.requires.signature
-    (subst (λ (n : ℕ). HasIndex (cast_unsigned w64 c.args.signature) n c.print_index.new.out) (c.in_ok-key_len.ensures.length from there) c.print_index.ensures.index))
+    (subst (λ (n : ℕ). HasIndex (cast_unsigned w64 c.args.signature) n c.print_index.new.out) (c.in_ok-key_len.ensures.length from there)
+    (subst (λ (s : ℕ). HasIndex s c.in_ok-key_len.key_len c.print_index.new.out) (of_z-to_z w64 (cast_unsigned w64 c.args.signature) (let small = c.requires.signature in omega (arith, small))) c.print_index.ensures.index)))
 
 pub returns-clause-begun : goal.returns-clause-begun
 returns-clause-begun g c = on_ok_weaker c.give_index.result
     (λ done from there state layout unlinked number object node p.
     done from (ap (λ (t : Told). t.files) c.in_ok-key_len.ensures.stays ∙ there) state layout unlinked number object node (cast_unsigned w64 c.args.signature) p c.requires.signature
-    (subst (λ (n : ℕ). HasIndex (cast_unsigned w64 c.args.signature) n c.print_index.new.out) (c.in_ok-key_len.ensures.length from there) c.print_index.ensures.index))
+    (subst (λ (n : ℕ). HasIndex (cast_unsigned w64 c.args.signature) n c.print_index.new.out) (c.in_ok-key_len.ensures.length from there)
+    (subst (λ (s : ℕ). HasIndex s c.in_ok-key_len.key_len c.print_index.new.out) (of_z-to_z w64 (cast_unsigned w64 c.args.signature) (let small = c.requires.signature in omega (arith, small))) c.print_index.ensures.index)))
     c.give_index.ensures.begun
 
 pub returns-clause-untold : goal.returns-clause-untold
@@ -45,4 +48,5 @@ returns-clause-untold g c from there state layout unlinked number object node p 
     let same = ap (λ (t : Told). t.files) c.in_ok-key_len.ensures.stays in
     if_damaged_weaker c.give_index.result _ _ (λ damage none. sym same ∙ none)
     (c.give_index.ensures.untold from (same ∙ there) state layout unlinked number object node (cast_unsigned w64 c.args.signature) p c.requires.signature
-    (subst (λ (n : ℕ). HasIndex (cast_unsigned w64 c.args.signature) n c.print_index.new.out) (c.in_ok-key_len.ensures.length from there) c.print_index.ensures.index))
+    (subst (λ (n : ℕ). HasIndex (cast_unsigned w64 c.args.signature) n c.print_index.new.out) (c.in_ok-key_len.ensures.length from there)
+    (subst (λ (s : ℕ). HasIndex s c.in_ok-key_len.key_len c.print_index.new.out) (of_z-to_z w64 (cast_unsigned w64 c.args.signature) (let small = c.requires.signature in omega (arith, small))) c.print_index.ensures.index)))
