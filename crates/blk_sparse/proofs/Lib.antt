@@ -17,3 +17,16 @@ pub mod NewMade
 pub mod NewKept
 pub mod NewWhole
 pub mod NewIndex
+pub mod ParentFlags
+pub mod Begun
+pub mod PartUses
+pub mod FoundParts
+pub mod PartValid
+pub mod PartRoles
+pub mod ChangedParts
+pub mod UsedParts
+pub mod PresentRuns
+pub mod PresentParts
+pub mod MapsRead
+pub mod ReadParts
+pub mod ChangedUsed
