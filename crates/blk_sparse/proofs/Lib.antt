@@ -30,3 +30,4 @@ pub mod PresentParts
 pub mod MapsRead
 pub mod ReadParts
 pub mod ChangedUsed
+pub mod WritingPieces

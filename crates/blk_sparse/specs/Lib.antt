@@ -7,3 +7,4 @@ pub mod Parts
 pub mod Reading
 pub mod SparseObjects
 pub mod NewParts
+pub mod Writing

@@ -12,6 +12,7 @@ mod parts;
 mod present;
 mod reading;
 mod runs;
+mod writing;
 
 pub use beginning::begin;
 pub use children::{Parent, drop_children, drop_children_with};
