@@ -31,3 +31,5 @@ pub mod MapsRead
 pub mod ReadParts
 pub mod ChangedUsed
 pub mod WritingPieces
+pub mod WritingCovered
+pub mod KeptParents

@@ -21,3 +21,4 @@ pub use parents::{doom_parent, remove_parent_with};
 pub use present::read_present;
 pub use reading::{range, read, use_parts};
 pub use runs::{Run, find_run};
+pub use writing::write;
