@@ -19,3 +19,4 @@ pub mod PresentParts
 pub mod MapsRead
 pub mod ReadParts
 pub mod ChangedUsed
+pub mod KeptParents
