@@ -1,5 +1,5 @@
 -- The bytes of an object that are present among some of one part, or of two.
-use Rattle.std.proofs.Common.{◌≡◌, ℕ, ◌+◌, ◌<◌, ◌≤◌, List, ◌++◌, map, length, ap, ap₂, sym, ◌∙◌, arith, Bool, Option}
+use Rattle.std.proofs.Common.{◌≡◌, ℕ, ◌+◌, ◌<◌, ◌≤◌, List, [], ◌++◌, refl, map, length, ap, ap₂, sym, ◌∙◌, arith, Bool, Option}
 use Rattle.std.specs.Prelude.{◌-◌, ◌/◌, ◌%◌, is_some}
 use Rattle.std.specs.Option.{option_and_then}
 use Rattle.std.proofs.lemmas.List.{length-map}
@@ -62,7 +62,7 @@ module _ (object : Object) (offset cut : ℕ) (fits : offset % 1048576 + cut ≤
   moved tests = ap (λ (n : ℕ). first_run n n tests) (omega arith) ∙ run-moved (offset % 1048576) (offset % 1048576) far tests
 
   moved-second : (tests : List Bool) → first_run (offset + cut) (offset + cut) tests ≡ ((first_run 0 0 tests).0 + (offset + cut), (first_run 0 0 tests).1)
-  moved-second tests = run-moved 0 0 (offset + cut) tests
+  moved-second tests = let none : offset + cut ≡ 0 + (offset + cut) = omega arith in ap (λ (n : ℕ). first_run n n tests) none ∙ run-moved 0 0 (offset + cut) tests
 
   pub run-first : present_run object offset cut ≡ ((part_run object (offset / 1048576) (offset % 1048576) cut).0 + far, (part_run object (offset / 1048576) (offset % 1048576) cut).1)
   unfolding present_run
@@ -80,3 +80,41 @@ module _ (object : Object) (offset cut : ℕ) (fits : offset % 1048576 + cut ≤
       ∙ runs-join offset offset one two
       ∙ ap (λ (n : ℕ). joined_runs offset (offset + n) (first_run offset offset one) (first_run (offset + n) (offset + n) two)) long
       ∙ ap₂ (λ (a b : ℕ × ℕ). joined_runs offset (offset + cut) a b) (moved one) (moved-second two)
+
+-- ---- no byte
+
+pub run-empty : (object : Object) (offset : ℕ) → present_run object offset 0 ≡ (offset, 0)
+unfolding present_run numbers_from
+run-empty object offset = refl
+
+pub sparse-empty : (object : Object) (offset : ℕ) → sparse_bytes object offset 0 ≡ []
+unfolding sparse_bytes numbers_from
+sparse-empty object offset = refl
+
+-- ---- the runs as they are told
+
+shifted : (offset place rest start r : ℕ) → start ≡ r → place ≡ rest → offset - place + start ≡ r + (offset - rest)
+shifted offset place rest start r s p = omega (arith, s, p)
+
+pub first-run-is : (object : Object) (offset count first place cut start len : ℕ) → (start, len) ≡ part_run object first place cut → first ≡ offset / 1048576 → place ≡ offset % 1048576 → place + cut ≤ 1048576 → cut ≡ count → (offset - place + start, len) ≡ present_run object offset count
+first-run-is object offset count first place cut start len is first_is place_is fits cut_is =
+    let there : ◌≡◌ {A = ℕ × ℕ} (start, len) (part_run object (offset / 1048576) (offset % 1048576) cut) = is ∙ ap₂ (λ (n p : ℕ). part_run object n p cut) first_is place_is in
+    ap₂ (λ (a b : ℕ). (a, b)) (shifted offset place (offset % 1048576) start (part_run object (offset / 1048576) (offset % 1048576) cut).0 (ap (λ (r : ℕ × ℕ). r.0) there) place_is) (ap (λ (r : ℕ × ℕ). r.1) there)
+    ∙ sym (run-first object offset cut (omega (arith, place_is, fits)))
+    ∙ ap (present_run object offset) cut_is
+
+pub both-runs-are : (object : Object) (offset count first place cut border s l behind t m : ℕ) → (s, l) ≡ part_run object first place cut → (t, m) ≡ part_run object (first + 1) 0 behind → first ≡ offset / 1048576 → place ≡ offset % 1048576 → place + cut ≡ 1048576 → border ≡ offset + cut → cut + behind ≡ count → behind ≤ 1048576
+    → joined_runs offset border (offset - place + s, l) (border + t, m) ≡ present_run object offset count
+both-runs-are object offset count first place cut border s l behind t m one_is two_is first_is place_is whole border_is all few =
+    let one : ◌≡◌ {A = ℕ × ℕ} (s, l) (part_run object (offset / 1048576) (offset % 1048576) cut) = one_is ∙ ap₂ (λ (n p : ℕ). part_run object n p cut) first_is place_is in
+    let two : ◌≡◌ {A = ℕ × ℕ} (t, m) (part_run object (offset / 1048576 + 1) 0 behind) = two_is ∙ ap (λ (n : ℕ). part_run object (n + 1) 0 behind) first_is in
+    let full : offset % 1048576 + cut ≡ 1048576 = omega (arith, place_is, whole) in
+    ap₂ (λ (x y : ℕ × ℕ). joined_runs offset border x y)
+    (ap₂ (λ (a b : ℕ). (a, b)) (shifted offset place (offset % 1048576) s (part_run object (offset / 1048576) (offset % 1048576) cut).0 (ap (λ (r : ℕ × ℕ). r.0) one) place_is) (ap (λ (r : ℕ × ℕ). r.1) one))
+    (ap₂ (λ (a b : ℕ). (a, b)) (put border t (part_run object (offset / 1048576 + 1) 0 behind).0 (offset + cut) (ap (λ (r : ℕ × ℕ). r.0) two) border_is) (ap (λ (r : ℕ × ℕ). r.1) two))
+    ∙ ap (λ (b : ℕ). joined_runs offset b ((part_run object (offset / 1048576) (offset % 1048576) cut).0 + (offset - offset % 1048576), (part_run object (offset / 1048576) (offset % 1048576) cut).1) ((part_run object (offset / 1048576 + 1) 0 behind).0 + (offset + cut), (part_run object (offset / 1048576 + 1) 0 behind).1)) border_is
+    ∙ sym (run-both object offset cut (omega (arith, full)) behind full few)
+    ∙ ap (present_run object offset) all
+  where
+    put : (b t q e : ℕ) → t ≡ q → b ≡ e → b + t ≡ q + e
+    put b t q e x y = omega (arith, x, y)

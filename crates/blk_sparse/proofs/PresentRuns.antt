@@ -1,7 +1,7 @@
 -- Runs of present bytes, and the bytes up to the first that is missing, over two ranges one behind the other.
 use Rattle.std.proofs.Common.{◌≡◌, ◌≢◌, ℕ, zero, suc, ◌+◌, ◌<◌, ◌≤◌, List, [], ◌∷◌, ◌++◌, map, length, take, drop, refl, ap, ap₂, sym, ◌∙◌, arith, Bool, true, false, Option, Some, None, cond}
 use Rattle.std.specs.Prelude.{◌-◌, ◌==◌, slice_index, take_while, if◌then◌else◌}
-use Rattle.std.proofs.lemmas.Bool.{eq-eqb, eqb-true}
+use Rattle.std.proofs.lemmas.Bool.{eq-eqb, eqb-false, eqb-true, ne_eqb}
 use Rattle.std.proofs.lemmas.List.{drop_more}
 use Rattle.blk_model.specs.Bytes.{numbers_from}
 use Rattle.blk_model.specs.Sparse.{first_run, up_to_missing}
@@ -58,7 +58,7 @@ pub while-false : {A : Type 0} (t : A → Bool) (x : A) (xs : List A) → t x �
 while-false t x xs e = ap (λ (b : Bool). take (cond b (1 + prefix_len t xs) 0) (x ∷ xs)) e
 
 not-none : (n : ℕ) → ((1 + n) == 0) ≡ false
-not-none n = ap (λ (m : ℕ). m == 0) (one-more n)
+not-none n = ne_eqb (1 + n) 0 (λ e. absurd (omega (arith, e)))
 
 -- ---- bytes up to the first that is missing
 
@@ -181,7 +181,7 @@ runs-join asked start (false ∷ xs) ys =
     runs-join asked (start + 1) xs ys ∙ ap (λ (n : ℕ). joined_runs asked n (first_run asked (start + 1) xs) (first_run n n ys)) on
 runs-join asked start (true ∷ xs) ys = by (start + (1 + length (take_while (λ b. b) xs)) == start + length (true ∷ xs)) refl where
   at-border : (b : Bool) → ((first_run (start + length (true ∷ xs)) (start + length (true ∷ xs)) ys).0 == start + length (true ∷ xs)) ≡ b → length (take_while (λ b. b) xs) ≡ length xs
-      → (start, 1 + length (take_while (λ b. b) (xs ++ ys))) ≡ (if b then (start, 1 + length (take_while (λ b. b) xs) + (first_run (start + length (true ∷ xs)) (start + length (true ∷ xs)) ys).1) else (start, 1 + length (take_while (λ b. b) xs)))
+      → ◌≡◌ {A = ℕ × ℕ} (start, 1 + length (take_while (λ b. b) (xs ++ ys))) (if b then (start, 1 + length (take_while (λ b. b) xs) + (first_run (start + length (true ∷ xs)) (start + length (true ∷ xs)) ys).1) else (start, 1 + length (take_while (λ b. b) xs)))
   at-border true e all =
       let one = (tests-run-front (start + length (true ∷ xs)) ys).0 (eqb-true (first_run (start + length (true ∷ xs)) (start + length (true ∷ xs)) ys).0 (start + length (true ∷ xs)) e) in
       let long = front-whole xs ys all in
@@ -191,11 +191,11 @@ runs-join asked start (true ∷ xs) ys = by (start + (1 + length (take_while (λ
       let long = front-whole xs ys all in
       ap (λ (n : ℕ). (start, n)) (omega (arith, none, long, all))
 
-  by : (b : Bool) → (start + (1 + length (take_while (λ b. b) xs)) == start + length (true ∷ xs)) ≡ b → (start, 1 + length (take_while (λ b. b) (xs ++ ys))) ≡ joined_runs asked (start + length (true ∷ xs)) (start, 1 + length (take_while (λ b. b) xs)) (first_run (start + length (true ∷ xs)) (start + length (true ∷ xs)) ys)
+  by : (b : Bool) → (start + (1 + length (take_while (λ b. b) xs)) == start + length (true ∷ xs)) ≡ b → ◌≡◌ {A = ℕ × ℕ} (start, 1 + length (take_while (λ b. b) (xs ++ ys))) (joined_runs asked (start + length (true ∷ xs)) (start, 1 + length (take_while (λ b. b) xs)) (first_run (start + length (true ∷ xs)) (start + length (true ∷ xs)) ys))
   by true e = let all : start + (1 + length (take_while (λ b. b) xs)) ≡ start + length (true ∷ xs) = eqb-true _ _ e in rw (not-none (length (take_while (λ b. b) xs)), e) (at-border ((first_run (start + length (true ∷ xs)) (start + length (true ∷ xs)) ys).0 == start + length (true ∷ xs)) refl (omega (arith, all)))
   by false e =
       let less = whole-front xs in
-      let not-all : length (take_while (λ b. b) xs) ≢ length xs = λ all. (let z : true ≡ false = sym (eq-eqb _ _ (ap (λ (n : ℕ). start + (1 + n)) all)) ∙ e in cc) in
+      let not-all : length (take_while (λ b. b) xs) ≢ length xs = λ all. (let same : start + (1 + length (take_while (λ b. b) xs)) ≡ start + length (true ∷ xs) = omega (arith, all) in eqb-false (start + (1 + length (take_while (λ b. b) xs))) (start + length (true ∷ xs)) e same) in
       rw (not-none (length (take_while (λ b. b) xs)), e) (ap (λ (n : ℕ). (start, 1 + n)) (front-less xs ys (omega (arith, less, not-all))))
 
 -- where a run lies

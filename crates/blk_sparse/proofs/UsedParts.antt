@@ -1,7 +1,8 @@
 -- The parts that a range covers are used, one after the other.
-use Rattle.std.proofs.Common.{◌≡◌, inl, inr, ℕ, zero, suc, ◌+◌, ◌<◌, List, [], ◌∷◌, ◌++◌, map, refl, ap, sym, ◌∙◌, subst, arith, append_assoc, Bool, true, false, Some, None}
-use Rattle.std.specs.Prelude.{◌-◌, ◌/◌, filter, is_some, if◌then◌else◌}
+use Rattle.std.proofs.Common.{◌≡◌, ◌≢◌, inl, inr, ℕ, zero, suc, ◌+◌, ◌<◌, ◌≤◌, ap₂, append-nil, List, [], ◌∷◌, ◌++◌, map, refl, ap, sym, ◌∙◌, subst, arith, append_assoc, Bool, true, false, Some, None}
+use Rattle.std.specs.Prelude.{◌-◌, ◌/◌, ◌==◌, filter, is_some, if◌then◌else◌}
 use Rattle.std.specs.Option.{ForSome}
+use Rattle.std.proofs.lemmas.Bool.{eq-eqb, eqb-true}
 use Rattle.blk_image.specs.Image.{Image}
 use Rattle.blk_image.specs.Told.{Passes, Told}
 use Rattle.blk_image.proofs.Runs.{passes_then, passes_weaker}
@@ -21,7 +22,7 @@ use Rattle.blk_object.proofs.GoingNext.{then-counters}
 use Rattle.blk_object.proofs.MakingTaken.{session-then}
 use Rattle.blk_object.proofs.WrittenParts.{part-listed}
 use Rattle.blk_sparse.specs.Parts.{FindsBeforeOrAfter, IsListedAt, IsUsed}
-use Rattle.blk_sparse.specs.SparseObjects.{FindsUsed, HasPartAt, KeepsParent, KeepsParentUsed, parts_of, with_all_used}
+use Rattle.blk_sparse.specs.SparseObjects.{FindsUsed, HasPartAt, KeepsParent, KeepsParentUsed, parts_of, parts_used, with_all_used}
 
 -- ---- the numbers
 
@@ -62,6 +63,35 @@ existing-two object n m = by (is_some (part_at object n)) where
   by : (b : Bool) → map (part object.key) (if b then n ∷ filter (λ k. is_some (part_at object k)) (m ∷ []) else filter (λ k. is_some (part_at object k)) (m ∷ [])) ≡ map (part object.key) (if b then n ∷ [] else []) ++ parts_of object (existing_parts object (m ∷ []))
   by true = refl
   by false = refl
+
+pub existing-more : (object : Object) (n : ℕ) (ns : List ℕ) → parts_of object (existing_parts object (n ∷ ns)) ≡ parts_of object (existing_parts object (n ∷ [])) ++ parts_of object (existing_parts object ns)
+existing-more object n ns = by (is_some (part_at object n)) where
+  by : (b : Bool) → map (part object.key) (if b then n ∷ filter (λ k. is_some (part_at object k)) ns else filter (λ k. is_some (part_at object k)) ns) ≡ map (part object.key) (if b then n ∷ [] else []) ++ parts_of object (existing_parts object ns)
+  by true = refl
+  by false = refl
+
+-- those that a range covers: of no byte, of one part, of two
+pub used-no-part : (object : Object) (offset count : ℕ) → count ≡ 0 → [] ≡ parts_used object offset count
+used-no-part object offset count none = sym (ap (λ (n : ℕ). parts_of object (existing_parts object (covered_parts offset n))) none ∙ ap (λ (ns : List ℕ). parts_of object (existing_parts object ns)) (covered-none offset))
+
+pub used-one-part : (object : Object) (offset count first last : ℕ) → count ≢ 0 → first ≡ offset / 1048576 → last ≡ (offset + count - 1) / 1048576 → last ≡ first → parts_of object (existing_parts object (first ∷ [])) ≡ parts_used object offset count
+used-one-part object offset count first last some first_is last_is same =
+    let covered = covered-one offset count (offset + count - 1) (omega (arith, some)) (omega (arith, some)) (sym last_is ∙ same ∙ first_is) in
+    ap (λ (ns : List ℕ). parts_of object (existing_parts object ns)) (ap (λ (n : ℕ). n ∷ []) first_is ∙ sym covered)
+
+pub used-two-parts : (object : Object) (offset count first last : ℕ) → count ≢ 0 → count ≤ 1048576 → first ≡ offset / 1048576 → last ≡ (offset + count - 1) / 1048576 → last ≢ first → parts_of object (existing_parts object (first ∷ [])) ++ parts_of object (existing_parts object (last ∷ [])) ≡ parts_used object offset count
+used-two-parts object offset count first last some few first_is last_is other =
+    let next : last ≡ offset / 1048576 + 1 = omega (arith, some, few, first_is, last_is, other) in
+    let covered = covered-two offset count (offset + count - 1) (omega (arith, some)) (omega (arith, some)) (sym last_is ∙ next) in
+    sym (existing-more object first (last ∷ []))
+    ∙ ap (λ (ns : List ℕ). parts_of object (existing_parts object ns)) (ap₂ (λ (n m : ℕ). n ∷ m ∷ []) first_is next ∙ sym covered)
+
+-- in each case the first part is one of them
+pub used-first-part : (object : Object) (offset count first last : ℕ) → count ≢ 0 → count ≤ 1048576 → first ≡ offset / 1048576 → last ≡ (offset + count - 1) / 1048576 → (ys : List Item) × (parts_of object (existing_parts object (first ∷ [])) ++ ys ≡ parts_used object offset count)
+used-first-part object offset count first last some few first_is last_is = by (last == first) refl where
+  by : (b : Bool) → (last == first) ≡ b → (ys : List Item) × (parts_of object (existing_parts object (first ∷ [])) ++ ys ≡ parts_used object offset count)
+  by true e = ([], append-nil (parts_of object (existing_parts object (first ∷ []))) ∙ used-one-part object offset count first last some first_is last_is (eqb-true last first e))
+  by false e = (parts_of object (existing_parts object (last ∷ [])), used-two-parts object offset count first last some few first_is last_is (λ same. let z : true ≡ false = sym (eq-eqb last first same) ∙ e in cc))
 
 -- ---- at each word
 
@@ -111,11 +141,26 @@ module _ (state : State) (layout : Layout) (unlinked : List ℕ) (number : ℕ) 
     session = session-then from mid image one.session other.session;
   }
 
+-- ---- one part, if there is the part
+
+module _ (state : State) (layout : Layout) (unlinked : List ℕ) (number : ℕ) (object : Object) (node entry signature : ℕ) (from : Image) (p : KeepsParent state layout unlinked number object node entry signature from) (n : ℕ) where
+  pub some-used : (of_part : ℕ) (at : HasPartAt layout object n of_part) (image : Image) → IsUsed state layout unlinked (part object.key n) from image → KeepsParentUsed state layout unlinked number object node entry signature (parts_of object (existing_parts object (n ∷ []))) from image
+  some-used of_part at image u =
+      subst (λ (items : List Item). KeepsParentUsed state layout unlinked number object node entry signature items from image) (sym (existing-some object n at.value at.has)) (one-used state layout unlinked number object node entry signature from p (part object.key n) image u)
+
+  pub some-found : (of_part : ℕ) (at : HasPartAt layout object n of_part) (image : Image) → FindsBeforeOrAfter state (part object.key n) image → FindsUsed state (parts_of object (existing_parts object (n ∷ []))) image
+  some-found of_part at image f = subst (λ (items : List Item). FindsUsed state items image) (sym (existing-some object n at.value at.has)) (used-one state (part object.key n) image f)
+
+  pub nothing-used : part_at object n ≡ None → (image : Image) → from ≡ image → KeepsParentUsed state layout unlinked number object node entry signature (parts_of object (existing_parts object (n ∷ []))) from image
+  nothing-used none image same =
+      subst (KeepsParentUsed state layout unlinked number object node entry signature (parts_of object (existing_parts object (n ∷ []))) from) same
+      (subst (λ (items : List Item). KeepsParentUsed state layout unlinked number object node entry signature items from from) (sym (existing-none object n none)) (none-used state layout unlinked number object node entry signature from p))
+
 -- ---- two calls
 
 module _ (a m b : Told) (from : Image) (there : a.files ≡ Some from) (state : State) (layout : Layout) (unlinked : List ℕ) (number : ℕ) (object : Object) (node entry signature : ℕ) (p : KeepsParent state layout unlinked number object node entry signature from) (xs ys : List Item)
     (first : Passes a m (FindsUsed state xs)) where
-  abbrev mid : IsTold m (FindsUsed state xs)
+  abbrev pub mid : IsTold m (FindsUsed state xs)
   mid = told_then a m from (FindsUsed state xs) there first
 
   pub first-further : Passes a m (FindsUsed state (xs ++ ys))

@@ -180,11 +180,11 @@ module _ (state : State) (layout : Layout) (unlinked : List ℕ) (number : ℕ) 
           → KeepsParentThen (with_bytes_written state number object offset bytes) unlinked number (with_bytes object offset bytes) node entry signature from image
       done-two image last =
           let same : with_bytes object offset bytes ≡ with_piece (with_piece object n place front) (n + 1) 0 back =
-              bytes-two object offset n place left bytes covers at rest_is most ∙ ap₂ (λ (f b : List ℕ). with_piece (with_piece object n place f) (n + 1) 0 b) (sym is_front) (sym is_back) in
+          bytes-two object offset n place left bytes covers at rest_is most ∙ ap₂ (λ (f b : List ℕ). with_piece (with_piece object n place f) (n + 1) 0 b) (sym is_front) (sym is_back) in
           let uses : List Item = used (part object.key (n + 1)) (used (part object.key n) state.uses) in
           let states : with_bytes_written state number object offset bytes ≡ with_piece_written (with_piece_written state number object n place front) number (with_piece object n place front) (n + 1) 0 back =
-              ap₂ (λ (o : Object) (ns : List ℕ). amidst state number o (used_all (parts_of object ns) state.uses)) same covers
-              ∙ ap (λ (slots : List (Option Object)). record state { objects = slots; uses = uses }) (sym (set-twice state.objects number (Some (with_piece object n place front)) (Some (with_piece (with_piece object n place front) (n + 1) 0 back)))) in
+          ap₂ (λ (o : Object) (ns : List ℕ). amidst state number o (used_all (parts_of object ns) state.uses)) same covers
+          ∙ ap (λ (slots : List (Option Object)). record state { objects = slots; uses = uses }) (sym (set-twice state.objects number (Some (with_piece object n place front)) (Some (with_piece (with_piece object n place front) (n + 1) 0 back)))) in
           subst (λ (s : State). KeepsParentThen s unlinked number (with_bytes object offset bytes) node entry signature from image) (sym states)
           (subst (λ (o : Object). KeepsParentThen (with_piece_written (with_piece_written state number object n place front) number (with_piece object n place front) (n + 1) 0 back) unlinked number o node entry signature from image) (sym same)
           (record { now = last.now; parent = last.parent; counters = counters-then from mid image k.counters last.counters; session = session-then from mid image k.session last.session }))

@@ -31,6 +31,7 @@ const INDEX: u8 = 2;
 
 // The place of the flags in a record, and those of a parent.
 const FLAGS: u32 = 72;
+
 const PARENT: u32 = 1;
 
 /// Makes a plain object, that isn't settled and has nothing in its second and its third stream, a sparse one with a

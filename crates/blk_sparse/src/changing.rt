@@ -32,6 +32,7 @@ use blk_stream::read;
 
 // The streams of a part that have its data and its index.
 const DATA: u8 = 1;
+
 const INDEX: u8 = 2;
 
 // The flags of the record of a part.
@@ -80,7 +81,11 @@ pub(crate) fn change_part<F: Folder>(
 }
 
 // The index of a part, which is read from its third stream, by two folder calls.
-pub(crate) fn read_map<F: Folder>(f: &mut F, files: &BlockFiles, part: Addr) -> Result<PartMap, Fault>
+pub(crate) fn read_map<F: Folder>(
+    f: &mut F,
+    files: &BlockFiles,
+    part: Addr,
+) -> Result<PartMap, Fault>
     requires kind { kind_of part ≡ blocks_256 }
     requires stands { IsTrue (stands_among files.now part) }
     ensures map { IfOk result (λ map. ForSome (F.told f.old).files (λ image. (loaded : Loaded) (name : Name) (index : PartIndex) → LoadsWith part loaded image → loaded.role ≡ IsPart name index → index_of map ≡ index)) }

@@ -171,5 +171,6 @@ fn bytes_there<F: Folder>(
     if start != place {
         return Ok(0);
     }
-    read(f, files, part, DATA, u64::from(place), &mut out[..len as usize])
+    let piece = &mut out[..len as usize];
+    read(f, files, part, DATA, u64::from(place), piece)
 }

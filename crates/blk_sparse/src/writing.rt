@@ -77,7 +77,16 @@ pub(crate) fn write_piece<F: Folder>(
         signature: parent.signature,
         part: number,
     };
-    make_part(f, files, parent.entry, &child, &room[..len], place, piece, moment)
+    make_part(
+        f,
+        files,
+        parent.entry,
+        &child,
+        &room[..len],
+        place,
+        piece,
+        moment,
+    )
 }
 
 // Writes bytes to an object with a key from an offset on: to one part, or to two.
