@@ -56,7 +56,7 @@ child-said key streams IsPlain = refl
 child-said key streams (IsParent index) = refl
 child-said key streams (IsPart name index) = refl
 
-among-map : (g : ℕ → ℕ) (xs : List ℕ) (x : ℕ) → is_among xs x ≡ true → is_among (map g xs) (g x) ≡ true
+pub among-map : (g : ℕ → ℕ) (xs : List ℕ) (x : ℕ) → is_among xs x ≡ true → is_among (map g xs) (g x) ≡ true
 among-map g [] x h = h
 among-map g (z ∷ zs) x h = ⊎_elim
     (λ (e : (eqb z x ≡ true) × (z ≡ x)). or_left (g z == g x) (is_among (map g zs) (g x)) (eq-eqb (g z) (g x) (ap g e.1)))
@@ -134,14 +134,30 @@ module _ (state : State) (layout : Layout) (keep : Item → Bool) (chains : ℕ 
       (subst (λ (x : ℕ). is_key_length x e ≡ true) place f.facts.keyed.key_length)
       (subst (λ (x : ℕ). stored_key (store_of image) x e ≡ Some q.loaded.key) place f.facts.keyed.key))
 
+  -- ---- what is found is the record of the item that its key says
+
+  item-is : (other : Item) (loaded : Loaded) → is_listed state other ≡ true → keep other ≡ true → layout.at (layout.place other) ≡ Some loaded → said (is_part loaded) loaded.key ≡ other
+  item-is other loaded there left is =
+      sym (item-said loaded.key loaded.streams loaded.role (λ name index role. load-then (store_of image) (rule_of layout (layout.place other)) (layout.place other) loaded (loads other loaded there left is) (λ n e f. role-name e loaded.key loaded.streams name index (f.facts.role ∙ ap Some role))))
+      ∙ item-of state layout k.lies.laid other loaded there is
+
+  -- so where one is found by the name of a part, this is listed
+  pub named-listed : (key : List ℕ) (name : Name) (entry : ℕ) (before : Option ℕ) → read_name key ≡ Some name → IsFound key true entry before image → is_listed state (part name.key name.part) ≡ true
+  unfolding said
+  named-listed key name entry before read f =
+      let among : is_among (chains (bucket_of_key key)) entry ≡ true = ap (λ (ws : List ℕ). is_among ws entry) (sym (chain-same key)) ∙ standing-among (chained_for (store_of image) key) entry before f.prefix f.suffix f.stands in
+      let q = of-item (bucket_of_key key) entry (below key) among in
+      load-then (store_of image) (rule_of layout (layout.place q.item)) (layout.place q.item) q.loaded (loads q.item q.loaded q.listed q.stays q.here) (λ n e g.
+      let place : n.contents ≡ entry = sym g.facts.contents_is ∙ q.record_is in
+      let same : e ≡ f.has_key.fields = some_inj (sym g.entry ∙ ap (store_of image).entry place ∙ f.has_key.here) in
+      let flag : is_part q.loaded ≡ true = sym (role-part e q.loaded.key q.loaded.streams q.loaded.role g.facts.role) ∙ ap (λ (x : RecordFields). x.flags == child) same ∙ f.has_key.flag in
+      let key_is : q.loaded.key ≡ key = some_inj (sym g.facts.keyed.key ∙ ap (λ (w : ℕ). stored_key (store_of image) w e) place ∙ ap (λ (x : RecordFields). stored_key (store_of image) entry x) same ∙ f.has_key.key) in
+      let item : part name.key name.part ≡ q.item = ap (λ (o : Option Name). option_map_or (λ (x : Name). part x.key x.part) o (main key)) (sym read) ∙ sym (ap (λ (b : Bool). said b q.loaded.key) flag ∙ ap (said true) key_is) ∙ item-is q.item q.loaded q.listed q.stays q.here in
+      ap (is_listed state) item ∙ q.listed)
+
   -- ---- an item that isn't out is found
 
   module _ (item : Item) (was : Loaded) (listed : is_listed state item ≡ true) (stays : keep item ≡ true) (here : layout.at (layout.place item) ≡ Some was) where
-    item-is : (other : Item) (loaded : Loaded) → is_listed state other ≡ true → keep other ≡ true → layout.at (layout.place other) ≡ Some loaded → said (is_part loaded) loaded.key ≡ other
-    item-is other loaded there left is =
-        sym (item-said loaded.key loaded.streams loaded.role (λ name index role. load-then (store_of image) (rule_of layout (layout.place other)) (layout.place other) loaded (loads other loaded there left is) (λ n e f. role-name e loaded.key loaded.streams name index (f.facts.role ∙ ap Some role))))
-        ∙ item-of state layout k.lies.laid other loaded there is
-
     child-is : is_part was ≡ is_child_item item
     child-is = sym (child-said was.key was.streams was.role) ∙ ap is_child_item (item-of state layout k.lies.laid item was listed here)
 

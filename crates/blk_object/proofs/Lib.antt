@@ -35,13 +35,16 @@ pub mod WrittenRoles
 pub mod WrittenLoads
 pub mod WrittenChanges
 pub mod WrittenRecords
+pub mod WrittenItems
 pub mod WrittenObjects
+pub mod WrittenParts
 pub mod WrittenCharges
 pub mod RisenCounters
 pub mod WritingPlaces
 pub mod WrittenWords
 pub mod WrittenStored
 pub mod WrittenStages
+pub mod WrittenEnds
 pub mod WrittenCalls
 pub mod StreamsThere
 pub mod WriteChecks

@@ -92,13 +92,19 @@ streams-length image e streams is = go ((data_size_of e 3 == 0) && (address_of e
         all = sym (ap (sum_by length) same) ∙ (let sum : sum_by length (a ∷ b ∷ c ∷ []) ≡ data_size_of e 0 + data_size_of e 1 + data_size_of e 2 = omega (arith, first, second, third) in sum);
       }
 
+-- the length of the key of what loads is in its record
+pub record-key : (image : Image) (entry : ℕ) (loaded : Loaded) → LoadsWith entry loaded image → length loaded.key ≡ (entry_at image entry).key_len
+record-key image entry loaded with_record = load-then (store_of image) with_record.rule with_record.node loaded with_record.loads (λ n e f.
+    let here : (store_of image).entry entry ≡ Some e = ap (store_of image).entry (sym with_record.contents ∙ f.facts.contents_is) ∙ f.entry in
+    key-length image n.contents e loaded.key f.facts.keyed.key ∙ sym (ap (λ (x : RecordFields). x.key_len) (shown-fields image entry e here)))
+
 -- what loads is charged the sum of the lengths that its record says
 pub record-charge : (image : Image) (entry : ℕ) (loaded : Loaded) → LoadsWith entry loaded image
     → (entry_at image entry).key_len + slice_index (entry_at image entry).data_size 0 + slice_index (entry_at image entry).data_size 1 + slice_index (entry_at image entry).data_size 2 ≡ charge_of loaded
 record-charge image entry loaded with_record = load-then (store_of image) with_record.rule with_record.node loaded with_record.loads (λ n e f.
     let here : (store_of image).entry entry ≡ Some e = ap (store_of image).entry (sym with_record.contents ∙ f.facts.contents_is) ∙ f.entry in
     let shown : fields_of (entry_at image entry) ≡ e = shown-fields image entry e here in
-    let key : length loaded.key ≡ (entry_at image entry).key_len = key-length image n.contents e loaded.key f.facts.keyed.key ∙ sym (ap (λ (x : RecordFields). x.key_len) shown) in
+    let key : length loaded.key ≡ (entry_at image entry).key_len = record-key image entry loaded with_record in
     let streams : sum_by length loaded.streams ≡ slice_index (entry_at image entry).data_size 0 + slice_index (entry_at image entry).data_size 1 + slice_index (entry_at image entry).data_size 2 =
     (streams-length image e loaded.streams f.facts.streams).all ∙ sym (ap (λ (x : RecordFields). slice_index x.data_size 0 + slice_index x.data_size 1 + slice_index x.data_size 2) shown) in
     omega (arith, key, streams))

@@ -5,7 +5,7 @@ use Rattle.std.proofs.lemmas.Bool.{or_left}
 use Rattle.blk_format.specs.BlockFiles.{is_among}
 use Rattle.blk_format.specs.Hash.{hash}
 use Rattle.blk_volume.specs.Chains.{bucket_of_hash, chain}
-use Rattle.blk_volume.specs.Entries.{is_key_length, role_of, stored_key, stored_streams}
+use Rattle.blk_volume.specs.Entries.{Role, is_key_length, role_of, stored_key, stored_streams}
 use Rattle.blk_volume.specs.Loads.{Loaded, Rule, load}
 use Rattle.blk_volume.specs.View.{RecordFields, StoreView}
 use Rattle.blk_laws.proofs.walks.Loading.{load-from}
@@ -17,14 +17,14 @@ module _ (v u : StoreView) (rule : Rule) (node : ℕ) (was : Loaded) (free : rul
   unfolding is_key_length
   key-length w e c = rw (c.key_len, c.flags) refl
 
-  pub load-written : (streams : List (List ℕ)) → ((e : RecordFields) → v.entry was.contents ≡ Some e → IsStreamChange e d × (is_key_length was.contents e ≡ true → stored_key u was.contents d ≡ stored_key v was.contents e)) → stored_streams u d ≡ Some streams
-      → ((e : RecordFields) → v.entry was.contents ≡ Some e → role_of e was.key was.streams ≡ Some was.role → role_of d was.key streams ≡ Some was.role) → load u rule node ≡ Ok (record was { streams = streams; others = d.long_key ∷ d.data_addr })
-  load-written streams change are role = load-then v rule node was ok (λ n e f.
+  pub load-written : (streams : List (List ℕ)) (role : Role) → ((e : RecordFields) → v.entry was.contents ≡ Some e → IsStreamChange e d × (is_key_length was.contents e ≡ true → stored_key u was.contents d ≡ stored_key v was.contents e)) → stored_streams u d ≡ Some streams
+      → ((e : RecordFields) → v.entry was.contents ≡ Some e → role_of e was.key was.streams ≡ Some was.role → role_of d was.key streams ≡ Some role) → load u rule node ≡ Ok (record was { role = role; streams = streams; others = d.long_key ∷ d.data_addr })
+  load-written streams role change are has = load-then v rule node was ok (λ n e f.
       let r = f.facts in let k = r.keyed in
       let here : v.entry was.contents ≡ Some e = ap v.entry r.contents_is ∙ f.entry in
       let c = (change e here).0 in
       let lengths : is_key_length was.contents e ≡ true = ap (λ (w : ℕ). is_key_length w e) r.contents_is ∙ k.key_length in
-      load-from u rule node (record was { streams = streams; others = d.long_key ∷ d.data_addr }) n d (record {
+      load-from u rule node (record was { role = role; streams = streams; others = d.long_key ∷ d.data_addr }) n d (record {
         node = nodes ∙ f.node;
         entry = ap u.entry (sym r.contents_is) ∙ there;
         checks = c.checks ∙ f.checks;
@@ -40,7 +40,7 @@ module _ (v u : StoreView) (rule : Rule) (node : ℕ) (was : Loaded) (free : rul
             chained = or_left (not rule.chained) (is_among (chain u (bucket_of_hash d.hash)).reached n.contents) (ap not free);
           };
           streams = are;
-          role = role e here r.role;
+          role = has e here r.role;
           node_is = r.node_is;
           contents_is = r.contents_is;
           dirty_is = r.dirty_is;

@@ -1,5 +1,5 @@
 -- What a record is once one of its streams is written: the same as before.
-use Rattle.std.proofs.Common.{◌≡◌, ℕ, zero, suc, ◌<◌, List, [], ap, sym, ◌∙◌, subst, Bool, true, false, Some, None, arith}
+use Rattle.std.proofs.Common.{◌≡◌, ℕ, zero, suc, ◌<◌, List, [], ap, sym, ◌∙◌, subst, Bool, true, false, Option, Some, None, arith, refl}
 use Rattle.std.specs.Prelude.{not, ◌&&◌, ◌==◌, length, nat_lt, if◌then◌else◌}
 use Rattle.std.specs.Option.{option_and_then}
 use Rattle.std.proofs.lemmas.Option.{option_and_then_some, cond_some}
@@ -14,7 +14,7 @@ use Rattle.blk_stream.specs.Loading.{stored_streams_with}
 
 -- ---- what its row says
 
-abbrev key-in : Row → List ℕ
+abbrev pub key-in : Row → List ℕ
 key-in (main_row key shape streams) = key
 key-in (part_row key n value) = key
 
@@ -75,31 +75,52 @@ pub record IsStreamChange (e d : RecordFields) : Type 0 where
   pub flags : d.flags ≡ e.flags
 
 -- a role is that of a parent, or of a part
-record IsParentRole (role : Role) : Type 0 where
-  index : ParentIndex
-  is : role ≡ IsParent index
+pub record IsParentRole (role : Role) : Type 0 where
+  pub index : ParentIndex
+  pub is : role ≡ IsParent index
 
-pub record IsPartRole (role : Role) : Type 0 where
+-- that of a part with what its key and its streams are
+pub record IsPartRole (key : List ℕ) (streams : List (List ℕ)) (role : Role) : Type 0 where
   pub name : Name
   pub index : PartIndex
   pub is : role ≡ IsPart name index
+  pub named : read_name key ≡ Some name
+  pub indexed : read_part_index (stream 2 streams) ≡ Some index
+  pub empty : (length (stream 0 streams) == 0) ≡ true
+  pub fits : nat_lt 1048576 (length (stream 1 streams)) ≡ false
+  pub agrees : ((index.signature == name.signature) && (index.key_len == length name.key) && is_covered index (length (stream 1 streams))) ≡ true
 
-parent-of : (e : RecordFields) (ss : List (List ℕ)) (role : Role) → parent_role e ss ≡ Some role → IsParentRole role
+pub parent-of : (e : RecordFields) (ss : List (List ℕ)) (role : Role) → parent_role e ss ≡ Some role → IsParentRole role
 unfolding parent_role
 parent-of e ss role ok = go (not (length (stream 1 ss) == 0)) ok where
   go : (t : Bool) → (if t then None else option_and_then (λ (index : ParentIndex). if index.key_len == e.key_len then Some (IsParent index) else None) (read_parent_index (stream 2 ss))) ≡ Some role → IsParentRole role
   go true h = cc
   go false h = option_and_then_some (λ (index : ParentIndex). if index.key_len == e.key_len then Some (IsParent index) else None) (read_parent_index (stream 2 ss)) role h (λ index is done. record { index = index; is = sym (cond_some _ (IsParent index) role done).1 })
 
-pub part-of : (key : List ℕ) (ss : List (List ℕ)) (role : Role) → part_role key ss ≡ Some role → IsPartRole role
+pub part-of : (key : List ℕ) (ss : List (List ℕ)) (role : Role) → part_role key ss ≡ Some role → IsPartRole key ss role
 unfolding part_role
-part-of key ss role ok = go (not (length (stream 0 ss) == 0)) (nat_lt 1048576 (length (stream 1 ss))) ok where
-  go : (t u : Bool) → (if t then None else if u then None else option_and_then (λ (name : Name). option_and_then (λ (index : PartIndex). if (index.signature == name.signature) && (index.key_len == length name.key) && is_covered index (length (stream 1 ss)) then Some (IsPart name index) else None) (read_part_index (stream 2 ss))) (read_name key)) ≡ Some role → IsPartRole role
-  go true u h = cc
-  go false true h = cc
-  go false false h = option_and_then_some (λ (name : Name). option_and_then (λ (index : PartIndex). if (index.signature == name.signature) && (index.key_len == length name.key) && is_covered index (length (stream 1 ss)) then Some (IsPart name index) else None) (read_part_index (stream 2 ss))) (read_name key) role h (λ name named then_index.
+part-of key ss role ok = go (length (stream 0 ss) == 0) refl (nat_lt 1048576 (length (stream 1 ss))) refl ok where
+  go : (t : Bool) → (length (stream 0 ss) == 0) ≡ t → (u : Bool) → nat_lt 1048576 (length (stream 1 ss)) ≡ u → (if not t then None else if u then None else option_and_then (λ (name : Name). option_and_then (λ (index : PartIndex). if (index.signature == name.signature) && (index.key_len == length name.key) && is_covered index (length (stream 1 ss)) then Some (IsPart name index) else None) (read_part_index (stream 2 ss))) (read_name key)) ≡ Some role → IsPartRole key ss role
+  go false e u f h = cc
+  go true e true f h = cc
+  go true e false f h = option_and_then_some (λ (name : Name). option_and_then (λ (index : PartIndex). if (index.signature == name.signature) && (index.key_len == length name.key) && is_covered index (length (stream 1 ss)) then Some (IsPart name index) else None) (read_part_index (stream 2 ss))) (read_name key) role h (λ name named then_index.
       option_and_then_some (λ (index : PartIndex). if (index.signature == name.signature) && (index.key_len == length name.key) && is_covered index (length (stream 1 ss)) then Some (IsPart name index) else None) (read_part_index (stream 2 ss)) role then_index (λ index is done.
-      record { name = name; index = index; is = sym (cond_some _ (IsPart name index) role done).1 }))
+      let d = cond_some _ (IsPart name index) role done in
+      record { name = name; index = index; is = sym d.1; named = named; indexed = is; empty = e; fits = f; agrees = d.0 }))
+
+-- and what they are makes it so
+pub part-from : (key : List ℕ) (ss : List (List ℕ)) (role : Role) (p : IsPartRole key ss role) → part_role key ss ≡ Some role
+unfolding part_role
+part-from key ss role p = rw (p.empty, p.fits, p.named, p.indexed, p.agrees) (ap Some (sym p.is))
+
+-- the role of a record that is a part's is that of its key and its streams
+pub role-part-of : (e : RecordFields) (key : List ℕ) (ss : List (List ℕ)) (name : Name) (index : PartIndex) → role_of e key ss ≡ Some (IsPart name index) → part_role key ss ≡ Some (IsPart name index)
+unfolding role_of
+role-part-of e key ss name index is = go (e.flags == 1) (e.flags == 2) is where
+  go : (a b : Bool) → (if a then parent_role e ss else if b then part_role key ss else Some IsPlain) ≡ Some (IsPart name index) → part_role key ss ≡ Some (IsPart name index)
+  go true b h = let p = parent-of e ss (IsPart name index) h in let c : IsPart name index ≡ IsParent p.index = p.is in absurd (cc)
+  go false true h = h
+  go false false h = let c : ◌≡◌ {A = Option Role} (Some IsPlain) (Some (IsPart name index)) = h in absurd (cc)
 
 parent-still : (e d : RecordFields) (bytes : List ℕ) (streams : List (List ℕ)) → d.key_len ≡ e.key_len → parent_role d (stored_streams_with 0 bytes streams) ≡ parent_role e streams
 unfolding parent_role stored_streams_with
@@ -118,3 +139,12 @@ role-written e d c key k shape os role i bytes streams first row is = subst (λ 
       subst (λ (j : ℕ). parent_role d (stored_streams_with j bytes streams) ≡ Some role) (sym none) (parent-still e d bytes streams c.key_len ∙ h)
   go false true h = let p = part-of key streams role h in absurd (no (ap is-main (sym row ∙ ap (λ (r : Role). row_with key r streams) p.is)))
   go false false h = h
+
+-- and where it is a part's, it has the role that its key and other streams give
+pub part-role-written : (e d : RecordFields) (c : IsStreamChange e d) (key : List ℕ) (streams after : List (List ℕ)) (name : Name) (index : PartIndex) (role : Role) → role_of e key streams ≡ Some (IsPart name index) → part_role key after ≡ Some role → role_of d key after ≡ Some role
+unfolding role_of
+part-role-written e d c key streams after name index role is then_is = subst (λ (f : ℕ). (if f == 1 then parent_role d after else if f == 2 then part_role key after else Some IsPlain) ≡ Some role) (sym c.flags) (go (e.flags == 1) (e.flags == 2) is) where
+  go : (a b : Bool) → (if a then parent_role e streams else if b then part_role key streams else Some IsPlain) ≡ Some (IsPart name index) → (if a then parent_role d after else if b then part_role key after else Some IsPlain) ≡ Some role
+  go true b h = let p = parent-of e streams (IsPart name index) h in let c : IsPart name index ≡ IsParent p.index = p.is in absurd (cc)
+  go false true h = then_is
+  go false false h = let c : ◌≡◌ {A = Option Role} (Some IsPlain) (Some (IsPart name index)) = h in absurd (cc)

@@ -1,37 +1,30 @@
--- An object whose stream is written, stage by stage: what was at rest is found at each word, and it is kept with the stream written in the end.
-use Rattle.std.proofs.Common.{◌≡◌, ◌≢◌, ⊎_elim, inl, inr, ℕ, zero, suc, ◌+◌, ◌<◌, ◌≤◌, List, [], ◌∷◌, ◌++◌, length, refl, ap, ap₂, sym, ◌∙◌, subst, arith, Bool, true, false, Option, Some, None}
+-- What lies at a node while a stream of it is written, stage by stage: what was at rest is found at each word, and the next state is kept in the end.
+use Rattle.std.proofs.Common.{◌≡◌, ◌≢◌, ⊎_elim, inl, inr, ℕ, ◌+◌, ◌<◌, ◌≤◌, List, [], ◌∷◌, ◌++◌, length, refl, ap, ap₂, sym, ◌∙◌, subst, arith, Bool, true, false, Option, Some, None}
 use Rattle.std.specs.Prelude.{◌⊎◌, ◌==◌, not, unwrap_or, if◌then◌else◌}
 use Rattle.std.specs.List.Sorted.{IsPermutation}
-use Rattle.std.specs.List.{AllByRecursion, sum_by}
-use Rattle.std.proofs.lemmas.Bool.{cases_eq, eqb-true, or_left, or_parts, or_right}
+use Rattle.std.specs.List.{AllByRecursion}
+use Rattle.std.proofs.lemmas.Bool.{cases_eq, eqb-true, or_left, or_right}
 use Rattle.std.proofs.lemmas.List.Sorted.{IsPermutation-refl}
 use Rattle.blk_image.specs.Footprint.{SameOutside, either}
 use Rattle.blk_image.specs.Image.{File, Image, has_file}
 use Rattle.blk_image.proofs.Footprints.{outside_wider, within_left}
-use Rattle.blk_image.proofs.Runs.{some_inj}
-use Rattle.blk_model.specs.Effects.{stream_after, stream_in, stream_of, streams_with}
+use Rattle.blk_model.specs.Effects.{stream_after}
 use Rattle.blk_model.specs.Holding.{rest}
-use Rattle.blk_model.specs.Items.{Row, Streams, is_sparse, main}
-use Rattle.blk_model.specs.State.{IsValidState, Object, State, object_at}
+use Rattle.blk_model.specs.Items.{Row}
+use Rattle.blk_model.specs.State.{State}
 use Rattle.blk_format.specs.Address.{blocks_256, byte_size, kind_of}
-use Rattle.blk_format.specs.BlockFiles.{is_among, stands_in}
+use Rattle.blk_format.specs.BlockFiles.{stands_in}
 use Rattle.blk_format.specs.Claims.{Claim, claims_of, claims_of_all, has_claim}
-use Rattle.blk_format.proofs.Among.{is_among-append}
 use Rattle.blk_format.specs.Records.{Entry, entry_checks, entry_is_sealed}
-use Rattle.blk_volume.specs.Entries.{stored_stream, stream}
+use Rattle.blk_volume.specs.Entries.{Role, stored_stream, stream}
 use Rattle.blk_volume.specs.Footprint.{IsClear}
-use Rattle.blk_volume.specs.Found.{charge_of}
-use Rattle.blk_volume.specs.Layout.{Layout, order}
-use Rattle.blk_volume.specs.ListView.{Distinct}
+use Rattle.blk_volume.specs.Layout.{Layout}
 use Rattle.blk_volume.specs.Loads.{Loaded}
 use Rattle.blk_volume.specs.Sound.{words_of}
-use Rattle.blk_volume.specs.Tidy.{doomed_nodes}
 use Rattle.blk_volume.specs.View.{entry_at, fields_of, store_of}
 use Rattle.blk_laws.proofs.claims.ByteChanges.{stands-some}
 use Rattle.blk_laws.proofs.claims.ClaimLists.{claim-append}
 use Rattle.blk_laws.proofs.claims.Outside.{clear-zero}
-use Rattle.blk_laws.proofs.states.Laid.{is_among-node}
-use Rattle.blk_laws.proofs.states.Settling.{main-listed}
 use Rattle.blk_disk.specs.declared.tables.BlockFiles.{BlockFiles}
 use Rattle.blk_disk.specs.Tables.{Agrees, stands_among}
 use Rattle.blk_entry.specs.Keys.{IsInside, data_at}
@@ -43,26 +36,22 @@ use Rattle.blk_stream.specs.Writing.{have_one_storage, size_after}
 use Rattle.blk_stream.specs.Written.{StreamIsWritten}
 use Rattle.blk_stream.proofs.StreamLists.{stored_there}
 use Rattle.blk_stream.specs.Loading.{stored_streams_with}
-use Rattle.blk_stream.proofs.EmptyStreams.{fourth_of, streams_known}
-use Rattle.blk_stream.proofs.StreamPlaces.{stream_is_bytes, streams_parts}
+use Rattle.blk_stream.proofs.StreamPlaces.{stream_is_bytes}
 use Rattle.blk_kept.specs.Changes.{Finds, SameCounters, SameSession}
-use Rattle.blk_kept.specs.CommandEnds.{after_write}
 use Rattle.blk_kept.specs.Keeping.{KeepsUncounted}
 use Rattle.blk_kept.specs.ObjectLaws.{layout_after}
 use Rattle.blk_kept.proofs.AtNodes.{record-own}
 use Rattle.blk_kept.proofs.Keeping.{kept-found}
 use Rattle.blk_object.specs.Freeing.{AreGoing, Removes}
 use Rattle.blk_object.specs.Making.{Takes, long_word}
-use Rattle.blk_object.specs.Writing.{IsLoadedAfter, IsRisen, IsWrittenUncounted, node_of_object, with_written}
 use Rattle.blk_object.proofs.FreedPlaces.{all-counted, all-gone, going-finds}
 use Rattle.blk_object.proofs.GoingNext.{then-counters}
 use Rattle.blk_object.proofs.MakingTaken.{session-then}
 use Rattle.blk_object.proofs.Sessions.{freed-session}
 use Rattle.blk_object.proofs.WrittenChanges.{touched_of, written-counters}
-use Rattle.blk_object.proofs.WrittenCharges.{charge-written, charged-elsewhere, charged-there}
-use Rattle.blk_object.proofs.WrittenObjects as objects
+use Rattle.blk_object.proofs.WrittenItems as items
+use Rattle.blk_object.proofs.WrittenItems.{MayBecome}
 use Rattle.blk_object.proofs.WrittenRecords.{SameRecordBut, address-still, fourth-still}
-use Rattle.blk_object.proofs.WrittenRoles.{stream-was}
 use Rattle.blk_object.proofs.WrittenStored.{stored-here, stream-here}
 use Rattle.blk_object.proofs.WrittenWords.{address-exchanged, four-words, nonzero, others-are}
 use Rattle.blk_object.proofs.WritingPlaces.{filled-unlinked, filling-finds, freed-removes}
@@ -78,75 +67,28 @@ sealed-checks : (e : Entry) → entry_is_sealed e ≡ true → entry_checks e �
 unfolding entry_checks
 sealed-checks e sealed = or_right (e.self_hash == 0) (entry_is_sealed e) sealed
 
--- a stream that was written is read again
-stream-again : (os : Streams) (i : ℕ) (new : List ℕ) → i < 3 → stream_in (streams_with os i new) i ≡ new
-stream-again os zero new less = refl
-stream-again os (suc zero) new less = refl
-stream-again os (suc (suc zero)) new less = refl
-stream-again os (suc (suc (suc n))) new less = absurd (omega (arith, less))
+-- three streams after a write to one of them
+abbrev pub after-streams : Loaded → (i offset : ℕ) → Bool → List ℕ → List (List ℕ)
+after-streams was i offset cut bytes = stored_streams_with i (stream_after cut (stream i was.streams) offset bytes) was.streams
 
-front-distinct : (xs ys : List ℕ) → Distinct (xs ++ ys) → Distinct xs
-front-distinct [] ys once = tt
-front-distinct (x ∷ xs) ys once = ((or_parts (is_among xs x) (is_among ys x) (sym (is_among-append xs ys x) ∙ once.0)).0, front-distinct xs ys once.1)
+-- the next state is kept, with a role and streams at a node, and some words of its record
+pub record IsKeptAfter (after : State) (layout : Layout) (left : List ℕ) (node : ℕ) (was : Loaded) (role : Role) (streams : List (List ℕ)) (image : Image) : Type 0 where
+  pub others : List ℕ
+  pub kept : KeepsUncounted after (layout_after layout node (record was { role = role; streams = streams; others = others })) left image
 
--- a state is kept, with an object that isn't settled, of which a stream may be written
-pub record IsKeptUnsettled (state : State) (layout : Layout) (unlinked : List ℕ) (number : ℕ) (object : Object) (was : Loaded) (i offset : ℕ) (cut : Bool) (bytes : List ℕ) (image : Image) : Type 0 where
-  pub kept : KeepsUncounted state layout unlinked image
-  pub here : object_at state number ≡ Some object
-  pub unsettled : object.settled ≡ false
-  pub lies : layout.at (node_of_object layout number object) ≡ Some was
-  pub first : is_sparse object.shape ≡ true → i ≡ 0
-  pub valid : IsValidState (with_written state number object i offset cut bytes)
+-- and counters and session are as they were
+pub record IsChangedTo (after : State) (layout : Layout) (left : List ℕ) (node : ℕ) (was : Loaded) (role : Role) (streams : List (List ℕ)) (from image : Image) : Type 0 where
+  pub is : IsKeptAfter after layout left node was role streams image
+  pub counters : SameCounters from image
+  pub session : SameSession from image
 
--- what is kept then, but for counters and session
-pub record IsKeptWritten (state : State) (layout : Layout) (left : List ℕ) (number : ℕ) (object : Object) (was : Loaded) (i offset : ℕ) (cut : Bool) (bytes : List ℕ) (image : Image) : Type 0 where
-  pub now : Loaded
-  pub after : IsLoadedAfter was now i offset cut bytes
-  pub kept : KeepsUncounted (with_written state number object i offset cut bytes) (layout_after layout (node_of_object layout number object) now) left image
-  pub rise_of_live : object.live ≡ true → IsRisen state (with_written state number object i offset cut bytes) layout (layout_after layout (node_of_object layout number object) now) (length (stream_of object i)) (length (stream_of (after_write object i offset cut bytes) i))
-  pub rise_of_doomed : object.live ≡ false → IsRisen state (with_written state number object i offset cut bytes) layout (layout_after layout (node_of_object layout number object) now) 0 0
-
-module _ (state : State) (layout : Layout) (unlinked : List ℕ) (number : ℕ) (object : Object) (was : Loaded) (i offset : ℕ) (cut : Bool) (bytes : List ℕ) (few : i < 3) (from : Image) (t : IsKeptUnsettled state layout unlinked number object was i offset cut bytes from) where
-  abbrev node : ℕ
-  node = node_of_object layout number object
-
+module _ (state after : State) (layout : Layout) (node : ℕ) (was : Loaded) (i offset : ℕ) (cut : Bool) (bytes : List ℕ) (few : i < 3) (role : Role) (m : MayBecome state after layout node was role (after-streams was i offset cut bytes)) (unlinked : List ℕ) (from : Image) (k : KeepsUncounted state layout unlinked from) where
   -- the stream after the write
   abbrev new : List ℕ
-  new = stream_after cut (stream_of object i) offset bytes
+  new = stream_after cut (stream i was.streams) offset bytes
 
-  its-stream : stream_of object i ≡ stream i was.streams
-  its-stream = stream-was was.key object.key object.shape object.streams was.streams [] was.role i few t.first (objects.object-row state layout unlinked from t.kept number object t.here was t.lies).row
-
-  pub stream-then : stream_bytes from was.contents i ≡ stream_of object i
-  stream-then = sym (stream_is_bytes from was.contents i was.streams few (objects.says state layout unlinked from t.kept number object t.here was t.lies).at) ∙ sym its-stream
-
-  three : was.streams ≡ stream 0 was.streams ∷ stream 1 was.streams ∷ stream 2 was.streams ∷ []
-  three =
-      let said = objects.says state layout unlinked from t.kept number object t.here was t.lies in
-      let fourth = fourth_of from was.contents was.streams said.at in
-      let parts = streams_parts from (fields_of (entry_at from was.contents)) was.streams said.streams in
-      some_inj (sym said.streams ∙ streams_known from (fields_of (entry_at from was.contents)) (stream 0 was.streams) (stream 1 was.streams) (stream 2 was.streams) fourth.0 fourth.1 (parts 0 (omega arith)) (parts 1 (omega arith)) (parts 2 (omega arith)))
-
-  -- ---- what its items are charged
-  module _ (now : Loaded) (key : now.key ≡ was.key) (streams : now.streams ≡ stored_streams_with i new was.streams) where
-    after-stream : stream_of (after_write object i offset cut bytes) i ≡ new
-    after-stream = stream-again object.streams i new few
-
-    live-risen : object.live ≡ true → IsRisen state (with_written state number object i offset cut bytes) layout (layout_after layout node now) (length (stream_of object i)) (length (stream_of (after_write object i offset cut bytes) i))
-    live-risen live =
-        let place : node ≡ layout.place (main object.key) = objects.node-live state layout unlinked from t.kept number object t.here was t.lies live in
-        let among : is_among (order state layout) node ≡ true = subst (λ (n : ℕ). is_among (order state layout) n ≡ true) (sym place) (is_among-node layout state.uses (main object.key) (main-listed state t.kept.valid number object true t.here live)) in
-        let all = charged-there layout.at node was now (order state layout) t.lies among (front-distinct (order state layout) (doomed_nodes layout t.kept.numbers) t.kept.owners.once) in
-        let one = charge-written was now i new few three key streams in
-        let old = ap length its-stream in
-        let last = ap length after-stream in
-        record { items = refl; bytes = omega (arith, all, one, old, last) }
-
-    doomed-risen : object.live ≡ false → IsRisen state (with_written state number object i offset cut bytes) layout (layout_after layout node now) 0 0
-    doomed-risen dead =
-        let place : node ≡ layout.place_of_doomed number = objects.node-dead state layout unlinked from t.kept number object t.here was t.lies dead in
-        let out : is_among (order state layout) node ≡ false = subst (λ (n : ℕ). is_among (order state layout) n ≡ false) (sym place) (t.kept.represents.holds.lies.doomed_objects number object t.here dead).unlisted in
-        record { items = refl; bytes = ap (λ (ls : List Loaded). sum_by charge_of ls + 0) (charged-elsewhere layout.at node now (order state layout) out) }
+  pub stream-then : stream_bytes from was.contents i ≡ stream i was.streams
+  stream-then = sym (stream_is_bytes from was.contents i was.streams few (items.says state layout unlinked from k node was m.lies).at)
 
   -- ---- its record gets other words of the stream, where a new place is filled
   module _ (files kept : BlockFiles) (stands_files : stands_among files was.contents ≡ true) where
@@ -154,7 +96,10 @@ module _ (state : State) (layout : Layout) (unlinked : List ℕ) (number : ℕ) 
     none-inside n some = absurd (some refl)
 
     pub naming-finds : (image : Image) → NamesShown was.contents i from image → Finds (rest state) image
-    naming-finds image n = objects.finds-same state layout unlinked from t.kept number object t.here was t.lies files stands_files i few 0 (inl refl) (none-inside (size_word from was.contents i)) image (nothing-at 0 was.contents i from image n.names.same) n.shown (λ file. n.names.same.files file refl) t.unsettled
+    naming-finds image n = m.finds (touched_of was.contents 0) unlinked from image k
+      (items.only state layout unlinked from k node was m.lies files stands_files i few 0 (inl refl) (none-inside (size_word from was.contents i)) image (nothing-at 0 was.contents i from image n.names.same) n.shown (λ file. n.names.same.files file refl))
+      (items.inside-node state layout unlinked from k node was m.lies files stands_files i few 0 (inl refl) (none-inside (size_word from was.contents i)) image (nothing-at 0 was.contents i from image n.names.same) n.shown (λ file. n.names.same.files file refl))
+      (items.name-same state layout unlinked from k node was m.lies files stands_files i few 0 (inl refl) (none-inside (size_word from was.contents i)) image (nothing-at 0 was.contents i from image n.names.same) n.shown (λ file. n.names.same.files file refl))
 
     module _ (size w : ℕ) (U : List ℕ) (are : unlinked ≡ nonzero (w ∷ []) ++ U) (free : (c : Claim) → has_claim (claims_of w) c ≡ true → layout.owner c ≡ None) (st : w ≢ 0 → stands_in from w ≡ true)
         (holds : data_at from w 0 size ≡ new) (long : HasPlaceLength w size from) (fits : may_keep kept size w ≡ true) (named : Image) (names : NamesPlace was.contents i size w from named) where
@@ -169,30 +114,30 @@ module _ (state : State) (layout : Layout) (unlinked : List ℕ) (number : ℕ) 
 
       -- the new place is as it was
       clear : IsClear (touched_of was.contents 0) w
-      clear c e = objects.untouched state layout unlinked from t.kept number object t.here was t.lies files stands_files i few 0 (inl refl) (none-inside (size_word from was.contents i)) named same shown files-same c
-          (λ h. let z : ◌≡◌ {A = Option ℕ} None (Some node) = sym (free c e) ∙ record-own state layout unlinked from t.kept node was t.lies c h in absurd (cc))
+      clear c e = items.untouched state layout unlinked from k node was m.lies files stands_files i few 0 (inl refl) (none-inside (size_word from was.contents i)) named same shown files-same c
+          (λ h. let z : ◌≡◌ {A = Option ℕ} None (Some node) = sym (free c e) ∙ record-own state layout unlinked from k node was m.lies c h in absurd (cc))
           (λ h. clash (clear-zero (λ x. true) c h))
 
       stored : stored_stream (store_of named) (fields_of (entry_at named was.contents)) i ≡ Some new
       unfolding store_of
       stored = stream-here kept named was.contents i size w new names.words.size_is names.words.word_is fits
-          (sym ((objects.views state layout unlinked from t.kept number object t.here was t.lies files stands_files i few 0 (inl refl) (none-inside (size_word from was.contents i)) named same shown files-same).store.stored size w clear)
+          (sym ((items.views state layout unlinked from k node was m.lies files stands_files i few 0 (inl refl) (none-inside (size_word from was.contents i)) named same shown files-same).store.stored size w clear)
           ∙ stored-here kept from size w fits st long ∙ ap Some holds)
 
       abbrev now : Loaded
-      now = record was { streams = stored_streams_with i (stream_after cut (stream_of object i) offset bytes) was.streams; others = (entry_at named was.contents).long_key ∷ (entry_at named was.contents).data_addr }
+      now = record was { role = role; streams = after-streams was i offset cut bytes; others = (entry_at named was.contents).long_key ∷ (entry_at named was.contents).data_addr }
 
       record-alike : SameRecordBut was.contents i from named
-      record-alike = objects.record-same state layout unlinked from t.kept number object t.here was t.lies files stands_files i few 0 (inl refl) (none-inside (size_word from was.contents i)) named same shown files-same
+      record-alike = items.record-same state layout unlinked from k node was m.lies files stands_files i few 0 (inl refl) (none-inside (size_word from was.contents i)) named same shown files-same
 
       kind : kind_of was.contents ≡ blocks_256
-      kind = objects.kind state layout unlinked from t.kept number object t.here was t.lies
+      kind = items.kind state layout unlinked from k node was m.lies
 
       room : 96 ≤ byte_size was.contents
-      room = objects.long state layout unlinked from t.kept number object t.here was t.lies
+      room = items.long state layout unlinked from k node was m.lies
 
       long-key : (entry_at named was.contents).long_key ≡ (entry_at from was.contents).long_key
-      long-key = (objects.change state layout unlinked from t.kept number object t.here was t.lies files stands_files i few 0 (inl refl) (none-inside (size_word from was.contents i)) named same shown files-same).long_key
+      long-key = (items.change state layout unlinked from k node was m.lies files stands_files i few 0 (inl refl) (none-inside (size_word from was.contents i)) named same shown files-same).long_key
 
       now-others : (entry_at named was.contents).long_key ∷ (entry_at named was.contents).data_addr ≡ (entry_at from was.contents).long_key ∷ address_word named was.contents 0 ∷ address_word named was.contents 1 ∷ address_word named was.contents 2 ∷ address_word from was.contents 3 ∷ []
       now-others =
@@ -203,17 +148,18 @@ module _ (state : State) (layout : Layout) (unlinked : List ℕ) (number : ℕ) 
       exchanged =
           subst (λ (us : List ℕ). IsPermutation (us ++ words_of was) ((nonzero (address_word from was.contents i ∷ []) ++ U) ++ words_of now)) (sym are)
           (subst (λ (v : ℕ). IsPermutation ((nonzero (v ∷ []) ++ U) ++ words_of was) ((nonzero (address_word from was.contents i ∷ []) ++ U) ++ words_of now)) names.words.word_is
-          (subst (λ (ws : List ℕ). IsPermutation ((nonzero (address_word named was.contents i ∷ []) ++ U) ++ nonzero (was.node ∷ was.contents ∷ ws)) ((nonzero (address_word from was.contents i ∷ []) ++ U) ++ words_of now)) (sym (others-are state layout unlinked from t.kept number object t.here was t.lies))
+          (subst (λ (ws : List ℕ). IsPermutation ((nonzero (address_word named was.contents i ∷ []) ++ U) ++ nonzero (was.node ∷ was.contents ∷ ws)) ((nonzero (address_word from was.contents i ∷ []) ++ U) ++ words_of now)) (sym (others-are state layout unlinked from k node was m.lies))
           (subst (λ (ws : List ℕ). IsPermutation ((nonzero (address_word named was.contents i ∷ []) ++ U) ++ nonzero (was.node ∷ was.contents ∷ (entry_at from was.contents).long_key ∷ address_word from was.contents 0 ∷ address_word from was.contents 1 ∷ address_word from was.contents 2 ∷ address_word from was.contents 3 ∷ [])) ((nonzero (address_word from was.contents i ∷ []) ++ U) ++ nonzero (was.node ∷ was.contents ∷ ws))) (sym now-others)
           (address-exchanged was.node was.contents (entry_at from was.contents).long_key (address_word from was.contents 3) (λ j. address_word from was.contents j) (λ j. address_word named was.contents j) U i few (λ j less other. address-still was.contents i kind few from named room record-alike j less other)))))
 
-      pub named-kept : IsKeptWritten state layout (nonzero (address_word from was.contents i ∷ []) ++ U) number object was i offset cut bytes named
+      pub named-kept : IsKeptAfter after layout (nonzero (address_word from was.contents i ∷ []) ++ U) node was role (after-streams was i offset cut bytes) named
       named-kept = record {
-        now = now;
-        after = record { node = refl; contents = refl; dirty = refl; key = refl; role = refl; streams = ap (λ (old : List ℕ). stored_streams_with i (stream_after cut old offset bytes) was.streams) its-stream };
-        kept = objects.kept-written state layout unlinked from t.kept number object t.here was t.lies files stands_files i few 0 (inl refl) (none-inside (size_word from was.contents i)) named same shown files-same new stored t.first t.unsettled (nonzero (address_word from was.contents i ∷ []) ++ U) exchanged names.sealed t.valid;
-        rise_of_live = live-risen now refl refl;
-        rise_of_doomed = doomed-risen now refl refl;
+        others = (entry_at named was.contents).long_key ∷ (entry_at named was.contents).data_addr;
+        kept = m.keeps (touched_of was.contents 0) unlinked (nonzero (address_word from was.contents i ∷ []) ++ U) ((entry_at named was.contents).long_key ∷ (entry_at named was.contents).data_addr) from named k
+            (items.only state layout unlinked from k node was m.lies files stands_files i few 0 (inl refl) (none-inside (size_word from was.contents i)) named same shown files-same)
+            (items.is-replaced state layout unlinked from k node was m.lies files stands_files i few 0 (inl refl) (none-inside (size_word from was.contents i)) named same shown files-same new stored role m.roles)
+            exchanged
+            (items.still-sealed state layout unlinked from k node was m.lies files stands_files i few 0 (inl refl) (none-inside (size_word from was.contents i)) named same shown files-same new stored role m.roles names.sealed);
       }
 
 -- ---- all stages
@@ -244,7 +190,7 @@ place-words : (place : Option ℕ) (U : List ℕ) (image : Image) → AllByRecur
 place-words None U image all = refl
 place-words (Some w) U image all = ap (λ (ws : List ℕ). ws ++ U) (sym (nonzero-some w (stands-some image w all.0)))
 
-module _ (state : State) (layout : Layout) (unlinked : List ℕ) (number : ℕ) (object : Object) (was : Loaded) (i offset : ℕ) (cut : Bool) (bytes : List ℕ) (few : i < 3) (from : Image) (t : IsKeptUnsettled state layout unlinked number object was i offset cut bytes from)
+module _ (state after : State) (layout : Layout) (node : ℕ) (was : Loaded) (i offset : ℕ) (cut : Bool) (bytes : List ℕ) (few : i < 3) (role : Role) (m : MayBecome state after layout node was role (after-streams was i offset cut bytes)) (unlinked : List ℕ) (from : Image) (k : KeepsUncounted state layout unlinked from)
     (files kept : BlockFiles) (stands_files : stands_among files was.contents ≡ true) (agrees : Agrees files from) where
   abbrev old : ℕ
   old = address_word from was.contents i
@@ -253,86 +199,84 @@ module _ (state : State) (layout : Layout) (unlinked : List ℕ) (number : ℕ) 
   after-size = size_after cut (size_word from was.contents i) offset (length bytes)
 
   here-inside : old ≢ 0 → IsInside files old 0 (size_word from was.contents i)
-  here-inside some = objects.data-inside state layout unlinked from t.kept number object t.here was t.lies files i agrees few
+  here-inside some = items.data-inside state layout unlinked from k node was m.lies files i agrees few
 
   here-finds : (image : Image) → WritesInPlace was.contents i after-size from image → Finds (rest state) image
-  here-finds image p = objects.finds-same state layout unlinked from t.kept number object t.here was t.lies files stands_files i few old (inr refl) here-inside image p.same p.shown p.files t.unsettled
+  here-finds image p = m.finds (touched_of was.contents old) unlinked from image k
+      (items.only state layout unlinked from k node was m.lies files stands_files i few old (inr refl) here-inside image p.same p.shown p.files)
+      (items.inside-node state layout unlinked from k node was m.lies files stands_files i few old (inr refl) here-inside image p.same p.shown p.files)
+      (items.name-same state layout unlinked from k node was m.lies files stands_files i few old (inr refl) here-inside image p.same p.shown p.files)
 
   -- where a new place is filled, its word is unlinked
   module _ (place : Option ℕ) (filled : Image) (fills : IsFilled files kept place from filled) where
     taken : Takes (long_word place) from filled × SameCounters from filled
-    taken = filled-unlinked files kept place from filled t.kept.well_formed agrees fills
+    taken = filled-unlinked files kept place from filled k.well_formed agrees fills
 
     kept-filled : KeepsUncounted state layout (long_word place ++ unlinked) filled
-    kept-filled = taken.0.kept state layout unlinked t.kept
-
-    t-filled : IsKeptUnsettled state layout (long_word place ++ unlinked) number object was i offset cut bytes filled
-    t-filled = record { kept = kept-filled; here = t.here; unsettled = t.unsettled; lies = t.lies; first = t.first; valid = t.valid }
+    kept-filled = taken.0.kept state layout unlinked k
 
     are : long_word place ++ unlinked ≡ nonzero (unwrap_or place 0 ∷ []) ++ unlinked
     are = place-words place unlinked filled kept-filled.unlinked_words.stand
 
     -- the old place is the one that it had
     same-old : address_word filled was.contents i ≡ old
-    same-old = sym (objects.its-address state layout (long_word place ++ unlinked) filled kept-filled number object t.here was t.lies i) ∙ objects.its-address state layout unlinked from t.kept number object t.here was t.lies i
+    same-old = sym (items.its-address state layout (long_word place ++ unlinked) filled kept-filled node was m.lies i) ∙ items.its-address state layout unlinked from k node was m.lies i
 
     module _ (size : ℕ) (holds : data_at filled (unwrap_or place 0) 0 size ≡ stream_after cut (stream_bytes from was.contents i) offset bytes) (long : HasPlaceLength (unwrap_or place 0) size filled) (fits : may_keep kept size (unwrap_or place 0) ≡ true)
         (named : Image) (names : NamesPlace was.contents i size (unwrap_or place 0) filled named) where
-      named-is : IsKeptWritten state layout (nonzero (old ∷ []) ++ unlinked) number object was i offset cut bytes named
-      named-is = subst (λ (w : ℕ). IsKeptWritten state layout (nonzero (w ∷ []) ++ unlinked) number object was i offset cut bytes named) same-old
-          (named-kept state layout (long_word place ++ unlinked) number object was i offset cut bytes few filled t-filled files kept stands_files size (unwrap_or place 0) unlinked are
+      named-is : IsKeptAfter after layout (nonzero (old ∷ []) ++ unlinked) node was role (after-streams was i offset cut bytes) named
+      named-is = subst (λ (w : ℕ). IsKeptAfter after layout (nonzero (w ∷ []) ++ unlinked) node was role (after-streams was i offset cut bytes) named) same-old
+          (named-kept state after layout node was i offset cut bytes few role m (long_word place ++ unlinked) filled kept-filled files kept stands_files size (unwrap_or place 0) unlinked are
           (λ c e. kept-filled.unlinked_words.free c (ap (λ (ws : List ℕ). has_claim (claims_of_all ws) c) are ∙ has-first (unwrap_or place 0) unlinked c e))
           (λ some. has-standing filled (unwrap_or place 0) unlinked some (subst (AllByRecursion (λ x. stands_in filled x ≡ true)) are kept-filled.unlinked_words.stand))
-          (holds ∙ ap (λ (b : List ℕ). stream_after cut b offset bytes) (stream-then state layout unlinked number object was i offset cut bytes few from t)) long fits named names)
+          (holds ∙ ap (λ (b : List ℕ). stream_after cut b offset bytes) (stream-then state after layout node was i offset cut bytes few role m unlinked from k)) long fits named names)
+
+      abbrev named-now : Loaded
+      named-now = record was { role = role; streams = after-streams was i offset cut bytes; others = named-is.others }
 
       named-finds : Finds (rest state) named
-      named-finds = naming-finds state layout (long_word place ++ unlinked) number object was i offset cut bytes few filled t-filled files kept stands_files named (record { names = names.names; shown = sealed-checks (entry_at named was.contents) names.sealed })
+      named-finds = naming-finds state after layout node was i offset cut bytes few role m (long_word place ++ unlinked) filled kept-filled files kept stands_files named (record { names = names.names; shown = sealed-checks (entry_at named was.contents) names.sealed })
 
       -- the same is at rest in the state that is kept then
-      same-rest : rest (with_written state number object i offset cut bytes) ≡ rest state
-      same-rest = sym (kept-found (with_written state number object i offset cut bytes) (layout_after layout (node_of_object layout number object) named-is.now) (nonzero (old ∷ []) ++ unlinked) named named-is.kept) ∙ named-finds.1
+      same-rest : rest after ≡ rest state
+      same-rest = sym (kept-found after (layout_after layout node named-now) (nonzero (old ∷ []) ++ unlinked) named named-is.kept) ∙ named-finds.1
 
       -- while the old place is freed
       freeing-finds : (image : Image) → old ≢ 0 → FreesPlaceInProgress old named image → Finds (rest state) image
       freeing-finds image some frees =
           let going : AreGoing (old ∷ []) named image = record { front = []; left = old ∷ []; split = refl; between = named; removed = refl; next = inr frees } in
-          let kept_so : KeepsUncounted (with_written state number object i offset cut bytes) (layout_after layout (node_of_object layout number object) named-is.now) ((old ∷ []) ++ unlinked) named = subst (λ (ws : List ℕ). KeepsUncounted (with_written state number object i offset cut bytes) (layout_after layout (node_of_object layout number object) named-is.now) (ws ++ unlinked) named) (nonzero-some old some) named-is.kept in
-          subst (λ (rows : List Row). Finds rows image) same-rest (going-finds (old ∷ []) named image going (with_written state number object i offset cut bytes) (layout_after layout (node_of_object layout number object) named-is.now) unlinked kept_so)
+          let kept_so : KeepsUncounted after (layout_after layout node named-now) ((old ∷ []) ++ unlinked) named = subst (λ (ws : List ℕ). KeepsUncounted after (layout_after layout node named-now) (ws ++ unlinked) named) (nonzero-some old some) named-is.kept in
+          subst (λ (rows : List Row). Finds rows image) same-rest (going-finds (old ∷ []) named image going after (layout_after layout node named-now) unlinked kept_so)
 
       -- once it is
       named-session : SameSession from named
       named-session = session-then from filled named taken.0.session
-          (objects.only state layout (long_word place ++ unlinked) filled kept-filled number object t.here was t.lies files stands_files i few 0 (inl refl) (λ some. absurd (some refl)) named (nothing-at 0 was.contents i filled named names.names.same) (sealed-checks (entry_at named was.contents) names.sealed) (λ file. names.names.same.files file refl)).session
+          (items.only state layout (long_word place ++ unlinked) filled kept-filled node was m.lies files stands_files i few 0 (inl refl) (λ some. absurd (some refl)) named (nothing-at 0 was.contents i filled named names.names.same) (sealed-checks (entry_at named was.contents) names.sealed) (λ file. names.names.same.files file refl)).session
 
       named-counters : SameCounters from named
       named-counters = then-counters from filled named taken.1
-          (written-counters filled was.contents i 0 (objects.kind state layout (long_word place ++ unlinked) filled kept-filled number object t.here was t.lies) few
-          (objects.stands-before state layout (long_word place ++ unlinked) filled kept-filled number object t.here was t.lies files stands_files i few 0 (inl refl) (λ some. absurd (some refl)) named (nothing-at 0 was.contents i filled named names.names.same) (sealed-checks (entry_at named was.contents) names.sealed) (λ file. names.names.same.files file refl))
+          (written-counters filled was.contents i 0 (items.kind state layout (long_word place ++ unlinked) filled kept-filled node was m.lies) few
+          (items.stands-before state layout (long_word place ++ unlinked) filled kept-filled node was m.lies files stands_files i few 0 (inl refl) (λ some. absurd (some refl)) named (nothing-at 0 was.contents i filled named names.names.same) (sealed-checks (entry_at named was.contents) names.sealed) (λ file. names.names.same.files file refl))
           (λ some. absurd (some refl)) named (nothing-at 0 was.contents i filled named names.names.same))
 
       old-stands : old ≢ 0 → stands_in named old ≡ true
       old-stands some = has-standing named old unlinked some named-is.kept.unlinked_words.stand
 
-      freed-written : (image : Image) → FreesOld old named image → IsWrittenUncounted state layout unlinked number object was i offset cut bytes from image
+      freed-written : (image : Image) → FreesOld old named image → IsChangedTo after layout unlinked node was role (after-streams was i offset cut bytes) from image
       freed-written image (inl none) = record {
-        now = named-is.now;
-        after = named-is.after;
-        kept = subst (λ (x : Image). KeepsUncounted (with_written state number object i offset cut bytes) (layout_after layout (node_of_object layout number object) named-is.now) unlinked x) (sym none.1)
-            (subst (λ (ws : List ℕ). KeepsUncounted (with_written state number object i offset cut bytes) (layout_after layout (node_of_object layout number object) named-is.now) (ws ++ unlinked) named) (nonzero-none old none.0) named-is.kept);
-        rise_of_live = named-is.rise_of_live;
-        rise_of_doomed = named-is.rise_of_doomed;
+        is = record {
+          others = named-is.others;
+          kept = subst (λ (x : Image). KeepsUncounted after (layout_after layout node named-now) unlinked x) (sym none.1)
+            (subst (λ (ws : List ℕ). KeepsUncounted after (layout_after layout node named-now) (ws ++ unlinked) named) (nonzero-none old none.0) named-is.kept);
+        };
         counters = subst (SameCounters from) (sym none.1) named-counters;
         session = subst (SameSession from) (sym none.1) named-session;
       }
       freed-written image (inr freed) =
-          let kept_so : KeepsUncounted (with_written state number object i offset cut bytes) (layout_after layout (node_of_object layout number object) named-is.now) ((old ∷ []) ++ unlinked) named = subst (λ (ws : List ℕ). KeepsUncounted (with_written state number object i offset cut bytes) (layout_after layout (node_of_object layout number object) named-is.now) (ws ++ unlinked) named) (nonzero-some old freed.0) named-is.kept in
+          let kept_so : KeepsUncounted after (layout_after layout node named-now) ((old ∷ []) ++ unlinked) named = subst (λ (ws : List ℕ). KeepsUncounted after (layout_after layout node named-now) (ws ++ unlinked) named) (nonzero-some old freed.0) named-is.kept in
           let removes : Removes (old ∷ []) named image = (image, (freed-removes old named image named-is.kept.well_formed (old-stands freed.0) freed.1, refl)) in
           record {
-            now = named-is.now;
-            after = named-is.after;
-            kept = all-gone (old ∷ []) named image removes (with_written state number object i offset cut bytes) (layout_after layout (node_of_object layout number object) named-is.now) unlinked kept_so;
-            rise_of_live = named-is.rise_of_live;
-            rise_of_doomed = named-is.rise_of_doomed;
+            is = record { others = named-is.others; kept = all-gone (old ∷ []) named image removes after (layout_after layout node named-now) unlinked kept_so };
             counters = then-counters from named image named-counters (all-counted (old ∷ []) named image removes);
             session = session-then from named image named-session (freed-session (old ∷ []) named image removes);
           }
@@ -340,32 +284,32 @@ module _ (state : State) (layout : Layout) (unlinked : List ℕ) (number : ℕ) 
   -- at each word what was at rest is found
   pub stage-finds : (image : Image) → WritesByStage files kept was.contents i after-size offset bytes from image → Finds (rest state) image
   stage-finds image (inl p) = here-finds image p
-  stage-finds image (inr (inl fills)) = filling-finds files kept from image agrees fills state layout unlinked t.kept
+  stage-finds image (inr (inl fills)) = filling-finds files kept from image agrees fills state layout unlinked k
   stage-finds image (inr (inr n)) = leaves n.leaves where
     leaves : NamesShown was.contents i n.filled image ⊎ NamesAndFrees was.contents i old after-size (unwrap_or n.place 0) n.filled image → Finds (rest state) image
-    leaves (inl names) = naming-finds state layout (long_word n.place ++ unlinked) number object was i offset cut bytes few n.filled (t-filled n.place n.filled n.fills) files kept stands_files image names
+    leaves (inl names) = naming-finds state after layout node was i offset cut bytes few role m (long_word n.place ++ unlinked) n.filled (kept-filled n.place n.filled n.fills) files kept stands_files image names
     leaves (inr f) = freeing-finds n.place n.filled n.fills after-size (n.written cut refl) n.long n.fits f.named f.names image f.some f.frees
 
   -- in the end it is kept with the stream written
   module _ (image : Image) (agrees_end : Agrees kept image) (s : StreamIsWritten files kept was.contents i offset cut bytes from image) (seal : KeepsSeal was.contents from image) where
     sealed-end : entry_is_sealed (entry_at image was.contents) ≡ true
-    sealed-end = seal (t.kept.sealed (node_of_object layout number object) was t.lies).entry
+    sealed-end = seal (k.sealed node was m.lies).entry
 
     module _ (p : WritesInPlace was.contents i after-size from image) where
-      stored-end : stored_stream (store_of image) (fields_of (entry_at image was.contents)) i ≡ Some (stream_after cut (stream_of object i) offset bytes)
+      stored-end : stored_stream (store_of image) (fields_of (entry_at image was.contents)) i ≡ Some (stream_after cut (stream i was.streams) offset bytes)
       unfolding stream_bytes
-      stored-end = stream-here kept image was.contents i (size_word image was.contents i) (address_word image was.contents i) (stream_after cut (stream_of object i) offset bytes) refl refl s.place
+      stored-end = stream-here kept image was.contents i (size_word image was.contents i) (address_word image was.contents i) (stream_after cut (stream i was.streams) offset bytes) refl refl s.place
           (stored_there kept image (size_word image was.contents i) (address_word image was.contents i) agrees_end s.place s.long
-          ∙ ap Some (s.written ∙ ap (λ (b : List ℕ). stream_after cut b offset bytes) (stream-then state layout unlinked number object was i offset cut bytes few from t)))
+          ∙ ap Some (s.written ∙ ap (λ (b : List ℕ). stream_after cut b offset bytes) (stream-then state after layout node was i offset cut bytes few role m unlinked from k)))
 
       alike : SameRecordBut was.contents i from image
-      alike = objects.record-same state layout unlinked from t.kept number object t.here was t.lies files stands_files i few old (inr refl) here-inside image p.same p.shown p.files
+      alike = items.record-same state layout unlinked from k node was m.lies files stands_files i few old (inr refl) here-inside image p.same p.shown p.files
 
       its-kind : kind_of was.contents ≡ blocks_256
-      its-kind = objects.kind state layout unlinked from t.kept number object t.here was t.lies
+      its-kind = items.kind state layout unlinked from k node was m.lies
 
       its-room : 96 ≤ byte_size was.contents
-      its-room = objects.long state layout unlinked from t.kept number object t.here was t.lies
+      its-room = items.long state layout unlinked from k node was m.lies
 
       -- its words stay
       same-address : (j : ℕ) → j < 3 → address_word image was.contents j ≡ address_word from was.contents j
@@ -376,28 +320,26 @@ module _ (state : State) (layout : Layout) (unlinked : List ℕ) (number : ℕ) 
 
       same-others : (entry_at image was.contents).long_key ∷ (entry_at image was.contents).data_addr ≡ was.others
       same-others =
-          ap₂ (λ (l : ℕ) (ws : List ℕ). l ∷ ws) (objects.change state layout unlinked from t.kept number object t.here was t.lies files stands_files i few old (inr refl) here-inside image p.same p.shown p.files).long_key (four-words image was.contents)
+          ap₂ (λ (l : ℕ) (ws : List ℕ). l ∷ ws) (items.change state layout unlinked from k node was m.lies files stands_files i few old (inr refl) here-inside image p.same p.shown p.files).long_key (four-words image was.contents)
           ∙ ap₂ (λ (a b : ℕ). (entry_at from was.contents).long_key ∷ a ∷ b ∷ address_word image was.contents 2 ∷ address_word image was.contents 3 ∷ []) (same-address 0 (omega arith)) (same-address 1 (omega arith))
           ∙ ap₂ (λ (c d : ℕ). (entry_at from was.contents).long_key ∷ address_word from was.contents 0 ∷ address_word from was.contents 1 ∷ c ∷ d ∷ []) (same-address 2 (omega arith)) (fourth-still was.contents i its-kind few from image its-room alike).1
-          ∙ sym (others-are state layout unlinked from t.kept number object t.here was t.lies)
+          ∙ sym (others-are state layout unlinked from k node was m.lies)
 
-      abbrev now-here : Loaded
-      now-here = record was { streams = stored_streams_with i (stream_after cut (stream_of object i) offset bytes) was.streams; others = (entry_at image was.contents).long_key ∷ (entry_at image was.contents).data_addr }
-
-      here-written : IsWrittenUncounted state layout unlinked number object was i offset cut bytes from image
+      here-written : IsChangedTo after layout unlinked node was role (after-streams was i offset cut bytes) from image
       here-written = record {
-        now = now-here;
-        after = record { node = refl; contents = refl; dirty = refl; key = refl; role = refl; streams = ap (λ (b : List ℕ). stored_streams_with i (stream_after cut b offset bytes) was.streams) (its-stream state layout unlinked number object was i offset cut bytes few from t) };
-        kept = objects.kept-written state layout unlinked from t.kept number object t.here was t.lies files stands_files i few old (inr refl) here-inside image p.same p.shown p.files (stream_after cut (stream_of object i) offset bytes) stored-end t.first t.unsettled unlinked
-            (subst (λ (ws : List ℕ). IsPermutation (unlinked ++ words_of was) (unlinked ++ nonzero (was.node ∷ was.contents ∷ ws))) (sym same-others) (IsPermutation-refl (unlinked ++ words_of was)))
-            sealed-end t.valid;
-        rise_of_live = live-risen state layout unlinked number object was i offset cut bytes few from t now-here refl refl;
-        rise_of_doomed = doomed-risen state layout unlinked number object was i offset cut bytes few from t now-here refl refl;
-        counters = written-counters from was.contents i old its-kind few (objects.stands-before state layout unlinked from t.kept number object t.here was t.lies files stands_files i few old (inr refl) here-inside image p.same p.shown p.files)
-            (objects.w-there state layout unlinked from t.kept number object t.here was t.lies files stands_files i few old (inr refl) here-inside image p.same p.shown p.files) image p.same;
-        session = (objects.only state layout unlinked from t.kept number object t.here was t.lies files stands_files i few old (inr refl) here-inside image p.same p.shown p.files).session;
+        is = record {
+          others = (entry_at image was.contents).long_key ∷ (entry_at image was.contents).data_addr;
+          kept = m.keeps (touched_of was.contents old) unlinked unlinked ((entry_at image was.contents).long_key ∷ (entry_at image was.contents).data_addr) from image k
+              (items.only state layout unlinked from k node was m.lies files stands_files i few old (inr refl) here-inside image p.same p.shown p.files)
+              (items.is-replaced state layout unlinked from k node was m.lies files stands_files i few old (inr refl) here-inside image p.same p.shown p.files (stream_after cut (stream i was.streams) offset bytes) stored-end role m.roles)
+              (subst (λ (ws : List ℕ). IsPermutation (unlinked ++ words_of was) (unlinked ++ nonzero (was.node ∷ was.contents ∷ ws))) (sym same-others) (IsPermutation-refl (unlinked ++ words_of was)))
+              (items.still-sealed state layout unlinked from k node was m.lies files stands_files i few old (inr refl) here-inside image p.same p.shown p.files (stream_after cut (stream i was.streams) offset bytes) stored-end role m.roles sealed-end);
+        };
+        counters = written-counters from was.contents i old its-kind few (items.stands-before state layout unlinked from k node was m.lies files stands_files i few old (inr refl) here-inside image p.same p.shown p.files)
+            (items.w-there state layout unlinked from k node was m.lies files stands_files i few old (inr refl) here-inside image p.same p.shown p.files) image p.same;
+        session = (items.only state layout unlinked from k node was m.lies files stands_files i few old (inr refl) here-inside image p.same p.shown p.files).session;
       }
 
-    pub stages-end : IsWrittenByStage files kept was.contents i after-size offset bytes from image → IsWrittenUncounted state layout unlinked number object was i offset cut bytes from image
+    pub stages-end : IsWrittenByStage files kept was.contents i after-size offset bytes from image → IsChangedTo after layout unlinked node was role (after-streams was i offset cut bytes) from image
     stages-end (inl p) = here-written p
     stages-end (inr m) = freed-written m.place m.filled m.fills after-size (m.written cut refl) m.long m.fits m.left.named m.left.names image m.left.frees

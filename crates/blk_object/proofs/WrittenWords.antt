@@ -1,5 +1,5 @@
 -- The words of an object whose stream is written: that it can be, and in which order they are then.
-use Rattle.std.proofs.Common.{◌≡◌, ◌≢◌, ⊎_elim, ℕ, zero, suc, ◌+◌, ◌*◌, ◌<◌, ◌≤◌, List, [], ◌∷◌, ◌++◌, map, length, refl, ap, ap₂, sym, ◌∙◌, subst, arith, append_assoc, Bool, true, false, Option, Some, None}
+use Rattle.std.proofs.Common.{◌≡◌, ◌≢◌, ⊎_elim, ℕ, zero, suc, ◌+◌, ◌*◌, ◌<◌, ◌≤◌, List, [], ◌∷◌, ◌++◌, length, refl, ap, ap₂, sym, ◌∙◌, subst, arith, append_assoc, Bool, true, false, Option, Some, None}
 use Rattle.std.specs.Prelude.{◌==◌, ◌&&◌, ◌||◌, filter, is_some, not, slice_index, if◌then◌else◌}
 use Rattle.std.specs.List.{flat_map, filter_map, cons_option}
 use Rattle.std.specs.List.Sorted.{IsPermutation}
@@ -9,10 +9,9 @@ use Rattle.std.proofs.lemmas.List.Elements.{filter-append}
 use Rattle.std.proofs.lemmas.List.Sorted.{IsPermutation-append_right, IsPermutation-trans}
 use Rattle.blk_image.specs.Bytes.{words_at}
 use Rattle.blk_image.specs.Image.{AreBytes, Image}
-use Rattle.blk_model.specs.Items.{main}
 use Rattle.blk_model.specs.Room.{items}
 use Rattle.blk_model.specs.Sizes.{most_items}
-use Rattle.blk_model.specs.State.{Object, State, object_at}
+use Rattle.blk_model.specs.State.{State}
 use Rattle.blk_format.specs.Address.{blocks_256, external, file_selector, is_block_kind, kind_of}
 use Rattle.blk_format.specs.BlockFiles.{is_among, linked_as, stands_in}
 use Rattle.blk_format.specs.Claims.{Claim, claims_of, claims_of_all, has_claim, is_in_file, repeats}
@@ -23,15 +22,13 @@ use Rattle.blk_format.proofs.Among.{is_among-append}
 use Rattle.blk_volume.specs.Layout.{Layout, order}
 use Rattle.blk_volume.specs.Loads.{Loaded}
 use Rattle.blk_volume.specs.Sound.{words_of}
-use Rattle.blk_volume.specs.Tidy.{doomed_nodes}
 use Rattle.blk_volume.specs.View.{entry_at}
 use Rattle.blk_laws.proofs.chains.ChainWords.{record_checks}
 use Rattle.blk_laws.proofs.claims.Allocations.{repeats-head}
 use Rattle.blk_laws.proofs.claims.ByteChanges.{stands-blocks, stands-some}
 use Rattle.blk_laws.proofs.claims.ClaimLists.{claim-append, repeats-append}
-use Rattle.blk_laws.proofs.states.Laid.{is_among-node, repeats-tail}
+use Rattle.blk_laws.proofs.states.Laid.{repeats-tail}
 use Rattle.blk_laws.proofs.states.Marking.{repeats-apart}
-use Rattle.blk_laws.proofs.states.Settling.{main-listed}
 use Rattle.blk_laws.proofs.updates.StillShown.{standing-parts}
 use Rattle.blk_disk.specs.declared.tables.BlockFiles.{BlockFiles}
 use Rattle.blk_disk.specs.Tables.{Agrees}
@@ -44,8 +41,7 @@ use Rattle.blk_kept.proofs.Bounds.{leave-room}
 use Rattle.blk_kept.proofs.Touched.{to-front}
 use Rattle.blk_kept_calls.proofs.Allocating.{files-counted}
 use Rattle.blk_kept_calls.proofs.FreeNumbers.{kept-have-free}
-use Rattle.blk_object.specs.Writing.{node_of_object}
-use Rattle.blk_object.proofs.WrittenObjects.{its-address, kind, other-address, record-once, says, stands-so}
+use Rattle.blk_object.proofs.WrittenItems.{its-address, kind, other-address, record-once, says, stands-so}
 
 -- ---- what is among words
 
@@ -81,13 +77,6 @@ among-loaded at (x ∷ nodes) node w l among is h = ⊎_elim
     go None rest = rest
     go (Some m) rest = is_among-append (words_of m) (flat_map words_of (filter_map at nodes)) w ∙ or_right (is_among (words_of m) w) _ rest
 
-among-map : (f : ℕ → ℕ) (ns : List ℕ) (n : ℕ) → is_among ns n ≡ true → is_among (map f ns) (f n) ≡ true
-among-map f [] n h = absurd (let z : false ≡ true = h in cc)
-among-map f (m ∷ ns) n h = ⊎_elim
-    (λ (e : (m == n) ≡ true). or_left (f m == f n) _ (eq-eqb _ _ (ap f (eqb-true m n e))))
-    (λ (e : (m == n) ≡ false). or_right (f m == f n) _ (among-map f ns n (rw e at h)))
-    (cases_Bool (m == n))
-
 few-words : (i u : ℕ) → i ≤ 131072 → u ≤ 2 → 5 * i + u < 268435455
 few-words i u few room = omega (arith, few, room)
 
@@ -104,19 +93,18 @@ linked-is image w st blocks = go (linked_as image (file_selector w)) (and_parts 
   go None e = absurd (let z : false ≡ true = e in cc)
   go (Some k) e = refl
 
-module _ (state : State) (layout : Layout) (unlinked : List ℕ) (from : Image) (k : KeepsUncounted state layout unlinked from) (number : ℕ) (object : Object) (here : object_at state number ≡ Some object) (was : Loaded) (lies : layout.at (node_of_object layout number object) ≡ Some was) where
-  -- the node is among those of the state
-  pub node-among : is_among (all_nodes state layout k.numbers) (node_of_object layout number object) ≡ true
-  node-among = go object.live refl where
-    go : (b : Bool) → object.live ≡ b → is_among (all_nodes state layout k.numbers) (if b then layout.place (main object.key) else layout.place_of_doomed number) ≡ true
-    go true live = is_among-append (order state layout) (doomed_nodes layout k.numbers) (layout.place (main object.key)) ∙ or_left (is_among (order state layout) (layout.place (main object.key))) _ (is_among-node layout state.uses (main object.key) (main-listed state k.valid number object true here live))
-    go false dead = is_among-append (order state layout) (doomed_nodes layout k.numbers) (layout.place_of_doomed number) ∙ or_right (is_among (order state layout) (layout.place_of_doomed number)) _ (among-map layout.place_of_doomed k.numbers number (k.owners.doomed.all number object here dead))
+module _ (state : State) (layout : Layout) (unlinked : List ℕ) (from : Image) (k : KeepsUncounted state layout unlinked from) (node : ℕ) (was : Loaded) (lies : layout.at node ≡ Some was) where
+  -- the words of its record, in their order
+  pub others-are : was.others ≡ (entry_at from was.contents).long_key ∷ address_word from was.contents 0 ∷ address_word from was.contents 1 ∷ address_word from was.contents 2 ∷ address_word from was.contents 3 ∷ []
+  others-are = (says state layout unlinked from k node was lies).others ∙ ap (λ (ws : List ℕ). (entry_at from was.contents).long_key ∷ ws) (four-words from was.contents)
 
+-- the words of what lies at one of its nodes are in use
+module _ (state : State) (layout : Layout) (unlinked : List ℕ) (from : Image) (k : KeepsUncounted state layout unlinked from) (node : ℕ) (was : Loaded) (lies : layout.at node ≡ Some was) (node-among : is_among (all_nodes state layout k.numbers) node ≡ true) where
   in-use : (w : ℕ) → w ≢ 0 → is_among (was.node ∷ was.contents ∷ was.others) w ≡ true → is_among (words_in_use unlinked (all_loaded state layout k.numbers)) w ≡ true
   in-use w some among =
       let nonzero : not (w == 0) ≡ true = ⊎_elim (λ (e : (w == 0) ≡ true). absurd (some (eqb-true w 0 e))) (λ (e : (w == 0) ≡ false). ap not e) (cases_Bool (w == 0)) in
       is_among-append unlinked (flat_map words_of (all_loaded state layout k.numbers)) w
-      ∙ or_right (is_among unlinked w) _ (among-loaded layout.at (all_nodes state layout k.numbers) (node_of_object layout number object) w was node-among lies (among-filter (λ x. not (x == 0)) (was.node ∷ was.contents ∷ was.others) w nonzero among))
+      ∙ or_right (is_among unlinked w) _ (among-loaded layout.at (all_nodes state layout k.numbers) node w was node-among lies (among-filter (λ x. not (x == 0)) (was.node ∷ was.contents ∷ was.others) w nonzero among))
 
   -- so what it names may be freed
   may-be-freed : (w : ℕ) → w ≢ 0 → stands_in from w ≡ true → is_among (was.node ∷ was.contents ∷ was.others) w ≡ true → MayBeFreed w from
@@ -141,7 +129,7 @@ module _ (state : State) (layout : Layout) (unlinked : List ℕ) (from : Image) 
 
   address-among : (j : ℕ) → address_word from was.contents j ≢ 0 → is_among (was.node ∷ was.contents ∷ was.others) (address_word from was.contents j) ≡ true
   address-among j some =
-      let its = its-address state layout unlinked from k number object here was lies j in
+      let its = its-address state layout unlinked from k node was lies j in
       let there : is_among was.others (address_word from was.contents j) ≡ true = subst (λ (w : ℕ). is_among was.others w ≡ true) its (index-among was.others (suc j) (λ e. some (sym its ∙ e))) in
       or_right (was.node == address_word from was.contents j) _ (or_right (was.contents == address_word from was.contents j) _ there)
 
@@ -152,10 +140,10 @@ module _ (state : State) (layout : Layout) (unlinked : List ℕ) (from : Image) 
   address-freed : (j : ℕ) → j < 3 → MayBeFreed (address_word from was.contents j) from
   address-freed j few blocks =
       let some : address_word from was.contents j ≢ 0 = λ e. blocks (ap kind_of e ∙ external-zero) in
-      may-be-freed (address_word from was.contents j) some (other-address state layout unlinked from k number object here was lies j few some) (address-among j some) blocks
+      may-be-freed (address_word from was.contents j) some (other-address state layout unlinked from k node was lies j few some) (address-among j some) blocks
 
   entry-stands : stands_in from was.contents ≡ true
-  entry-stands = (standing-parts from blocks_256 was.contents (stands-so state layout unlinked from k number object here was lies)).0
+  entry-stands = (standing-parts from blocks_256 was.contents (stands-so state layout unlinked from k node was lies)).0
 
   places-freed : (w : ℕ) → is_among (places_of_entry was.contents from) w ≡ true → MayBeFreed w from
   places-freed w among = ⊎_elim
@@ -175,10 +163,6 @@ module _ (state : State) (layout : Layout) (unlinked : List ℕ) (from : Image) 
       first : ((address_word from was.contents 0 == w) || ((address_word from was.contents 1 == w) || ((address_word from was.contents 2 == w) || false))) ≡ true → MayBeFreed w from
       first h = ⊎_elim (λ (e : (address_word from was.contents 0 == w) ≡ true). one 0 (omega arith) e) (λ (e : (address_word from was.contents 0 == w) ≡ false). second (rw e at h)) (cases_Bool (address_word from was.contents 0 == w))
 
-  -- the words of its record, in their order
-  pub others-are : was.others ≡ (entry_at from was.contents).long_key ∷ address_word from was.contents 0 ∷ address_word from was.contents 1 ∷ address_word from was.contents 2 ∷ address_word from was.contents 3 ∷ []
-  others-are = (says state layout unlinked from k number object here was lies).others ∙ ap (λ (ws : List ℕ). (entry_at from was.contents).long_key ∷ ws) (four-words from was.contents)
-
   places-apart : repeats (claims_of_all (places_of_entry was.contents from)) ≡ false
   places-apart = repeats-append A B (repeats-head A (L ++ (B ++ D)) once) b-once
       (λ c mine its. let z : true ≡ false = sym (claim-append L (B ++ D) c ∙ or_right (has_claim L c) _ (claim-append B D c ∙ or_left (has_claim B c) _ its)) ∙ repeats-apart A (L ++ (B ++ D)) c once mine in cc)
@@ -197,15 +181,15 @@ module _ (state : State) (layout : Layout) (unlinked : List ℕ) (from : Image) 
 
       once : repeats (A ++ (L ++ (B ++ D))) ≡ false
       once = subst (λ (cs : List Claim). repeats (A ++ (L ++ cs)) ≡ false) (flat_map-append claims_of (address_word from was.contents 0 ∷ address_word from was.contents 1 ∷ address_word from was.contents 2 ∷ []) (address_word from was.contents 3 ∷ []))
-          (subst (λ (ws : List ℕ). repeats (A ++ claims_of_all ws) ≡ false) others-are (record-once state layout unlinked from k number object here was lies))
+          (subst (λ (ws : List ℕ). repeats (A ++ claims_of_all ws) ≡ false) (others-are state layout unlinked from k node was lies) (record-once state layout unlinked from k node was lies))
 
       b-once : repeats B ≡ false
       b-once = repeats-head B D (repeats-tail L (B ++ D) (repeats-tail A (L ++ (B ++ D)) once))
 
   pub can-be-written : (files : BlockFiles) (i size : ℕ) → Agrees files from → AreBytes from → items state ≤ most_items → length unlinked ≤ 2 → CanBeWritten files was.contents i size from
   can-be-written files i size agrees bytes few room = record {
-    checks = record_checks from was.contents bytes (kind state layout unlinked from k number object here was lies) (says state layout unlinked from k number object here was lies).checks;
-    has = record { streams = was.streams; is = (says state layout unlinked from k number object here was lies).at };
+    checks = record_checks from was.contents bytes (kind state layout unlinked from k node was lies) (says state layout unlinked from k node was lies).checks;
+    has = record { streams = was.streams; is = (says state layout unlinked from k node was lies).at };
     apart = places-apart;
     owned = places-freed;
     room = λ other some. record {

@@ -10,7 +10,7 @@ use Rattle.blk_format.specs.Headers.{index_length}
 use Rattle.blk_format.specs.Names.{Name, child_name, read_name}
 use Rattle.blk_format.specs.Records.{child, parent}
 use Rattle.blk_format.specs.Sealed.{BeginsWithRecord}
-use Rattle.blk_format.specs.SparseIndex.{read_parent_index}
+use Rattle.blk_format.specs.SparseIndex.{read_parent_index, read_part_index}
 use Rattle.blk_volume.specs.View.{entry_at}
 use Rattle.blk_io.specs.declared.folder.FileId.{FileId}
 use Rattle.blk_io.specs.declared.folder.FileId.TheVariants as names
@@ -90,6 +90,11 @@ pub record HasNoName (told : Told) (entry : ℕ) (damage : Damage) : Type 0 wher
   pub of_word : IsWordOf entry flags_place child damage
   pub unlike : ForSome told.files (λ image. read_name (key_bytes image entry) ≡ None)
 
+-- a record is read as that of a part, which its flags say, and its third stream is no index of one
+pub record HasNoMap (told : Told) (entry : ℕ) (damage : Damage) : Type 0 where
+  pub of_word : IsWordOf entry flags_place child damage
+  pub unlike : ForSome told.files (λ image. read_part_index (stream_bytes image entry 2) ≡ None)
+
 -- the key of an object's record has a length that no object's has: the damage finds this length
 pub record HasWrongLength (told : Told) (entry : ℕ) (damage : Damage) : Type 0 where
   pub of_word : IsWordOf entry key_len_place damage.found damage
@@ -117,6 +122,7 @@ pub data IsWrongWithin (files : BlockFiles) (told : Told) (entry : ℕ) (damage 
   WrongStream : (stream : ℕ) → IsMisplacedStream files entry stream damage → IsWrongWithin files told entry damage
   WrongPlace : (at : ℕ) → NamesNoPlace files told entry at damage → IsWrongWithin files told entry damage
   WrongIndex : HasNoIndex told entry damage → IsWrongWithin files told entry damage
+  WrongMap : HasNoMap told entry damage → IsWrongWithin files told entry damage
   WrongName : HasNoName told entry damage → IsWrongWithin files told entry damage
   WrongLength : HasWrongLength told entry damage → IsWrongWithin files told entry damage
   WrongChain : IsInNoChain files told entry damage → IsWrongWithin files told entry damage

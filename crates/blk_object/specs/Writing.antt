@@ -2,15 +2,16 @@
 use Rattle.std.specs.Prelude.{◌≡◌, ℕ, ◌+◌, ◌<◌, ◌≤◌, ◌%◌, ◌^◌, List, length, Bool, true, false, Some, if◌then◌else◌}
 use Rattle.blk_image.specs.Image.{Image, Index, byte}
 use Rattle.blk_model.specs.Effects.{stream_after, stream_of, with_slot}
-use Rattle.blk_model.specs.Items.{Item, is_sparse, main}
+use Rattle.blk_model.specs.Items.{Item, PartValue, is_sparse, main, part, part_row}
 use Rattle.blk_model.specs.Room.{items}
 use Rattle.blk_model.specs.Sizes.{most_items}
-use Rattle.blk_model.specs.State.{Object, State, IsValidState, object_at}
+use Rattle.blk_model.specs.State.{Object, State, IsValidState, object_at, part_at}
 use Rattle.blk_format.specs.Address.{is_address}
 use Rattle.blk_format.specs.Headers.{num_bytes_of}
 use Rattle.blk_format.specs.Sealed.{RecordChecks}
 use Rattle.blk_laws.specs.IndexWrites.{IsIndexWord}
-use Rattle.blk_volume.specs.Entries.{stream}
+use Rattle.blk_volume.specs.Entries.{Role, part_role, stream}
+use Rattle.blk_volume.specs.Found.{row_with}
 use Rattle.blk_volume.specs.Layout.{Layout, is_listed}
 use Rattle.blk_volume.specs.Loads.{Loaded}
 use Rattle.blk_entry.specs.Keys.{IsInFile}
@@ -21,6 +22,7 @@ use Rattle.blk_kept.specs.CommandEnds.{after_write}
 use Rattle.blk_kept.specs.Keeping.{CountsItems, Keeps, KeepsUncounted}
 use Rattle.blk_kept.specs.ListLaws.{with_used}
 use Rattle.blk_kept.specs.ObjectLaws.{layout_after}
+use Rattle.blk_kept.specs.PartStates.{with_object, with_value}
 use Rattle.blk_object.specs.Counters.{charges}
 
 -- What can be written.
@@ -82,6 +84,39 @@ pub record IsWrittenUncounted (state : State) (layout : Layout) (unlinked : List
   pub kept : KeepsUncounted (with_written state number object at offset cut bytes) (layout_after layout (node_of_object layout number object) now) unlinked image
   pub rise_of_live : object.live ≡ true → IsRisen state (with_written state number object at offset cut bytes) layout (layout_after layout (node_of_object layout number object) now) (length (stream_of object at)) (length (stream_of (after_write object at offset cut bytes) at))
   pub rise_of_doomed : object.live ≡ false → IsRisen state (with_written state number object at offset cut bytes) layout (layout_after layout (node_of_object layout number object) now) 0 0
+  pub counters : SameCounters from image
+  pub session : SameSession from image
+
+-- A part.
+
+-- a state is kept, in which a live object that isn't settled has a part, which lies at its node with this record; with a stream of it written it is that part with another value, and there is room for one more place
+pub record IsPartToBeWritten (state : State) (layout : Layout) (unlinked : List ℕ) (number : ℕ) (object : Object) (n : ℕ) (value : PartValue) (was : Loaded) (role : Role) (entry at offset : ℕ) (cut : Bool) (bytes : List ℕ) (image : Image) : Type 0 where
+  pub kept : KeepsUncounted state layout unlinked image
+  pub here : object_at state number ≡ Some object
+  pub live : object.live ≡ true
+  pub unsettled : object.settled ≡ false
+  pub old : PartValue
+  pub has : part_at object n ≡ Some old
+  pub lies : layout.at (layout.place (part object.key n)) ≡ Some was
+  pub record_is : was.contents ≡ entry
+  pub role_is : part_role was.key (stored_streams_with at (stream_after cut (stream at was.streams) offset bytes) was.streams) ≡ Some role
+  pub row_is : row_with was.key role (stored_streams_with at (stream_after cut (stream at was.streams) offset bytes) was.streams) ≡ part_row object.key n value
+  pub valid : IsValidState (with_object state number (with_value object n value))
+  pub few : items state ≤ most_items
+  pub room : length unlinked ≤ 2
+
+-- what holds of each such part
+abbrev pub ForEachPartUnsettled : (entry at offset : ℕ) (cut : Bool) (bytes : List ℕ) → Image → (State → Layout → List ℕ → ℕ → Object → (n : ℕ) → PartValue → Loaded → Role → Type 0) → Type 0
+ForEachPartUnsettled entry at offset cut bytes from P =
+    (state : State) (layout : Layout) (unlinked : List ℕ) (number : ℕ) (object : Object) (n : ℕ) (value : PartValue) (was : Loaded) (role : Role)
+    → IsPartToBeWritten state layout unlinked number object n value was role entry at offset cut bytes from → P state layout unlinked number object n value was role
+
+-- the state with the part's value is kept but for the counters, which are as they were, and so is the session; at its node lies the same with the streams after the write
+pub record IsPartWrittenUncounted (state : State) (layout : Layout) (unlinked : List ℕ) (number : ℕ) (object : Object) (n : ℕ) (value : PartValue) (was : Loaded) (role : Role) (at offset : ℕ) (cut : Bool) (bytes : List ℕ) (from image : Image) : Type 0 where
+  pub others : List ℕ
+  pub now : Loaded
+  pub now_is : now ≡ record was { role = role; streams = stored_streams_with at (stream_after cut (stream at was.streams) offset bytes) was.streams; others = others }
+  pub kept : KeepsUncounted (with_object state number (with_value object n value)) (layout_after layout (layout.place (part object.key n)) now) unlinked image
   pub counters : SameCounters from image
   pub session : SameSession from image
 

@@ -13,7 +13,7 @@ ghost use Rattle.blk_alloc.specs.Extending.{KeepsStanding};
 ghost use Rattle.blk_kept.specs.Changes.{Finds};
 ghost use Rattle.blk_stream.specs.Streams.{address_place, address_word, size_place, size_word};
 ghost use Rattle.blk_object.specs.FailedChecks.{IsFailedCheck, ReadsTooFew};
-ghost use Rattle.blk_object.specs.Writing.{ForEachUnsettled, HasStreamThere, IsWrittenUncounted};
+ghost use Rattle.blk_object.specs.Writing.{ForEachPartUnsettled, ForEachUnsettled, HasStreamThere, IsPartWrittenUncounted, IsWrittenUncounted};
 
 use crate::freeing::is_external;
 use crate::making_places::check_index;
@@ -27,8 +27,8 @@ use blk_stream::write;
 // The most bytes of a stream: as many as a cache may keep.
 const MOST_BYTES: u32 = blk_model::MOST_BYTES as u32;
 
-/// Writes bytes over a stream of an object that isn't settled, live or doomed, from an offset on, with zeros before them
-/// where it ends there; it ends with them where it is cut, and else keeps what lies behind them.
+/// Writes bytes over a stream of an object that isn't settled, live or doomed, or of a part of one, from an offset on,
+/// with zeros before them where it ends there; it ends with them where it is cut, and else keeps what lies behind them.
 ///
 /// Where the storage of the new length is that of the old one, they are written in its place, and then the record gets
 /// the length. Else a new place is filled, then the record gets its address and the length by one sealed update, and
@@ -54,8 +54,13 @@ pub fn write_object<F: Folder>(
     // Each state that was kept, with such an object, is kept with its stream written in the end, but for the counters.
     ensures written { OnOk result (ForSome (F.told f.old).files (λ from. ForEachUnsettled entry stream offset cut bytes.now from (λ state layout unlinked number object was. ForSome (F.told f.new).files (IsWrittenUncounted state layout unlinked number object was stream offset cut bytes.now from)))) }
 
-    // At each word what was at rest is found: an object that isn't settled isn't.
+    // So is each with a part of such an object, which the stream makes one with another value.
+    ensures part_written { OnOk result (ForSome (F.told f.old).files (λ from. ForEachPartUnsettled entry stream offset cut bytes.now from (λ state layout unlinked number object n value was role. ForSome (F.told f.new).files (IsPartWrittenUncounted state layout unlinked number object n value was role stream offset cut bytes.now from)))) }
+
+    // At each word what was at rest is found: an object that isn't settled isn't, nor are its parts.
     ensures stops { ForSome (F.told f.old).files (λ from. ForEachUnsettled entry stream offset cut bytes.now from (λ state layout unlinked number object was. Passes (F.told f.old) (F.told f.new) (Finds (rest state)))) }
+
+    ensures part_stops { ForSome (F.told f.old).files (λ from. ForEachPartUnsettled entry stream offset cut bytes.now from (λ state layout unlinked number object n value was role. Passes (F.told f.old) (F.told f.new) (Finds (rest state)))) }
 
     // What stood still does.
     ensures keeps { KeepsStanding files.old files.new }
@@ -64,8 +69,9 @@ pub fn write_object<F: Folder>(
     // A damage is a check that fails on what is read here; nothing is written after it.
     ensures damaged { IfDamaged result (IsFailedCheck files.new (F.told f.new)) }
 
-    // A folder that tells its files, with such an object, gives no damage.
+    // A folder that tells its files, with such an object or such a part, gives no damage.
     ensures untold { ForSome (F.told f.old).files (λ from. ForEachUnsettled entry stream offset cut bytes.now from (λ state layout unlinked number object was. IfDamaged result (λ _. (F.told f.old).files ≡ None))) }
+    ensures part_untold { ForSome (F.told f.old).files (λ from. ForEachPartUnsettled entry stream offset cut bytes.now from (λ state layout unlinked number object n value was role. IfDamaged result (λ _. (F.told f.old).files ≡ None))) }
 
     ensures silent { (F.told f.old).files ≡ None → (F.told f.new).files ≡ None }
     ensures later { F.faults f.old ≤ F.faults f.new }

@@ -32,7 +32,7 @@ module _ (image : Image) (entry : ℕ) (key old new : List ℕ) (len : ℕ) (has
 
 -- ---- the parent's key is the object's
 
-main-key : (stored : List ℕ) (index : ParentIndex) (streams : List (List ℕ)) (key : List ℕ) → item_of (row_with stored (IsParent index) streams) ≡ main key → stored ≡ key
+pub main-key : (stored : List ℕ) (index : ParentIndex) (streams : List (List ℕ)) (key : List ℕ) → item_of (row_with stored (IsParent index) streams) ≡ main key → stored ≡ key
 main-key stored index streams key is = let same : main stored ≡ main key = is in cc
 
 module _ (state : State) (layout : Layout) (keep : Item → Bool) (chains : ℕ → List ℕ) (unlinked : List ℕ) (number : ℕ) (object : Object) (node entry signature : ℕ) (image : Image) (p : IsParentOut state layout keep chains unlinked number object node entry signature image) where

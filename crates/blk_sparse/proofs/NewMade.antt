@@ -84,7 +84,7 @@ used-new item (x ∷ uses) h = go (same_item item x) refl h (used-new item uses)
   go true e h later = absurd (let z : true ≡ false = h in cc)
   go false e h later = rw e (ap (λ (xs : List Item). x ∷ xs) (later h))
 
-set-self : (slots : List (Option Object)) (i : ℕ) (o : Option Object) → get_or slots i None ≡ o → (x : Object) → o ≡ Some x → set slots i o ≡ slots
+pub set-self : (slots : List (Option Object)) (i : ℕ) (o : Option Object) → get_or slots i None ≡ o → (x : Object) → o ≡ Some x → set slots i o ≡ slots
 set-self [] i o e x is = refl
 set-self (s ∷ slots) zero o e x is = ap (λ (y : Option Object). y ∷ slots) (sym e)
 set-self (s ∷ slots) (suc i) o e x is = ap (λ (ys : List (Option Object)). s ∷ ys) (set-self slots i o e x is)

@@ -16,7 +16,7 @@ use Rattle.blk_laws.proofs.walks.Loading.{load-from}
 use Rattle.blk_laws.proofs.walks.Loads.{load-then}
 use Rattle.blk_stream.specs.Loading.{stored_streams_with}
 use Rattle.blk_stream.proofs.StreamPlaces.{streams_parts}
-use Rattle.blk_object.proofs.WrittenObjects.{both-claimed}
+use Rattle.blk_object.proofs.WrittenItems.{both-claimed}
 
 -- ---- the words of a record
 

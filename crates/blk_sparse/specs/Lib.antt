@@ -1,5 +1,10 @@
+pub mod Beginning
+pub mod Changing
 pub mod Children
 pub mod Dropping
 pub mod Parents
+pub mod Parts
+pub mod Reading
 pub mod SparseObjects
 pub mod NewParts
+pub mod Writing

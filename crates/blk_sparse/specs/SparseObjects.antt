@@ -128,8 +128,10 @@ pub record HasPartAt (layout : Layout) (object : Object) (n entry : ℕ) : Type 
   pub record_is : was.contents ≡ entry
 
 -- what holds of each such object and part
-abbrev pub ForEachPartThere : (node entry signature n of_part : ℕ) → Image → (State → Layout → List ℕ → ℕ → Object → Type 0) → Type 0
-ForEachPartThere node entry signature n of_part from P = ForEachGrowing [] node entry signature from (λ state layout unlinked number object. HasPartAt layout object n of_part → P state layout unlinked number object)
+abbrev pub ForEachPartThere : (of_part : ℕ) → Image → (State → Layout → List ℕ → ℕ → Object → (node entry signature n : ℕ) → Type 0) → Type 0
+ForEachPartThere of_part from P =
+    (state : State) (layout : Layout) (unlinked : List ℕ) (number : ℕ) (object : Object) (node entry signature n : ℕ)
+    → CanGetParts [] state layout unlinked number object node entry signature from → HasPartAt layout object n of_part → P state layout unlinked number object node entry signature n
 
 -- Uses.
 

@@ -139,7 +139,7 @@ pub fn drop_children_with<F: Folder, E: FnMut(u32)>(
 }
 
 // Reads the key of a parent into the front of `name`, by two folder calls. Its length is given.
-fn read_key<F: Folder>(
+pub(crate) fn read_key<F: Folder>(
     f: &mut F,
     files: &BlockFiles,
     entry: Addr,

@@ -2,11 +2,23 @@
 //! object with an index, of which one that a handle names stays.
 #![tactic(auto)]
 
+mod beginning;
+mod changing;
 mod children;
 mod dropping;
 mod new_part;
 mod parents;
+mod parts;
+mod present;
+mod reading;
+mod runs;
+mod writing;
 
+pub use beginning::begin;
 pub use children::{Parent, drop_children, drop_children_with};
 pub use dropping::{Gone, drop_parts_with};
 pub use parents::{doom_parent, remove_parent_with};
+pub use present::read_present;
+pub use reading::{range, read, use_parts};
+pub use runs::{Run, find_run};
+pub use writing::write;

@@ -1,0 +1,71 @@
+-- A plain object becomes the parent of an index: its third stream gets the index, and then its record the flags of a parent.
+use Rattle.std.specs.Prelude.{◌≡◌, ◌≤◌, ◌<◌, ℕ, List, [], ◌∷◌, length, false, true}
+use Rattle.std.specs.declared.option.Option.TheVariants.{Some}
+use Rattle.blk_image.specs.Image.{Image}
+use Rattle.blk_model.specs.Items.{main, plain, sparse}
+use Rattle.blk_model.specs.State.{IsValidState, Object, State, object_at}
+use Rattle.blk_model.specs.Sizes.{longest_key, signatures}
+use Rattle.blk_format.specs.Sealed.{RecordChecks}
+use Rattle.blk_format.specs.SparseIndex.{ParentIndex, read_parent_index}
+use Rattle.blk_volume.specs.Entries.{IsParent, stream}
+use Rattle.blk_volume.specs.Layout.{Layout}
+use Rattle.blk_volume.specs.Loads.{Loaded}
+use Rattle.blk_volume.specs.View.{entry_at}
+use Rattle.blk_kept.specs.Changes.{SameCounters, SameSession}
+use Rattle.blk_kept.specs.Keeping.{KeepsUncounted}
+use Rattle.blk_kept.specs.ObjectLaws.{layout_after}
+use Rattle.blk_kept.specs.PartStates.{with_object}
+use Rattle.blk_sparse.specs.SparseObjects.{CanBecomeSparse}
+
+-- the flags of a parent, as a change of its record
+abbrev pub parent_change : List (ℕ × ℕ)
+parent_change = (72, 1) ∷ []
+
+-- the object as a sparse one without the bytes of an index
+abbrev pub as_sparse : Object → ℕ → Object
+as_sparse object signature = record object { shape = sparse signature; streams = (object.streams.0, [], []) }
+
+-- a state is kept, in which a live object isn't settled and is plain; at its node lies what has the index of a parent in its third stream, and nothing in its second
+pub record CanGetIndex (state : State) (layout : Layout) (unlinked : List ℕ) (number : ℕ) (object : Object) (was : Loaded) (index : ParentIndex) (entry : ℕ) (image : Image) : Type 0 where
+  pub kept : KeepsUncounted state layout unlinked image
+  pub here : object_at state number ≡ Some object
+  pub live : object.live ≡ true
+  pub unsettled : object.settled ≡ false
+  pub is_plain : object.shape ≡ plain
+  pub second : object.streams.1 ≡ []
+  pub lies : layout.at (layout.place (main object.key)) ≡ Some was
+  pub record_is : was.contents ≡ entry
+  pub index_is : read_parent_index (stream 2 was.streams) ≡ Some index
+  pub key_len : index.key_len ≡ length was.key
+  pub valid : IsValidState (with_object state number (as_sparse object index.signature))
+
+-- what holds of each such object
+abbrev pub ForEachWithIndex : (entry : ℕ) → Image → (State → Layout → List ℕ → ℕ → Object → Loaded → ParentIndex → Type 0) → Type 0
+ForEachWithIndex entry from P =
+    (state : State) (layout : Layout) (unlinked : List ℕ) (number : ℕ) (object : Object) (was : Loaded) (index : ParentIndex)
+    → CanGetIndex state layout unlinked number object was index entry from → P state layout unlinked number object was index
+
+-- the state with the object sparse is kept but for the counters, which are as they were, and so is the session; at its node lies the same as a parent
+pub record IsParentMarked (state : State) (layout : Layout) (unlinked : List ℕ) (number : ℕ) (object : Object) (was : Loaded) (index : ParentIndex) (from image : Image) : Type 0 where
+  pub kept : KeepsUncounted (with_object state number (as_sparse object index.signature)) (layout_after layout (layout.place (main object.key)) (record was { role = IsParent index })) unlinked image
+  pub counters : SameCounters from image
+  pub session : SameSession from image
+
+-- some bytes are the index of a parent, with this signature and the length of its key
+pub record HasIndex (signature key_len : ℕ) (bytes : List ℕ) : Type 0 where
+  pub index : ParentIndex
+  pub is : read_parent_index bytes ≡ Some index
+  pub signature_is : index.signature ≡ signature
+  pub key_len_is : index.key_len ≡ key_len
+
+-- a record checks, and its key has a length that an object's may have
+pub record HasParentLength (entry : ℕ) (image : Image) : Type 0 where
+  pub checks : RecordChecks entry image
+  pub some : 1 ≤ (entry_at image entry).key_len
+  pub short : (entry_at image entry).key_len ≤ longest_key
+
+-- what holds of each plain object that may become sparse, where some bytes are an index of it with a signature
+abbrev pub ForEachPlainWith : (bytes : List ℕ) (entry : ℕ) → Image → (State → Layout → List ℕ → ℕ → Object → (node signature : ℕ) → Type 0) → Type 0
+ForEachPlainWith bytes entry from P =
+    (state : State) (layout : Layout) (unlinked : List ℕ) (number : ℕ) (object : Object) (node signature : ℕ)
+    → CanBecomeSparse state layout unlinked number object node entry from → signature < signatures → HasIndex signature (entry_at from entry).key_len bytes → P state layout unlinked number object node signature

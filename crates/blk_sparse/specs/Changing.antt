@@ -1,0 +1,56 @@
+-- A part that there is gets a piece: its data, and then its map.
+use Rattle.std.specs.Prelude.{◌≡◌, ℕ, ◌+◌, List, [], length}
+use Rattle.std.specs.declared.option.Option.TheVariants.{Some}
+use Rattle.blk_image.specs.Image.{Image}
+use Rattle.blk_model.specs.Items.{IsBytes}
+use Rattle.blk_model.specs.Sparse.{presence_after}
+use Rattle.blk_model.specs.State.{Object, State}
+use Rattle.blk_format.specs.Names.{Name}
+use Rattle.blk_format.specs.SparseIndex.{PartIndex, read_part_index}
+use Rattle.blk_volume.specs.Entries.{IsPart}
+use Rattle.blk_volume.specs.Layout.{Layout}
+use Rattle.blk_volume.specs.Loads.{Loaded}
+use Rattle.blk_kept.specs.Changes.{SameCounters, SameSession}
+use Rattle.blk_kept.specs.PartStates.{with_object}
+use Rattle.blk_object.specs.Owning.{LoadsWith}
+use Rattle.blk_ranges.specs.PartMaps.{presence_in}
+use Rattle.blk_sparse.specs.SparseObjects.{CanGetParts, HasPartAt, KeepsParent, with_piece}
+
+-- some bytes are an index of a part, in which, after an old one, what is written between two places is present
+pub record IsNoted (old : PartIndex) (from to : ℕ) (bytes : List ℕ) : Type 0 where
+  pub index : PartIndex
+  pub is : read_part_index bytes ≡ Some index
+  pub signature : index.signature ≡ old.signature
+  pub key_len : index.key_len ≡ old.key_len
+  pub presence : presence_in index ≡ presence_after (presence_in old) from to
+
+-- what a node names by some rule, with this record, is a part with this index
+pub record LoadsAsPart (entry : ℕ) (image : Image) : Type 0 where
+  pub loaded : Loaded
+  pub loads : LoadsWith entry loaded image
+  pub name : Name
+  pub index : PartIndex
+  pub role : loaded.role ≡ IsPart name index
+
+-- a part of an object that isn't settled lies at its node with this record, and these bytes are its index after a piece
+pub record IsToBeChanged (state : State) (layout : Layout) (unlinked : List ℕ) (number : ℕ) (object : Object) (node entry signature n of_part place : ℕ) (piece bytes : List ℕ) (image : Image) : Type 0 where
+  pub grows : CanGetParts [] state layout unlinked number object node entry signature image
+  pub at : HasPartAt layout object n of_part
+  pub name : Name
+  pub index : PartIndex
+  pub role : at.was.role ≡ IsPart name index
+  pub noted : IsNoted index place (place + length piece) bytes
+
+-- what holds of each such part
+abbrev pub ForEachToBeChanged : (of_part place : ℕ) (piece bytes : List ℕ) → Image → (State → Layout → List ℕ → ℕ → Object → (node entry signature n : ℕ) → Type 0) → Type 0
+ForEachToBeChanged of_part place piece bytes from P =
+    (state : State) (layout : Layout) (unlinked : List ℕ) (number : ℕ) (object : Object) (node entry signature n : ℕ)
+    → IsToBeChanged state layout unlinked number object node entry signature n of_part place piece bytes from → P state layout unlinked number object node entry signature n
+
+-- the state with the piece is kept, before the part is used; it lies at its node with its record still
+pub record IsChangedUnused (state : State) (unlinked : List ℕ) (number : ℕ) (object : Object) (node entry signature n of_part place : ℕ) (piece : List ℕ) (from image : Image) : Type 0 where
+  pub now : Layout
+  pub parent : KeepsParent (with_object state number (with_piece object n place piece)) now unlinked number (with_piece object n place piece) node entry signature image
+  pub at : HasPartAt now (with_piece object n place piece) n of_part
+  pub counters : SameCounters from image
+  pub session : SameSession from image

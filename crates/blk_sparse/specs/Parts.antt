@@ -1,0 +1,51 @@
+-- One part of an object: found by its name, and used.
+use Rattle.std.specs.Prelude.{◌≡◌, ◌⊎◌, ℕ, List, Option, true}
+use Rattle.std.specs.declared.option.Option.TheVariants.{None, Some}
+use Rattle.blk_image.specs.Image.{Image}
+use Rattle.blk_model.specs.Holding.{rest}
+use Rattle.blk_model.specs.Items.{Item}
+use Rattle.blk_model.specs.State.{Object, State, part_at}
+use Rattle.blk_volume.specs.Layout.{Layout, is_listed}
+use Rattle.blk_volume.specs.Loads.{Loaded}
+use Rattle.blk_kept.specs.Changes.{Finds, SameCounters, SameSession}
+use Rattle.blk_kept.specs.Keeping.{CountsItems, KeepsUncounted}
+use Rattle.blk_kept.specs.ListLaws.{with_used}
+use Rattle.blk_sparse.specs.SparseObjects.{HasPartAt, KeepsParent}
+
+-- Found.
+
+-- what holds of each object with a key that has a parent with a signature
+abbrev pub ForEachOfKey : (key : List ℕ) (signature : ℕ) → Image → (State → Layout → List ℕ → ℕ → Object → (node entry : ℕ) → Type 0) → Type 0
+ForEachOfKey key signature from P =
+    (state : State) (layout : Layout) (unlinked : List ℕ) (number : ℕ) (object : Object) (node entry : ℕ)
+    → KeepsParent state layout unlinked number object node entry signature from → object.key ≡ key → P state layout unlinked number object node entry
+
+-- the part of an object has this record; none is found where it doesn't have the part
+abbrev pub IsPartFound : Layout → Object → (n : ℕ) → Option ℕ → Type 0
+IsPartFound layout object n None = part_at object n ≡ None
+IsPartFound layout object n (Some entry) = HasPartAt layout object n entry
+
+-- Used.
+
+-- a state is kept, in which a listed item lies at its node with this record
+pub record IsListedAt (state : State) (layout : Layout) (unlinked : List ℕ) (item : Item) (entry : ℕ) (image : Image) : Type 0 where
+  pub kept : KeepsUncounted state layout unlinked image
+  pub listed : is_listed state item ≡ true
+  pub was : Loaded
+  pub lies : layout.at (layout.place item) ≡ Some was
+  pub record_is : was.contents ≡ entry
+
+-- what holds of each such item
+abbrev pub ForEachListedAt : (entry : ℕ) → Image → (State → Layout → List ℕ → Item → Type 0) → Type 0
+ForEachListedAt entry from P = (state : State) (layout : Layout) (unlinked : List ℕ) (item : Item) → IsListedAt state layout unlinked item entry from → P state layout unlinked item
+
+-- the state with the item in front is kept, and counted where the state was; the counters and the session of the index are as they were
+pub record IsUsed (state : State) (layout : Layout) (unlinked : List ℕ) (item : Item) (from image : Image) : Type 0 where
+  pub kept : KeepsUncounted (with_used state item) layout unlinked image
+  pub counted : CountsItems from state layout → CountsItems image (with_used state item) layout
+  pub counters : SameCounters from image
+  pub session : SameSession from image
+
+-- what is at rest before the use of an item is found, or what is then
+abbrev pub FindsBeforeOrAfter : State → Item → Image → Type 0
+FindsBeforeOrAfter state item image = Finds (rest state) image ⊎ Finds (rest (with_used state item)) image

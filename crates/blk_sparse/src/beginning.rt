@@ -1,0 +1,156 @@
+// A plain object becomes sparse.
+ghost use Rattle.std.specs.Prelude.{◌≡◌, ◌≤◌, ◌<◌, IfOk, IsTrue, None, OnOk, length};
+ghost use Rattle.std.specs.Int.{cast_unsigned, w64};
+ghost use Rattle.std.specs.Option.{ForSome};
+ghost use Rattle.blk_image.specs.Told.{Passes, Rises, Stays};
+ghost use Rattle.blk_model.specs.Holding.{rest};
+ghost use Rattle.blk_model.specs.Sizes.{longest_key, signatures};
+ghost use Rattle.blk_format.specs.Address.{blocks_256, kind_of};
+ghost use Rattle.blk_format.specs.SparseIndex.{parent_index_length};
+ghost use Rattle.blk_volume.specs.View.{entry_at};
+ghost use Rattle.blk_io.specs.Faults.{IfDamaged, IfDevice};
+ghost use Rattle.blk_disk.specs.Open.{IsOpen};
+ghost use Rattle.blk_disk.specs.Tables.{Agrees, stands_among};
+ghost use Rattle.blk_alloc.specs.Extending.{KeepsStanding};
+ghost use Rattle.blk_kept.specs.Changes.{Finds};
+ghost use Rattle.blk_kept.specs.PartStates.{with_object};
+ghost use Rattle.blk_object.specs.FailedChecks.{IsFailedCheck};
+ghost use Rattle.blk_sparse.specs.Beginning.{ForEachPlainWith, ForEachWithIndex, HasIndex, HasParentLength, IsParentMarked};
+ghost use Rattle.blk_sparse.specs.SparseObjects.{ForEachPlain, KeepsParentThen, with_signature};
+
+use blk_addr::Addr;
+use blk_disk::BlockFiles;
+use blk_entry::{read_head, record_damage};
+use blk_io::{Fault, Folder};
+use blk_object::write_object;
+use blk_ranges::{LONGEST_KEY, ParentHead, ParentMap};
+use blk_record::EntryView;
+
+// The stream of a record that has its index.
+const INDEX: u8 = 2;
+
+// The place of the flags in a record, and those of a parent.
+const FLAGS: u32 = 72;
+
+const PARENT: u32 = 1;
+
+/// Makes a plain object, that isn't settled and has nothing in its second and its third stream, a sparse one with a
+/// signature: its third stream gets the index of a parent without parts, and then its record the flags of a parent.
+///
+/// The counters of the index stay. One folder call reads the record, and seven write the flags, beside those of
+/// `write_object`.
+///
+/// A damage is one of `write_object`, a record that doesn't check, or one with a key of a length that no object's has.
+pub fn begin<F: Folder>(
+    f: &mut F,
+    files: &mut BlockFiles,
+    entry: Addr,
+    signature: i64,
+) -> Result<(), Fault>
+    requires kind { kind_of entry ≡ blocks_256 }
+    requires stands { IsTrue (stands_among files.old entry) }
+    requires signature { cast_unsigned w64 signature < signatures }
+    requires is_open { ForSome (F.told f.old).files (IsOpen files.old) }
+
+    // Each state that was kept, with such an object, is kept with it sparse in the end, but for the counters.
+    ensures begun { OnOk result (ForSome (F.told f.old).files (λ from. ForEachPlain entry from (λ state layout unlinked number object node. ForSome (F.told f.new).files (KeepsParentThen (with_object state number (with_signature object (cast_unsigned w64 signature))) unlinked number (with_signature object (cast_unsigned w64 signature)) node entry (cast_unsigned w64 signature) from)))) }
+
+    // At each word what was at rest is found: an object that isn't settled isn't.
+    ensures stops { ForSome (F.told f.old).files (λ from. ForEachPlain entry from (λ state layout unlinked number object node. Passes (F.told f.old) (F.told f.new) (Finds (rest state)))) }
+
+    // What stood still does.
+    ensures keeps { KeepsStanding files.old files.new }
+    ensures is_open { OnOk result (ForSome (F.told f.new).files (IsOpen files.new)) }
+
+    // A damage is a check that fails on what is read here; nothing is written after it.
+    ensures damaged { IfDamaged result (IsFailedCheck files.new (F.told f.new)) }
+
+    // A folder that tells its files, with such an object, gives no damage.
+    ensures untold { ForSome (F.told f.old).files (λ from. ForEachPlain entry from (λ state layout unlinked number object node. IfDamaged result (λ _. (F.told f.old).files ≡ None))) }
+
+    ensures silent { (F.told f.old).files ≡ None → (F.told f.new).files ≡ None }
+    ensures later { F.faults f.old ≤ F.faults f.new }
+    ensures device { IfDevice result (Rises (F.faults f.old) (F.faults f.new)) }
+{
+    let key_len = parent_length(f, files, entry)?;
+    let mut bytes = [0u8; ParentMap::LEN];
+    print_index(signature, key_len, &mut bytes);
+    give_index(f, files, entry, &bytes)
+}
+
+// The length of the key of an object's record, by one folder call.
+fn parent_length<F: Folder>(f: &mut F, files: &BlockFiles, entry: Addr) -> Result<u32, Fault>
+    requires kind { kind_of entry ≡ blocks_256 }
+    requires stands { IsTrue (stands_among files.now entry) }
+    ensures some { IfOk result (λ len. 1 ≤ len) }
+    ensures short { IfOk result (λ len. len ≤ longest_key) }
+    ensures length { IfOk result (λ len. ForSome (F.told f.old).files (λ image. len ≡ (entry_at image entry).key_len)) }
+    ensures stays { Stays (F.told f.old) (F.told f.new) }
+    ensures damaged { IfDamaged result (IsFailedCheck files.now (F.told f.new)) }
+    ensures untold { ForSome (F.told f.old).files (Agrees files.now) → ForSome (F.told f.old).files (HasParentLength entry) → IfDamaged result (λ _. (F.told f.old).files ≡ None) }
+    ensures later { F.faults f.old ≤ F.faults f.new }
+    ensures device { IfDevice result (Rises (F.faults f.old) (F.faults f.new)) }
+{
+    let head = read_head(f, files, entry)?;
+    if head.key_len == 0 || head.key_len > LONGEST_KEY {
+        return Err(record_damage(entry, EntryView::KEY_LEN, head.key_len));
+    }
+    Ok(head.key_len)
+}
+
+// Prints the index of a parent without parts.
+fn print_index(signature: i64, key_len: u32, out: &mut [u8; 8256])
+    requires signature { cast_unsigned w64 signature < signatures }
+    requires some { 1 ≤ key_len }
+    requires short { key_len ≤ longest_key }
+    ensures index { HasIndex (cast_unsigned w64 signature) key_len out.new }
+{
+    let head = ParentHead { signature, key_len };
+    let map = ParentMap {
+        head,
+        parts: [0; 8192],
+    };
+    map.print(out);
+}
+
+// Writes the bytes of an index as the third stream of a plain object, and then its record gets the flags of a parent.
+fn give_index<F: Folder>(
+    f: &mut F,
+    files: &mut BlockFiles,
+    entry: Addr,
+    bytes: &[u8],
+) -> Result<(), Fault>
+    requires kind { kind_of entry ≡ blocks_256 }
+    requires stands { IsTrue (stands_among files.old entry) }
+    requires long { length bytes.now ≡ parent_index_length }
+    requires is_open { ForSome (F.told f.old).files (IsOpen files.old) }
+    ensures begun { OnOk result (ForSome (F.told f.old).files (λ from. ForEachPlainWith bytes.now entry from (λ state layout unlinked number object node signature. ForSome (F.told f.new).files (KeepsParentThen (with_object state number (with_signature object signature)) unlinked number (with_signature object signature) node entry signature from)))) }
+    ensures stops { ForSome (F.told f.old).files (λ from. ForEachPlainWith bytes.now entry from (λ state layout unlinked number object node signature. Passes (F.told f.old) (F.told f.new) (Finds (rest state)))) }
+    ensures keeps { KeepsStanding files.old files.new }
+    ensures is_open { OnOk result (ForSome (F.told f.new).files (IsOpen files.new)) }
+    ensures damaged { IfDamaged result (IsFailedCheck files.new (F.told f.new)) }
+    ensures untold { ForSome (F.told f.old).files (λ from. ForEachPlainWith bytes.now entry from (λ state layout unlinked number object node signature. IfDamaged result (λ _. (F.told f.old).files ≡ None))) }
+    ensures silent { (F.told f.old).files ≡ None → (F.told f.new).files ≡ None }
+    ensures later { F.faults f.old ≤ F.faults f.new }
+    ensures device { IfDevice result (Rises (F.faults f.old) (F.faults f.new)) }
+{
+    write_object(f, files, entry, INDEX, 0, true, bytes)?;
+    set_parent(f, files, entry)
+}
+
+// Gives a record the flags of a parent, by one sealed update.
+fn set_parent<F: Folder>(f: &mut F, files: &BlockFiles, entry: Addr) -> Result<(), Fault>
+    requires kind { kind_of entry ≡ blocks_256 }
+    requires stands { IsTrue (stands_among files.now entry) }
+    requires is_open { ForSome (F.told f.old).files (IsOpen files.now) }
+    ensures marked { OnOk result (ForSome (F.told f.old).files (λ from. ForEachWithIndex entry from (λ state layout unlinked number object was index. ForSome (F.told f.new).files (IsParentMarked state layout unlinked number object was index from)))) }
+    ensures stops { ForSome (F.told f.old).files (λ from. ForEachWithIndex entry from (λ state layout unlinked number object was index. Passes (F.told f.old) (F.told f.new) (Finds (rest state)))) }
+    ensures is_open { ForSome (F.told f.new).files (IsOpen files.now) }
+    ensures damaged { IfDamaged result (IsFailedCheck files.now (F.told f.new)) }
+    ensures untold { ForSome (F.told f.old).files (λ from. ForEachWithIndex entry from (λ state layout unlinked number object was index. IfDamaged result (λ _. (F.told f.old).files ≡ None))) }
+    ensures silent { (F.told f.old).files ≡ None → (F.told f.new).files ≡ None }
+    ensures later { F.faults f.old ≤ F.faults f.new }
+    ensures device { IfDevice result (Rises (F.faults f.old) (F.faults f.new)) }
+{
+    files.update_sealed(f, entry, &[(FLAGS, PARENT)])
+}

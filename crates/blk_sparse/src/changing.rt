@@ -1,0 +1,146 @@
+// A part that there is gets a piece.
+ghost use Rattle.std.specs.Prelude.{◌≡◌, ◌≤◌, ◌<◌, ◌+◌, [], IfOk, IsTrue, None, OnOk, length};
+ghost use Rattle.std.specs.Option.{ForSome};
+ghost use Rattle.blk_image.specs.Told.{Passes, Rises, Stays};
+ghost use Rattle.blk_model.specs.Holding.{rest};
+ghost use Rattle.blk_model.specs.Sizes.{part_size};
+ghost use Rattle.blk_format.specs.Address.{blocks_256, kind_of};
+ghost use Rattle.blk_format.specs.Names.{Name};
+ghost use Rattle.blk_format.specs.SparseIndex.{PartIndex};
+ghost use Rattle.blk_volume.specs.Entries.{IsPart};
+ghost use Rattle.blk_volume.specs.Loads.{Loaded};
+ghost use Rattle.blk_io.specs.Faults.{IfDamaged, IfDevice};
+ghost use Rattle.blk_disk.specs.Open.{IsOpen};
+ghost use Rattle.blk_disk.specs.Tables.{Agrees, stands_among};
+ghost use Rattle.blk_alloc.specs.Extending.{KeepsStanding};
+ghost use Rattle.blk_kept.specs.Changes.{Finds};
+ghost use Rattle.blk_object.specs.FailedChecks.{IsFailedCheck};
+ghost use Rattle.blk_object.specs.Owning.{LoadsWith};
+ghost use Rattle.blk_ranges.specs.PartMaps.{IsPartMap, index_of};
+ghost use Rattle.blk_sparse.specs.Changing.{ForEachToBeChanged, IsChangedUnused, IsNoted, LoadsAsPart};
+ghost use Rattle.blk_sparse.specs.SparseObjects.{ForEachPartThere, KeepsParentThen, with_piece, with_piece_written};
+
+use crate::parts::use_entry;
+use blk_addr::Addr;
+use blk_disk::BlockFiles;
+use blk_entry::record_damage;
+use blk_io::{Fault, Folder};
+use blk_object::write_object;
+use blk_ranges::PartMap;
+use blk_record::EntryView;
+use blk_stream::read;
+
+// The streams of a part that have its data and its index.
+const DATA: u8 = 1;
+
+const INDEX: u8 = 2;
+
+// The flags of the record of a part.
+const CHILD: u32 = 2;
+
+// Writes a piece to a part that there is, from a place in it on: first its data, then its map; and then the part is used.
+pub(crate) fn change_part<F: Folder>(
+    f: &mut F,
+    files: &mut BlockFiles,
+    part: Addr,
+    place: u32,
+    piece: &[u8],
+    moment: u64,
+) -> Result<(), Fault>
+    requires kind { kind_of part ≡ blocks_256 }
+    requires stands { IsTrue (stands_among files.old part) }
+    requires some { 1 ≤ length piece.now }
+    requires inside { place + length piece.now ≤ part_size }
+    requires is_open { ForSome (F.told f.old).files (IsOpen files.old) }
+
+    // Each state that was kept, with such a part of an object that isn't settled, is kept with the piece written and the part in front, but for the counters.
+    ensures written { OnOk result (ForSome (F.told f.old).files (λ from. ForEachPartThere part from (λ state layout unlinked number object node entry signature n. ForSome (F.told f.new).files (KeepsParentThen (with_piece_written state number object n place piece.now) unlinked number (with_piece object n place piece.now) node entry signature from)))) }
+
+    // At each word what was at rest is found: an object that isn't settled isn't, nor are its parts.
+    ensures stops { ForSome (F.told f.old).files (λ from. ForEachPartThere part from (λ state layout unlinked number object node entry signature n. Passes (F.told f.old) (F.told f.new) (Finds (rest state)))) }
+
+    // What stood still does.
+    ensures keeps { KeepsStanding files.old files.new }
+    ensures is_open { OnOk result (ForSome (F.told f.new).files (IsOpen files.new)) }
+
+    // A damage is a check that fails on what is read here; nothing is written after it.
+    ensures damaged { IfDamaged result (IsFailedCheck files.new (F.told f.new)) }
+
+    // A folder that tells its files, with such a part, gives no damage.
+    ensures untold { ForSome (F.told f.old).files (λ from. ForEachPartThere part from (λ state layout unlinked number object node entry signature n. IfDamaged result (λ _. (F.told f.old).files ≡ None))) }
+
+    ensures silent { (F.told f.old).files ≡ None → (F.told f.new).files ≡ None }
+    ensures later { F.faults f.old ≤ F.faults f.new }
+    ensures device { IfDevice result (Rises (F.faults f.old) (F.faults f.new)) }
+{
+    let map = read_map(f, files, part)?;
+    let mut bytes = [0u8; PartMap::LEN];
+    print_noted(map, place, piece.len() as u32, &mut bytes);
+    write_noted(f, files, part, place, piece, &bytes)?;
+    use_entry(f, files, part, moment)
+}
+
+// The index of a part, which is read from its third stream, by two folder calls.
+pub(crate) fn read_map<F: Folder>(
+    f: &mut F,
+    files: &BlockFiles,
+    part: Addr,
+) -> Result<PartMap, Fault>
+    requires kind { kind_of part ≡ blocks_256 }
+    requires stands { IsTrue (stands_among files.now part) }
+    ensures map { IfOk result (λ map. ForSome (F.told f.old).files (λ image. (loaded : Loaded) (name : Name) (index : PartIndex) → LoadsWith part loaded image → loaded.role ≡ IsPart name index → index_of map ≡ index)) }
+    ensures valid { IfOk result IsPartMap }
+    ensures stays { Stays (F.told f.old) (F.told f.new) }
+    ensures damaged { IfDamaged result (IsFailedCheck files.now (F.told f.new)) }
+    ensures untold { ForSome (F.told f.old).files (Agrees files.now) → ForSome (F.told f.old).files (LoadsAsPart part) → IfDamaged result (λ _. (F.told f.old).files ≡ None) }
+    ensures later { F.faults f.old ≤ F.faults f.new }
+    ensures device { IfDevice result (Rises (F.faults f.old) (F.faults f.new)) }
+{
+    let mut bytes = [0u8; PartMap::LEN];
+    let len = read(f, files, part, INDEX, 0, &mut bytes)?;
+    match PartMap::read(&bytes[..len]) {
+        Some(map) => Ok(map),
+        None => Err(record_damage(part, EntryView::FLAGS, CHILD)),
+    }
+}
+
+// Prints a map in which so many bytes from a place on were written.
+fn print_noted(map: PartMap, place: u32, len: u32, out: &mut [u8; 192])
+    requires valid { IsPartMap map }
+    requires some { 1 ≤ len }
+    requires inside { place + len ≤ part_size }
+    ensures noted { IsNoted (index_of map) place (place + len) out.new }
+{
+    let mut noted = map;
+    noted.note_write(place, place + len);
+    noted.print(out);
+}
+
+// Writes a piece of a part's data, and then the bytes of its index.
+fn write_noted<F: Folder>(
+    f: &mut F,
+    files: &mut BlockFiles,
+    part: Addr,
+    place: u32,
+    piece: &[u8],
+    map: &[u8],
+) -> Result<(), Fault>
+    requires kind { kind_of part ≡ blocks_256 }
+    requires stands { IsTrue (stands_among files.old part) }
+    requires some { 1 ≤ length piece.now }
+    requires inside { place + length piece.now ≤ part_size }
+    requires map { length map.now ≡ 192 }
+    requires is_open { ForSome (F.told f.old).files (IsOpen files.old) }
+    ensures written { OnOk result (ForSome (F.told f.old).files (λ from. ForEachToBeChanged part place piece.now map.now from (λ state layout unlinked number object node entry signature n. ForSome (F.told f.new).files (IsChangedUnused state unlinked number object node entry signature n part place piece.now from)))) }
+    ensures stops { ForSome (F.told f.old).files (λ from. ForEachToBeChanged part place piece.now map.now from (λ state layout unlinked number object node entry signature n. Passes (F.told f.old) (F.told f.new) (Finds (rest state)))) }
+    ensures keeps { KeepsStanding files.old files.new }
+    ensures is_open { OnOk result (ForSome (F.told f.new).files (IsOpen files.new)) }
+    ensures damaged { IfDamaged result (IsFailedCheck files.new (F.told f.new)) }
+    ensures untold { ForSome (F.told f.old).files (λ from. ForEachToBeChanged part place piece.now map.now from (λ state layout unlinked number object node entry signature n. IfDamaged result (λ _. (F.told f.old).files ≡ None))) }
+    ensures silent { (F.told f.old).files ≡ None → (F.told f.new).files ≡ None }
+    ensures later { F.faults f.old ≤ F.faults f.new }
+    ensures device { IfDevice result (Rises (F.faults f.old) (F.faults f.new)) }
+{
+    write_object(f, files, part, DATA, u64::from(place), false, piece)?;
+    write_object(f, files, part, INDEX, 0, true, map)
+}

@@ -1,0 +1,78 @@
+// A part of an object: found by its name, and used.
+ghost use Rattle.std.specs.Prelude.{◌≡◌, ◌≤◌, ◌<◌, IfOk, IfSome, IsTrue, None, OnOk, length};
+ghost use Rattle.std.specs.Int.{cast_unsigned, w64};
+ghost use Rattle.std.specs.Option.{ForSome};
+ghost use Rattle.blk_image.specs.Told.{Passes, Rises, Stays};
+ghost use Rattle.blk_model.specs.Sizes.{longest_key, part_count, signatures};
+ghost use Rattle.blk_format.specs.Address.{blocks_256, kind_of};
+ghost use Rattle.blk_format.specs.Names.{longest_name};
+ghost use Rattle.blk_io.specs.Faults.{IfDamaged, IfDevice};
+ghost use Rattle.blk_disk.specs.Open.{IsOpen};
+ghost use Rattle.blk_disk.specs.Tables.{stands_among};
+ghost use Rattle.blk_object.specs.FailedChecks.{IsFailedCheck};
+ghost use Rattle.blk_sparse.specs.Parts.{FindsBeforeOrAfter, ForEachListedAt, ForEachOfKey, IsPartFound, IsUsed};
+
+use blk_addr::Addr;
+use blk_chain::find;
+use blk_disk::BlockFiles;
+use blk_entry::node_of;
+use blk_io::{Fault, Folder};
+use blk_lru::touch;
+use blk_ranges::child_name;
+
+// The record of a part of an object with a key and a signature, which is found by its name. The name is made in `room`.
+pub(crate) fn find_part<F: Folder>(
+    f: &mut F,
+    files: &BlockFiles,
+    key: &[u8],
+    signature: i64,
+    number: u32,
+    room: &mut [u8],
+) -> Result<Option<Addr>, Fault>
+    requires some { 1 ≤ length key.now }
+    requires short { length key.now ≤ longest_key }
+    requires signature { cast_unsigned w64 signature < signatures }
+    requires number { number < part_count }
+    requires room { longest_name ≤ length room.old }
+    requires is_open { ForSome (F.told f.old).files (IsOpen files.now) }
+    ensures part { IfOk result (λ part. ForSome (F.told f.old).files (λ from. ForEachOfKey key.now (cast_unsigned w64 signature) from (λ state layout unlinked at object node entry. IsPartFound layout object number part))) }
+    ensures kind { IfOk result (λ part. IfSome part (λ entry. kind_of entry ≡ blocks_256)) }
+    ensures stands { IfOk result (λ part. IfSome part (λ entry. IsTrue (stands_among files.now entry))) }
+    ensures room { length room.new ≡ length room.old }
+    ensures stays { Stays (F.told f.old) (F.told f.new) }
+    ensures damaged { IfDamaged result (IsFailedCheck files.now (F.told f.new)) }
+    ensures untold { ForSome (F.told f.old).files (λ from. ForEachOfKey key.now (cast_unsigned w64 signature) from (λ state layout unlinked at object node entry. IfDamaged result (λ _. (F.told f.old).files ≡ None))) }
+    ensures later { F.faults f.old ≤ F.faults f.new }
+    ensures device { IfDevice result (Rises (F.faults f.old) (F.faults f.new)) }
+{
+    let len = child_name(key, signature, number, room);
+    match find(f, files, &room[..len], true)? {
+        Some(found) => Ok(Some(found.entry)),
+        None => Ok(None),
+    }
+}
+
+// Moves the node that a record names to the front of the use list, and sets its times to a moment.
+pub(crate) fn use_entry<F: Folder>(
+    f: &mut F,
+    files: &BlockFiles,
+    entry: Addr,
+    moment: u64,
+) -> Result<(), Fault>
+    requires kind { kind_of entry ≡ blocks_256 }
+    requires stands { IsTrue (stands_among files.now entry) }
+    requires is_open { ForSome (F.told f.old).files (IsOpen files.now) }
+    ensures used { OnOk result (ForSome (F.told f.old).files (λ from. ForEachListedAt entry from (λ state layout unlinked item. ForSome (F.told f.new).files (IsUsed state layout unlinked item from)))) }
+    ensures stops { ForSome (F.told f.old).files (λ from. ForEachListedAt entry from (λ state layout unlinked item. Passes (F.told f.old) (F.told f.new) (FindsBeforeOrAfter state item))) }
+    ensures is_open { ForSome (F.told f.new).files (IsOpen files.now) }
+    ensures damaged { IfDamaged result (IsFailedCheck files.now (F.told f.new)) }
+    ensures untold { ForSome (F.told f.old).files (λ from. ForEachListedAt entry from (λ state layout unlinked item. IfDamaged result (λ _. (F.told f.old).files ≡ None))) }
+    ensures silent { (F.told f.old).files ≡ None → (F.told f.new).files ≡ None }
+    ensures later { F.faults f.old ≤ F.faults f.new }
+    ensures device { IfDevice result (Rises (F.faults f.old) (F.faults f.new)) }
+{
+    let node = node_of(f, files, entry)?;
+    // That the word is one of an address is known once it is read.
+    let _word = node.word();
+    touch(f, files, node, moment)
+}

@@ -1,0 +1,176 @@
+// The bytes of an object up to the first that is not present, read from its parts; nothing is changed.
+ghost use Rattle.std.specs.Prelude.{◌≡◌, ◌≤◌, ◌<◌, ◌+◌, ℕ, IfOk, IsTrue, None, length, take};
+ghost use Rattle.std.specs.Int.{cast_unsigned, w64};
+ghost use Rattle.std.specs.Option.{ForSome};
+ghost use Rattle.blk_image.specs.Told.{Rises, Stays};
+ghost use Rattle.blk_model.specs.Sizes.{largest_offset, longest_key, part_count, part_size, signatures};
+ghost use Rattle.blk_model.specs.Sparse.{sparse_bytes};
+ghost use Rattle.blk_format.specs.Address.{blocks_256, kind_of};
+ghost use Rattle.blk_format.specs.Names.{longest_name};
+ghost use Rattle.blk_io.specs.Faults.{IfDamaged, IfDevice};
+ghost use Rattle.blk_disk.specs.Open.{IsOpen};
+ghost use Rattle.blk_disk.specs.Tables.{Agrees, stands_among};
+ghost use Rattle.blk_object.specs.FailedChecks.{IsFailedCheck};
+ghost use Rattle.blk_sparse.specs.Changing.{LoadsAsPart};
+ghost use Rattle.blk_sparse.specs.Parts.{ForEachOfKey};
+ghost use Rattle.blk_sparse.specs.Reading.{ForEachPartRead, part_bytes};
+ghost use Rattle.blk_sparse.specs.SparseObjects.{ForEachKeptParent};
+
+use crate::changing::read_map;
+use crate::children::{Parent, read_key};
+use crate::parts::find_part;
+use blk_addr::Addr;
+use blk_disk::BlockFiles;
+use blk_io::{Fault, Folder};
+use blk_ranges::{LONGEST_KEY, PART_SIZE, child_of};
+use blk_stream::read;
+
+// The stream of a part that has its data.
+const DATA: u8 = 1;
+
+/// Reads the bytes of an object from an offset on up to the first that is not present, at most as many as `out` has. How
+/// many were read is given.
+///
+/// Nothing is changed, and no part is used. The key is read from the parent's record into the front of `name`, and the
+/// names of the parts are made behind the longest key.
+pub fn read_present<F: Folder>(
+    f: &mut F,
+    files: &BlockFiles,
+    parent: &Parent,
+    name: &mut [u8],
+    offset: u64,
+    out: &mut [u8],
+) -> Result<usize, Fault>
+    requires kind { kind_of parent.now.entry ≡ blocks_256 }
+    requires stands { IsTrue (stands_among files.now parent.now.entry) }
+    requires signature { cast_unsigned w64 parent.now.signature < signatures }
+    requires name { longest_key + longest_name ≤ length name.old }
+    requires few { length out.old ≤ part_size }
+    requires inside { offset + length out.old ≤ largest_offset }
+    requires is_open { ForSome (F.told f.old).files (IsOpen files.now) }
+
+    // They are those of each object that a kept state has so.
+    ensures bytes { IfOk result (λ n. ForSome (F.told f.old).files (λ from. ForEachKeptParent parent.now.node parent.now.entry (cast_unsigned w64 parent.now.signature) from (λ state layout unlinked number object. take n out.new ≡ sparse_bytes object offset (length out.old)))) }
+    ensures within { IfOk result (λ n. n ≤ length out.old) }
+    ensures long { length out.new ≡ length out.old }
+
+    ensures stays { Stays (F.told f.old) (F.told f.new) }
+    ensures name { length name.new ≡ length name.old }
+
+    // A damage is a check that fails on what is read here; nothing is written after it.
+    ensures damaged { IfDamaged result (IsFailedCheck files.now (F.told f.new)) }
+
+    // A folder that tells its files, with such an object, gives no damage.
+    ensures untold { ForSome (F.told f.old).files (λ from. ForEachKeptParent parent.now.node parent.now.entry (cast_unsigned w64 parent.now.signature) from (λ state layout unlinked number object. IfDamaged result (λ _. (F.told f.old).files ≡ None))) }
+
+    ensures later { F.faults f.old ≤ F.faults f.new }
+    ensures device { IfDevice result (Rises (F.faults f.old) (F.faults f.new)) }
+{
+    let len = read_key(f, files, parent.entry, name)?;
+    let (key, room) = name.split_at_mut(LONGEST_KEY as usize);
+    bytes_covered(f, files, &key[..len], parent.signature, room, offset, out)
+}
+
+// Reads the bytes of an object with a key.
+fn bytes_covered<F: Folder>(
+    f: &mut F,
+    files: &BlockFiles,
+    key: &[u8],
+    signature: i64,
+    room: &mut [u8],
+    offset: u64,
+    out: &mut [u8],
+) -> Result<usize, Fault>
+    requires some { 1 ≤ length key.now }
+    requires short { length key.now ≤ longest_key }
+    requires signature { cast_unsigned w64 signature < signatures }
+    requires room { longest_name ≤ length room.old }
+    requires few { length out.old ≤ part_size }
+    requires inside { offset + length out.old ≤ largest_offset }
+    requires is_open { ForSome (F.told f.old).files (IsOpen files.now) }
+    ensures bytes { IfOk result (λ n. ForSome (F.told f.old).files (λ from. ForEachOfKey key.now (cast_unsigned w64 signature) from (λ state layout unlinked at object node entry. take n out.new ≡ sparse_bytes object offset (length out.old)))) }
+    ensures within { IfOk result (λ n. n ≤ length out.old) }
+    ensures long { length out.new ≡ length out.old }
+    ensures room { length room.new ≡ length room.old }
+    ensures stays { Stays (F.told f.old) (F.told f.new) }
+    ensures damaged { IfDamaged result (IsFailedCheck files.now (F.told f.new)) }
+    ensures untold { ForSome (F.told f.old).files (λ from. ForEachOfKey key.now (cast_unsigned w64 signature) from (λ state layout unlinked at object node entry. IfDamaged result (λ _. (F.told f.old).files ≡ None))) }
+    ensures later { F.faults f.old ≤ F.faults f.new }
+    ensures device { IfDevice result (Rises (F.faults f.old) (F.faults f.new)) }
+{
+    if out.is_empty() {
+        return Ok(0);
+    }
+    let (first, place) = child_of(offset);
+    let cut = ((PART_SIZE - place) as usize).min(out.len());
+    let (front, behind) = out.split_at_mut(cut);
+    let len = bytes_of_part(f, files, key, signature, first, room, place, front)?;
+    if len < cut || behind.is_empty() {
+        return Ok(len);
+    }
+    let more = bytes_of_part(f, files, key, signature, first + 1, room, 0, behind)?;
+    Ok(len + more)
+}
+
+// Reads the bytes of a part of an object from a place on, up to the first that is not present.
+fn bytes_of_part<F: Folder>(
+    f: &mut F,
+    files: &BlockFiles,
+    key: &[u8],
+    signature: i64,
+    number: u32,
+    room: &mut [u8],
+    place: u32,
+    out: &mut [u8],
+) -> Result<usize, Fault>
+    requires some { 1 ≤ length key.now }
+    requires short { length key.now ≤ longest_key }
+    requires signature { cast_unsigned w64 signature < signatures }
+    requires number { number < part_count }
+    requires room { longest_name ≤ length room.old }
+    requires inside { place + length out.old ≤ part_size }
+    requires is_open { ForSome (F.told f.old).files (IsOpen files.now) }
+    ensures bytes { IfOk result (λ n. ForSome (F.told f.old).files (λ from. ForEachOfKey key.now (cast_unsigned w64 signature) from (λ state layout unlinked at object node entry. take n out.new ≡ part_bytes object number place (length out.old)))) }
+    ensures within { IfOk result (λ n. n ≤ length out.old) }
+    ensures long { length out.new ≡ length out.old }
+    ensures room { length room.new ≡ length room.old }
+    ensures stays { Stays (F.told f.old) (F.told f.new) }
+    ensures damaged { IfDamaged result (IsFailedCheck files.now (F.told f.new)) }
+    ensures untold { ForSome (F.told f.old).files (λ from. ForEachOfKey key.now (cast_unsigned w64 signature) from (λ state layout unlinked at object node entry. IfDamaged result (λ _. (F.told f.old).files ≡ None))) }
+    ensures later { F.faults f.old ≤ F.faults f.new }
+    ensures device { IfDevice result (Rises (F.faults f.old) (F.faults f.new)) }
+{
+    match find_part(f, files, key, signature, number, room)? {
+        Some(part) => bytes_there(f, files, part, place, out),
+        None => Ok(0),
+    }
+}
+
+// Reads the bytes of a part that there is.
+fn bytes_there<F: Folder>(
+    f: &mut F,
+    files: &BlockFiles,
+    part: Addr,
+    place: u32,
+    out: &mut [u8],
+) -> Result<usize, Fault>
+    requires kind { kind_of part ≡ blocks_256 }
+    requires stands { IsTrue (stands_among files.now part) }
+    requires inside { place + length out.old ≤ part_size }
+    ensures bytes { IfOk result (λ n. ForSome (F.told f.old).files (λ from. ForEachPartRead part from (λ object number. take n out.new ≡ part_bytes object number place (length out.old)))) }
+    ensures within { IfOk result (λ n. n ≤ length out.old) }
+    ensures long { length out.new ≡ length out.old }
+    ensures stays { Stays (F.told f.old) (F.told f.new) }
+    ensures damaged { IfDamaged result (IsFailedCheck files.now (F.told f.new)) }
+    ensures untold { ForSome (F.told f.old).files (Agrees files.now) → ForSome (F.told f.old).files (LoadsAsPart part) → IfDamaged result (λ _. (F.told f.old).files ≡ None) }
+    ensures later { F.faults f.old ≤ F.faults f.new }
+    ensures device { IfDevice result (Rises (F.faults f.old) (F.faults f.new)) }
+{
+    let map = read_map(f, files, part)?;
+    let (start, len) = map.present_run(place, place + out.len() as u32);
+    if start != place {
+        return Ok(0);
+    }
+    let piece = &mut out[..len as usize];
+    read(f, files, part, DATA, u64::from(place), piece)
+}

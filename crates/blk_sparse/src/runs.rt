@@ -1,0 +1,192 @@
+// The bytes of an object that are present, read from its parts; nothing is changed.
+ghost use Rattle.std.specs.Prelude.{◌≡◌, ◌≤◌, ◌<◌, ◌+◌, IfOk, IsTrue, None, length, take};
+ghost use Rattle.std.specs.Int.{cast_unsigned, w64};
+ghost use Rattle.std.specs.Option.{ForSome};
+ghost use Rattle.blk_image.specs.Told.{Rises, Stays};
+ghost use Rattle.blk_model.specs.Sizes.{largest_offset, longest_key, part_count, part_size, signatures};
+ghost use Rattle.blk_model.specs.Sparse.{present_run, sparse_bytes};
+ghost use Rattle.blk_format.specs.Address.{blocks_256, kind_of};
+ghost use Rattle.blk_format.specs.Names.{longest_name};
+ghost use Rattle.blk_io.specs.Faults.{IfDamaged, IfDevice};
+ghost use Rattle.blk_disk.specs.Open.{IsOpen};
+ghost use Rattle.blk_disk.specs.Tables.{stands_among};
+ghost use Rattle.blk_object.specs.FailedChecks.{IsFailedCheck};
+ghost use Rattle.blk_sparse.specs.Parts.{ForEachOfKey};
+ghost use Rattle.blk_sparse.specs.Reading.{joined_runs, part_run};
+ghost use Rattle.blk_sparse.specs.SparseObjects.{ForEachKeptParent};
+
+use crate::changing::read_map;
+use crate::children::{Parent, read_key};
+use crate::parts::find_part;
+use blk_disk::BlockFiles;
+use blk_io::{Fault, Folder};
+use blk_ranges::{LONGEST_KEY, PART_SIZE, child_of};
+
+/// A run of bytes: its place, and how many they are.
+#[derive(Clone, Copy, Debug, PartialEq, Eq)]
+pub struct Run {
+    pub start: u64,
+    pub length: u64,
+}
+
+/// The first run of present bytes of an object among `count` from an offset on; the offset and 0 where none is.
+///
+/// Nothing is changed, and no part is used. The key is read from the parent's record into the front of `name`, and the
+/// names of the parts are made behind the longest key. For each covered part there are the calls of `find`, and where
+/// there is the part two more.
+pub fn find_run<F: Folder>(
+    f: &mut F,
+    files: &BlockFiles,
+    parent: &Parent,
+    name: &mut [u8],
+    offset: u64,
+    count: u64,
+) -> Result<Run, Fault>
+    requires kind { kind_of parent.now.entry ≡ blocks_256 }
+    requires stands { IsTrue (stands_among files.now parent.now.entry) }
+    requires signature { cast_unsigned w64 parent.now.signature < signatures }
+    requires name { longest_key + longest_name ≤ length name.old }
+    requires few { count ≤ part_size }
+    requires inside { offset + count ≤ largest_offset }
+    requires is_open { ForSome (F.told f.old).files (IsOpen files.now) }
+
+    // It is that of each object that a kept state has so.
+    ensures run { IfOk result (λ run. ForSome (F.told f.old).files (λ from. ForEachKeptParent parent.now.node parent.now.entry (cast_unsigned w64 parent.now.signature) from (λ state layout unlinked number object. (run.start, run.length) ≡ present_run object offset count))) }
+
+    ensures stays { Stays (F.told f.old) (F.told f.new) }
+    ensures name { length name.new ≡ length name.old }
+
+    // A damage is a check that fails on what is read here; nothing is written after it.
+    ensures damaged { IfDamaged result (IsFailedCheck files.now (F.told f.new)) }
+
+    // A folder that tells its files, with such an object, gives no damage.
+    ensures untold { ForSome (F.told f.old).files (λ from. ForEachKeptParent parent.now.node parent.now.entry (cast_unsigned w64 parent.now.signature) from (λ state layout unlinked number object. IfDamaged result (λ _. (F.told f.old).files ≡ None))) }
+
+    ensures later { F.faults f.old ≤ F.faults f.new }
+    ensures device { IfDevice result (Rises (F.faults f.old) (F.faults f.new)) }
+{
+    let len = read_key(f, files, parent.entry, name)?;
+    let (key, room) = name.split_at_mut(LONGEST_KEY as usize);
+    run_covered(f, files, &key[..len], parent.signature, room, offset, count)
+}
+
+// The first run of an object with a key.
+fn run_covered<F: Folder>(
+    f: &mut F,
+    files: &BlockFiles,
+    key: &[u8],
+    signature: i64,
+    room: &mut [u8],
+    offset: u64,
+    count: u64,
+) -> Result<Run, Fault>
+    requires some { 1 ≤ length key.now }
+    requires short { length key.now ≤ longest_key }
+    requires signature { cast_unsigned w64 signature < signatures }
+    requires room { longest_name ≤ length room.old }
+    requires few { count ≤ part_size }
+    requires inside { offset + count ≤ largest_offset }
+    requires is_open { ForSome (F.told f.old).files (IsOpen files.now) }
+    ensures run { IfOk result (λ run. ForSome (F.told f.old).files (λ from. ForEachOfKey key.now (cast_unsigned w64 signature) from (λ state layout unlinked number object node entry. (run.start, run.length) ≡ present_run object offset count))) }
+    ensures room { length room.new ≡ length room.old }
+    ensures stays { Stays (F.told f.old) (F.told f.new) }
+    ensures damaged { IfDamaged result (IsFailedCheck files.now (F.told f.new)) }
+    ensures untold { ForSome (F.told f.old).files (λ from. ForEachOfKey key.now (cast_unsigned w64 signature) from (λ state layout unlinked number object node entry. IfDamaged result (λ _. (F.told f.old).files ≡ None))) }
+    ensures later { F.faults f.old ≤ F.faults f.new }
+    ensures device { IfDevice result (Rises (F.faults f.old) (F.faults f.new)) }
+{
+    if count == 0 {
+        return Ok(Run {
+            start: offset,
+            length: 0,
+        });
+    }
+    let (first, place) = child_of(offset);
+    let cut = (PART_SIZE - place).min(count as u32);
+    let one = run_of_part(f, files, key, signature, first, room, place, cut)?;
+    let one = Run {
+        start: offset - u64::from(place) + one.start,
+        length: one.length,
+    };
+    if u64::from(cut) == count {
+        return Ok(one);
+    }
+    let behind = count as u32 - cut;
+    let two = run_of_part(f, files, key, signature, first + 1, room, 0, behind)?;
+    let border = offset + u64::from(cut);
+    let two = Run {
+        start: border + two.start,
+        length: two.length,
+    };
+    Ok(joined(offset, border, one, two))
+}
+
+// The first run in two ranges, one behind the other.
+fn joined(asked: u64, border: u64, one: Run, two: Run) -> Run
+    requires one { one.start + one.length ≤ border }
+    requires few { one.length ≤ part_size }
+    requires behind { two.length ≤ part_size }
+    requires inside { border ≤ largest_offset }
+    ensures { (result.start, result.length) ≡ joined_runs asked border (one.start, one.length) (two.start, two.length) }
+{
+    if one.length == 0 {
+        if two.length == 0 {
+            return Run {
+                start: asked,
+                length: 0,
+            };
+        }
+        return two;
+    }
+    if one.start + one.length == border && two.start == border {
+        return Run {
+            start: one.start,
+            length: one.length + two.length,
+        };
+    }
+    one
+}
+
+// The first run of a part of an object among `count` bytes from a place on; the place and 0 where there is none.
+fn run_of_part<F: Folder>(
+    f: &mut F,
+    files: &BlockFiles,
+    key: &[u8],
+    signature: i64,
+    number: u32,
+    room: &mut [u8],
+    place: u32,
+    count: u32,
+) -> Result<Run, Fault>
+    requires some { 1 ≤ length key.now }
+    requires short { length key.now ≤ longest_key }
+    requires signature { cast_unsigned w64 signature < signatures }
+    requires number { number < part_count }
+    requires room { longest_name ≤ length room.old }
+    requires inside { place + count ≤ part_size }
+    requires is_open { ForSome (F.told f.old).files (IsOpen files.now) }
+    ensures run { IfOk result (λ run. ForSome (F.told f.old).files (λ from. ForEachOfKey key.now (cast_unsigned w64 signature) from (λ state layout unlinked at object node entry. (run.start, run.length) ≡ part_run object number place count))) }
+    ensures from { IfOk result (λ run. place ≤ run.start) }
+    ensures within { IfOk result (λ run. run.start + run.length ≤ place + count) }
+    ensures room { length room.new ≡ length room.old }
+    ensures stays { Stays (F.told f.old) (F.told f.new) }
+    ensures damaged { IfDamaged result (IsFailedCheck files.now (F.told f.new)) }
+    ensures untold { ForSome (F.told f.old).files (λ from. ForEachOfKey key.now (cast_unsigned w64 signature) from (λ state layout unlinked at object node entry. IfDamaged result (λ _. (F.told f.old).files ≡ None))) }
+    ensures later { F.faults f.old ≤ F.faults f.new }
+    ensures device { IfDevice result (Rises (F.faults f.old) (F.faults f.new)) }
+{
+    match find_part(f, files, key, signature, number, room)? {
+        Some(part) => {
+            let map = read_map(f, files, part)?;
+            let (start, length) = map.present_run(place, place + count);
+            Ok(Run {
+                start: u64::from(start),
+                length: u64::from(length),
+            })
+        }
+        None => Ok(Run {
+            start: u64::from(place),
+            length: 0,
+        }),
+    }
+}

@@ -1,0 +1,182 @@
+// Bytes are written to an object with parts.
+ghost use Rattle.std.specs.Prelude.{◌≡◌, ◌≤◌, ◌<◌, ◌+◌, [], ◌∷◌, IsTrue, None, OnOk, length};
+ghost use Rattle.std.specs.Int.{cast_unsigned, w64};
+ghost use Rattle.std.specs.Option.{ForSome};
+ghost use Rattle.blk_image.specs.Told.{Passes, Rises};
+ghost use Rattle.blk_model.specs.Holding.{rest};
+ghost use Rattle.blk_model.specs.Sizes.{largest_offset, longest_key, part_count, part_size, signatures};
+ghost use Rattle.blk_model.specs.Sparse.{covered_parts};
+ghost use Rattle.blk_format.specs.Address.{blocks_256, kind_of};
+ghost use Rattle.blk_format.specs.Names.{longest_name};
+ghost use Rattle.blk_io.specs.Faults.{IfDamaged, IfDevice};
+ghost use Rattle.blk_disk.specs.Open.{IsOpen};
+ghost use Rattle.blk_disk.specs.Tables.{stands_among};
+ghost use Rattle.blk_alloc.specs.Extending.{KeepsStanding};
+ghost use Rattle.blk_kept.specs.Changes.{Finds};
+ghost use Rattle.blk_object.specs.FailedChecks.{IsFailedCheck};
+ghost use Rattle.blk_sparse.specs.SparseObjects.{ForEachGrowing, KeepsParentThen, with_bytes, with_bytes_written, with_piece, with_piece_written};
+ghost use Rattle.blk_sparse.specs.Writing.{ForEachGrowingOfKey};
+
+use crate::changing::change_part;
+use crate::children::{Parent, read_key};
+use crate::new_part::make_part;
+use crate::parts::find_part;
+use blk_disk::BlockFiles;
+use blk_io::{Fault, Folder};
+use blk_ranges::{ChildName, LONGEST_KEY, PART_SIZE, child_name, child_of};
+
+// Writes a piece to a part of an object with a key: to the part that there is, or to one that is made.
+pub(crate) fn write_piece<F: Folder>(
+    f: &mut F,
+    files: &mut BlockFiles,
+    parent: &Parent,
+    key: &[u8],
+    room: &mut [u8],
+    number: u32,
+    place: u32,
+    piece: &[u8],
+    moment: u64,
+) -> Result<(), Fault>
+    requires kind { kind_of parent.now.entry ≡ blocks_256 }
+    requires stands { IsTrue (stands_among files.old parent.now.entry) }
+    requires signature { cast_unsigned w64 parent.now.signature < signatures }
+    requires some_key { 1 ≤ length key.now }
+    requires short_key { length key.now ≤ longest_key }
+    requires room { longest_name ≤ length room.old }
+    requires number { number < part_count }
+    requires some { 1 ≤ length piece.now }
+    requires inside { place + length piece.now ≤ part_size }
+    requires is_open { ForSome (F.told f.old).files (IsOpen files.old) }
+
+    // Each state that was kept, with such an object, is kept with the piece written and the part in front, but for the counters.
+    ensures written { OnOk result (ForSome (F.told f.old).files (λ from. ForEachGrowingOfKey (number ∷ []) key.now parent.now.entry (cast_unsigned w64 parent.now.signature) from (λ state layout unlinked at object node. ForSome (F.told f.new).files (KeepsParentThen (with_piece_written state at object number place piece.now) unlinked at (with_piece object number place piece.now) node parent.now.entry (cast_unsigned w64 parent.now.signature) from)))) }
+
+    // At each word what was at rest is found: an object that isn't settled isn't.
+    ensures stops { ForSome (F.told f.old).files (λ from. ForEachGrowingOfKey (number ∷ []) key.now parent.now.entry (cast_unsigned w64 parent.now.signature) from (λ state layout unlinked at object node. Passes (F.told f.old) (F.told f.new) (Finds (rest state)))) }
+
+    ensures room { length room.new ≡ length room.old }
+    ensures keeps { KeepsStanding files.old files.new }
+    ensures is_open { OnOk result (ForSome (F.told f.new).files (IsOpen files.new)) }
+
+    // A damage is a check that fails on what is read here; nothing is written after it.
+    ensures damaged { IfDamaged result (IsFailedCheck files.new (F.told f.new)) }
+
+    // A folder that tells its files, with such an object, gives no damage.
+    ensures untold { ForSome (F.told f.old).files (λ from. ForEachGrowingOfKey (number ∷ []) key.now parent.now.entry (cast_unsigned w64 parent.now.signature) from (λ state layout unlinked at object node. IfDamaged result (λ _. (F.told f.old).files ≡ None))) }
+
+    ensures silent { (F.told f.old).files ≡ None → (F.told f.new).files ≡ None }
+    ensures later { F.faults f.old ≤ F.faults f.new }
+    ensures device { IfDevice result (Rises (F.faults f.old) (F.faults f.new)) }
+{
+    if let Some(part) = find_part(f, files, key, parent.signature, number, room)? {
+        return change_part(f, files, part, place, piece, moment);
+    }
+    let len = child_name(key, parent.signature, number, room);
+    let child = ChildName {
+        key_len: key.len(),
+        signature: parent.signature,
+        part: number,
+    };
+    make_part(
+        f,
+        files,
+        parent.entry,
+        &child,
+        &room[..len],
+        place,
+        piece,
+        moment,
+    )
+}
+
+// Writes bytes to an object with a key from an offset on: to one part, or to two.
+fn write_covered<F: Folder>(
+    f: &mut F,
+    files: &mut BlockFiles,
+    parent: &Parent,
+    key: &[u8],
+    room: &mut [u8],
+    offset: u64,
+    bytes: &[u8],
+    moment: u64,
+) -> Result<(), Fault>
+    requires kind { kind_of parent.now.entry ≡ blocks_256 }
+    requires stands { IsTrue (stands_among files.old parent.now.entry) }
+    requires signature { cast_unsigned w64 parent.now.signature < signatures }
+    requires some_key { 1 ≤ length key.now }
+    requires short_key { length key.now ≤ longest_key }
+    requires room { longest_name ≤ length room.old }
+    requires some { 1 ≤ length bytes.now }
+    requires few { length bytes.now ≤ part_size }
+    requires inside { offset + length bytes.now ≤ largest_offset }
+    requires is_open { ForSome (F.told f.old).files (IsOpen files.old) }
+    ensures written { OnOk result (ForSome (F.told f.old).files (λ from. ForEachGrowingOfKey (covered_parts offset (length bytes.now)) key.now parent.now.entry (cast_unsigned w64 parent.now.signature) from (λ state layout unlinked at object node. ForSome (F.told f.new).files (KeepsParentThen (with_bytes_written state at object offset bytes.now) unlinked at (with_bytes object offset bytes.now) node parent.now.entry (cast_unsigned w64 parent.now.signature) from)))) }
+    ensures stops { ForSome (F.told f.old).files (λ from. ForEachGrowingOfKey (covered_parts offset (length bytes.now)) key.now parent.now.entry (cast_unsigned w64 parent.now.signature) from (λ state layout unlinked at object node. Passes (F.told f.old) (F.told f.new) (Finds (rest state)))) }
+    ensures keeps { KeepsStanding files.old files.new }
+    ensures is_open { OnOk result (ForSome (F.told f.new).files (IsOpen files.new)) }
+    ensures damaged { IfDamaged result (IsFailedCheck files.new (F.told f.new)) }
+    ensures untold { ForSome (F.told f.old).files (λ from. ForEachGrowingOfKey (covered_parts offset (length bytes.now)) key.now parent.now.entry (cast_unsigned w64 parent.now.signature) from (λ state layout unlinked at object node. IfDamaged result (λ _. (F.told f.old).files ≡ None))) }
+    ensures silent { (F.told f.old).files ≡ None → (F.told f.new).files ≡ None }
+    ensures later { F.faults f.old ≤ F.faults f.new }
+    ensures device { IfDevice result (Rises (F.faults f.old) (F.faults f.new)) }
+{
+    let (number, place) = child_of(offset);
+    let left = (PART_SIZE - place) as usize;
+    if bytes.len() <= left {
+        return write_piece(f, files, parent, key, room, number, place, bytes, moment);
+    }
+    let (front, back) = bytes.split_at(left);
+    write_piece(f, files, parent, key, room, number, place, front, moment)?;
+    write_piece(f, files, parent, key, room, number + 1, 0, back, moment)
+}
+
+/// Writes bytes to an object with parts, which isn't settled, from an offset on. Each part that the range covers gets its
+/// piece, in rising number: one that there is is changed, and one that there isn't is made. It is then in front of the
+/// use list. The counters of the index stay, and so does the object's main item. Of no bytes nothing is done.
+///
+/// The key is read from the parent's record into the front of `name`, and the names of the parts are made behind the
+/// longest key.
+pub fn write<F: Folder>(
+    f: &mut F,
+    files: &mut BlockFiles,
+    parent: &Parent,
+    name: &mut [u8],
+    offset: u64,
+    bytes: &[u8],
+    moment: u64,
+) -> Result<(), Fault>
+    requires kind { kind_of parent.now.entry ≡ blocks_256 }
+    requires stands { IsTrue (stands_among files.old parent.now.entry) }
+    requires signature { cast_unsigned w64 parent.now.signature < signatures }
+    requires name { longest_key + longest_name ≤ length name.old }
+    requires few { length bytes.now ≤ part_size }
+    requires inside { offset + length bytes.now ≤ largest_offset }
+    requires is_open { ForSome (F.told f.old).files (IsOpen files.old) }
+
+    // Each state that was kept, with such an object, is kept with the bytes written and the covered parts in front, but for the counters.
+    ensures written { OnOk result (ForSome (F.told f.old).files (λ from. ForEachGrowing (covered_parts offset (length bytes.now)) parent.now.node parent.now.entry (cast_unsigned w64 parent.now.signature) from (λ state layout unlinked number object. ForSome (F.told f.new).files (KeepsParentThen (with_bytes_written state number object offset bytes.now) unlinked number (with_bytes object offset bytes.now) parent.now.node parent.now.entry (cast_unsigned w64 parent.now.signature) from)))) }
+
+    // At each word what was at rest is found: an object that isn't settled isn't.
+    ensures stops { ForSome (F.told f.old).files (λ from. ForEachGrowing (covered_parts offset (length bytes.now)) parent.now.node parent.now.entry (cast_unsigned w64 parent.now.signature) from (λ state layout unlinked number object. Passes (F.told f.old) (F.told f.new) (Finds (rest state)))) }
+
+    // What stood still does.
+    ensures keeps { KeepsStanding files.old files.new }
+    ensures is_open { OnOk result (ForSome (F.told f.new).files (IsOpen files.new)) }
+
+    // A damage is a check that fails on what is read here; nothing is written after it.
+    ensures damaged { IfDamaged result (IsFailedCheck files.new (F.told f.new)) }
+
+    // A folder that tells its files, with such an object, gives no damage.
+    ensures untold { ForSome (F.told f.old).files (λ from. ForEachGrowing (covered_parts offset (length bytes.now)) parent.now.node parent.now.entry (cast_unsigned w64 parent.now.signature) from (λ state layout unlinked number object. IfDamaged result (λ _. (F.told f.old).files ≡ None))) }
+
+    ensures silent { (F.told f.old).files ≡ None → (F.told f.new).files ≡ None }
+    ensures later { F.faults f.old ≤ F.faults f.new }
+    ensures device { IfDevice result (Rises (F.faults f.old) (F.faults f.new)) }
+{
+    if bytes.is_empty() {
+        return Ok(());
+    }
+    let len = read_key(f, files, parent.entry, name)?;
+    let (key, room) = name.split_at_mut(LONGEST_KEY as usize);
+    write_covered(f, files, parent, &key[..len], room, offset, bytes, moment)
+}
