@@ -1,7 +1,8 @@
 -- The bytes of an object that are present among some of one part, or of two.
-use Rattle.std.proofs.Common.{◌≡◌, ℕ, ◌+◌, ◌<◌, ◌≤◌, List, [], ◌++◌, refl, map, length, ap, ap₂, sym, ◌∙◌, arith, Bool, Option}
-use Rattle.std.specs.Prelude.{◌-◌, ◌/◌, ◌%◌, is_some}
+use Rattle.std.proofs.Common.{◌≡◌, ◌≢◌, ℕ, suc, ◌∷◌, take, take_all, length-take, true, false, ◌+◌, ◌<◌, ◌≤◌, List, [], ◌++◌, refl, map, length, ap, ap₂, sym, ◌∙◌, arith, Bool, Option}
+use Rattle.std.specs.Prelude.{◌-◌, ◌==◌, ◌/◌, ◌%◌, is_some}
 use Rattle.std.specs.Option.{option_and_then}
+use Rattle.std.proofs.lemmas.Bool.{eqb-false, eqb-true}
 use Rattle.std.proofs.lemmas.List.{length-map}
 use Rattle.blk_model.specs.Bytes.{numbers_from}
 use Rattle.blk_model.specs.Sparse.{byte_at, byte_in, first_run, present_run, sparse_bytes, up_to_missing}
@@ -118,3 +119,46 @@ both-runs-are object offset count first place cut border s l behind t m one_is t
   where
     put : (b t q e : ℕ) → t ≡ q → b ≡ e → b + t ≡ q + e
     put b t q e x y = omega (arith, x, y)
+
+-- ---- the bytes as they are read
+
+length-taken : (n : ℕ) (xs : List ℕ) → n ≤ length xs → length (take n xs) ≡ n
+length-taken n xs le = let long = length-take n xs in omega (arith, long, le)
+
+take-past : (xs ys : List ℕ) (m : ℕ) → take (length xs + m) (xs ++ ys) ≡ xs ++ take m ys
+take-past [] ys m = let none : length {A = ℕ} [] + m ≡ m = omega arith in ap (λ (n : ℕ). take n ys) none
+take-past (x ∷ xs) ys m = let more : length (x ∷ xs) + m ≡ suc (length xs + m) = omega arith in ap (λ (n : ℕ). take n (x ∷ xs ++ ys)) more ∙ ap (λ (l : List ℕ). x ∷ l) (take-past xs ys m)
+
+module _ (object : Object) (offset count first place cut len : ℕ) (out : List ℕ) (is : take len out ≡ part_bytes object first place cut) (first_is : first ≡ offset / 1048576) (place_is : place ≡ offset % 1048576) (fits : place + cut ≤ 1048576) (long : len ≤ length out) where
+  there : take len out ≡ part_bytes object (offset / 1048576) (offset % 1048576) cut
+  there = is ∙ ap₂ (λ (n p : ℕ). part_bytes object n p cut) first_is place_is
+
+  so-many : length (part_bytes object (offset / 1048576) (offset % 1048576) cut) ≡ len
+  so-many = sym (ap (λ (l : List ℕ). length l) there) ∙ length-taken len out long
+
+  inside : offset % 1048576 + cut ≤ 1048576
+  inside = omega (arith, place_is, fits)
+
+  pub bytes-all : cut ≡ count → take len out ≡ sparse_bytes object offset count
+  bytes-all all = there ∙ sym (sparse-first object offset cut inside) ∙ ap (sparse_bytes object offset) all
+
+  pub bytes-less : len < cut → cut ≤ count → count ≤ 1048576 → (cut ≢ count → place + cut ≡ 1048576) → take len out ≡ sparse_bytes object offset count
+  bytes-less less within few ends = by (cut == count) refl where
+    by : (b : Bool) → (cut == count) ≡ b → take len out ≡ sparse_bytes object offset count
+    by true e = bytes-all (eqb-true cut count e)
+    by false e =
+        let full : place + cut ≡ 1048576 = ends (eqb-false cut count e) in
+        let whole : offset % 1048576 + cut ≡ 1048576 = omega (arith, place_is, full) in
+        let both : cut + (count - cut) ≡ count = omega (arith, within) in
+        let many = so-many in
+        there ∙ sym (sparse-less object offset cut inside (count - cut) whole (omega (arith, few)) (omega (arith, many, less))) ∙ ap (sparse_bytes object offset) both
+
+  pub bytes-both : (m behind : ℕ) (ys : List ℕ) → take m ys ≡ part_bytes object (first + 1) 0 behind → len ≡ cut → length out ≡ cut → place + cut ≡ 1048576 → behind ≤ 1048576 → cut + behind ≡ count → take (len + m) (out ++ ys) ≡ sparse_bytes object offset count
+  bytes-both m behind ys two len_is out_is full few all =
+      let whole : offset % 1048576 + cut ≡ 1048576 = omega (arith, place_is, full) in
+      let many = so-many in
+      let same : len + m ≡ length out + m = omega (arith, len_is, out_is) in
+      ap (λ (n : ℕ). take n (out ++ ys)) same ∙ take-past out ys m
+      ∙ ap₂ (λ (a b : List ℕ). a ++ b) (sym (take_all len out (omega (arith, len_is, out_is))) ∙ there) (two ∙ ap (λ (n : ℕ). part_bytes object (n + 1) 0 behind) first_is)
+      ∙ sym (sparse-whole object offset cut inside behind whole few (omega (arith, many, len_is)))
+      ∙ ap (sparse_bytes object offset) all

@@ -52,3 +52,12 @@ returns-clause-untold g c agrees lies =
     let at = ap (λ (t : Told). t.files) (sym c.in_ok-map.ensures.stays) ∙ there in
     let l = lies image at in
     record { agrees = agrees image at; checks = loaded-checks image c.args.part l.loaded (g.met.F.Folder.are_bytes c.args.f.now image at) l.loads; has = record { streams = l.loaded.streams; is = streams-there image c.args.part l.loaded l.loads } }))
+
+pub slice_bounds-piece-end-2 : goal.slice_bounds-piece-end-2
+slice_bounds-piece-end-2 g c =
+    let inside = (run-inside (presence_of c.in_ok-map.map) c.args.place (length c.args.out.now)).1 in
+    let start = ap (λ (x : ℕ × ℕ). x.0) c.present_run-start.ensures in
+    let many = ap (λ (x : ℕ × ℕ). x.1) c.present_run-start.ensures in
+    let once = c.if-start-place.false in
+    let long = length-take c.present_run-start.result.1 c.args.out.now in
+    omega (arith, inside, start, many, once, long)
