@@ -38,7 +38,6 @@ use Rattle.blk_object.proofs.WrittenObjects as objects
 use Rattle.blk_object.proofs.WrittenItems as items
 use Rattle.blk_object.proofs.WrittenItems.{MayBecome}
 use Rattle.blk_object.proofs.WrittenRoles.{stream-was}
-
 use Rattle.blk_object.proofs.WrittenStages.{IsChangedTo, after-streams, stage-finds, stages-end}
 
 -- a stream that was written is read again

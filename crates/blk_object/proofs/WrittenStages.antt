@@ -97,9 +97,9 @@ module _ (state after : State) (layout : Layout) (node : ℕ) (was : Loaded) (i 
 
     pub naming-finds : (image : Image) → NamesShown was.contents i from image → Finds (rest state) image
     naming-finds image n = m.finds (touched_of was.contents 0) unlinked from image k
-      (items.only state layout unlinked from k node was m.lies files stands_files i few 0 (inl refl) (none-inside (size_word from was.contents i)) image (nothing-at 0 was.contents i from image n.names.same) n.shown (λ file. n.names.same.files file refl))
-      (items.inside-node state layout unlinked from k node was m.lies files stands_files i few 0 (inl refl) (none-inside (size_word from was.contents i)) image (nothing-at 0 was.contents i from image n.names.same) n.shown (λ file. n.names.same.files file refl))
-      (items.name-same state layout unlinked from k node was m.lies files stands_files i few 0 (inl refl) (none-inside (size_word from was.contents i)) image (nothing-at 0 was.contents i from image n.names.same) n.shown (λ file. n.names.same.files file refl))
+        (items.only state layout unlinked from k node was m.lies files stands_files i few 0 (inl refl) (none-inside (size_word from was.contents i)) image (nothing-at 0 was.contents i from image n.names.same) n.shown (λ file. n.names.same.files file refl))
+        (items.inside-node state layout unlinked from k node was m.lies files stands_files i few 0 (inl refl) (none-inside (size_word from was.contents i)) image (nothing-at 0 was.contents i from image n.names.same) n.shown (λ file. n.names.same.files file refl))
+        (items.name-same state layout unlinked from k node was m.lies files stands_files i few 0 (inl refl) (none-inside (size_word from was.contents i)) image (nothing-at 0 was.contents i from image n.names.same) n.shown (λ file. n.names.same.files file refl))
 
     module _ (size w : ℕ) (U : List ℕ) (are : unlinked ≡ nonzero (w ∷ []) ++ U) (free : (c : Claim) → has_claim (claims_of w) c ≡ true → layout.owner c ≡ None) (st : w ≢ 0 → stands_in from w ≡ true)
         (holds : data_at from w 0 size ≡ new) (long : HasPlaceLength w size from) (fits : may_keep kept size w ≡ true) (named : Image) (names : NamesPlace was.contents i size w from named) where
@@ -267,7 +267,7 @@ module _ (state after : State) (layout : Layout) (node : ℕ) (was : Loaded) (i 
         is = record {
           others = named-is.others;
           kept = subst (λ (x : Image). KeepsUncounted after (layout_after layout node named-now) unlinked x) (sym none.1)
-            (subst (λ (ws : List ℕ). KeepsUncounted after (layout_after layout node named-now) (ws ++ unlinked) named) (nonzero-none old none.0) named-is.kept);
+              (subst (λ (ws : List ℕ). KeepsUncounted after (layout_after layout node named-now) (ws ++ unlinked) named) (nonzero-none old none.0) named-is.kept);
         };
         counters = subst (SameCounters from) (sym none.1) named-counters;
         session = subst (SameSession from) (sym none.1) named-session;
