@@ -104,6 +104,27 @@ run "$room/faulty" session
 is 'a line that is too long, and one that is not' $'1 fault 1 7 TooLong\ntotal 1 1\nrefused 13 BadKey\ntotal 1 1' "$status $said"
 : >"$room/input"
 
+# The input is taken 4096 bytes at a time: where the first reply can't be printed the rest of it is left.
+mkdir "$room/pieces"
+printf 'total\n%.0s' $(seq 3000) >"$room/lines"
+{
+    "$program" "$room/pieces" session >/dev/full 2>"$room/complained"
+    status=$?
+    left=$(wc -c)
+} <"$room/lines"
+is 'a first reply that is not printed leaves all but 4096 bytes of the input' '5 13904' "$status $left"
+
+# A reply is there before the next line is given.
+coproc talk { "$program" "$room/pieces" session 2>"$room/complained"; }
+echo 'create 0 a' >&"${talk[1]}"
+read -r -t 20 first <&"${talk[0]}"
+echo 'total' >&"${talk[1]}"
+read -r -t 20 second <&"${talk[0]}"
+is 'each reply comes before the next line' 'ok, total 1 1' "$first, $second"
+eval "exec ${talk[1]}>&-"
+wait "$talk_PID"
+is 'and the session ends with its input' 0 $?
+
 # The refusals, each with the name 0 bound to a.
 mkdir "$room/refusals"
 session 'the refusals' "$room/refusals" 1 'ok
