@@ -1,11 +1,15 @@
 -- The room that a Create has once all that it evicts is out.
-use Rattle.std.proofs.Common.{◌≡◌, ◌⊎◌, inl, inr, ⊎_elim, ℕ, suc, ◌+◌, ◌-◌, ◌≤◌, Bool, true, false, not, ◌&&◌, ◌||◌, cond, List, [], ◌∷◌, ◌++◌, length, Some, None, Option, refl, sym, ap, ap₂, subst, ◌∙◌, arith, get_or, map, reverse, append-nil, append_assoc}
+use Rattle.std.proofs.Common.{◌≡◌, ◌⊎◌, inl, inr, ⊎_elim, ℕ, suc, ◌+◌, ◌-◌, ◌≤◌, Bool, true, false, not, ◌&&◌, ◌||◌, cond, List, [], ◌∷◌, ◌++◌, length, Some, None, Option, refl, sym, ap, ap₂, subst, ◌∙◌, arith, get_or, map, reverse, append-nil, append_assoc, T}
 use Rattle.std.specs.Prelude.{IfSome, is_some, nat_le}
 use Rattle.std.specs.Bool.{nat_lt, ◌==◌}
 use Rattle.std.specs.List.{filter, list_any}
 use Rattle.std.specs.Option.{option_and_then, option_map_or}
 use Rattle.std.specs.Ordering.{nat_cmp}
-use Rattle.std.specs.FinMap.{find}
+use Rattle.std.specs.Bool.{passes}
+use Rattle.std.specs.Cmp.{nat_cmp_total}
+use Rattle.std.specs.FinMap.{find, is_sorted, nat_cmp-IsAntisymmetric}
+use Rattle.std.specs.FinMap.Entries.{find-where_key, is_sorted-where_key, same_entries}
+use Rattle.std.specs.List.{AllByRecursion}
 use Rattle.std.specs.Str.{bytes_eq}
 use Rattle.std.proofs.lemmas.Bool.{and_from, and_parts, and_right, cases_Bool, eq-eqb, or_left, or_parts, or_right}
 use Rattle.std.proofs.lemmas.Bool.Decides.{nat_tests}
@@ -16,8 +20,8 @@ use Rattle.blk_model.specs.Effects.{created, effect}
 use Rattle.blk_model.specs.Refusals.{evicted, evicted_for, is_full, refusals, refused, room_for}
 use Rattle.blk_model.specs.Request.{to_create}
 use Rattle.blk_model.specs.Room.{Group, Room, full, after, whole, single, count_of, evicted_until, fits, groups_from_back, is_out, is_pinned, items, left_of, low, parts_among, pinned, pinned_from, pinned_of, room, shortest, total, total_of, without}
-use Rattle.blk_model.proofs.Evicted.{groups_are_loose, kept_part_at, kept_parts, named_stays}
-use Rattle.blk_model.proofs.Same.{bytes_eq_self, one_item}
+use Rattle.blk_model.proofs.Evicted.{IsLoose, groups_are_loose, kept_part_at, kept_parts, named_stays}
+use Rattle.blk_model.proofs.Same.{bytes_eq_self, one_item, same_bytes}
 use Rattle.blk_model.proofs.Slots.{first_with_found, owners-has}
 use Rattle.blk_model.proofs.States.{has_main, main_owner}
 use Rattle.blk_model.proofs.Steps.{none_comes}
@@ -78,6 +82,24 @@ goes stays (part key n ∷ before) item there free = ⊎_elim
     (cases_Bool (same_item item (part key n))))
     (cases_Bool (stays (part key n)))
 
+either-not : (a b : Bool) → (a ≡ true → ⊥) → b ≡ false → (a || b) ≡ false
+either-not true b never e = absurd (never refl)
+either-not false b never e = e
+
+-- a part that need not go is in none of the groups, where its main item need not
+pub loose-part : (stays : Item → Bool) (groups : List Group) (key : List ℕ) (n : ℕ) → AllByRecursion (IsLoose stays) groups → stays (part key n) ≡ true → stays (main key) ≡ true → is_out groups (part key n) ≡ false
+loose-part stays [] key n all held main_held = refl
+loose-part stays (whole other parts ∷ groups) key n all held main_held =
+    either-not (bytes_eq other key) (is_out groups (part key n)) (λ same. clash (sym main_held ∙ ap (λ (k : List ℕ). stays (main k)) (sym (same_bytes other key same)) ∙ all.0)) (loose-part stays groups key n all.1 held main_held)
+loose-part stays (single other m ∷ groups) key n all held main_held =
+    either-not (same_item (part other m) (part key n)) (is_out groups (part key n)) (λ same. clash (sym held ∙ ap stays (sym (one_item (part other m) (part key n) same)) ∙ all.0)) (loose-part stays groups key n all.1 held main_held)
+
+alike : (a b : Bool) (o : Option PartValue) → o ≡ None → cond a o None ≡ cond b o None
+alike true true o e = refl
+alike true false o e = e
+alike false true o e = sym e
+alike false false o e = refl
+
 -- groups go until there is enough, or all go
 shortest-ends : (enough : List Group → Bool) (done groups : List Group) → (enough (shortest enough done groups) ≡ true) ⊎ (shortest enough done groups ≡ done ++ groups)
 shortest-ends enough done [] = inr (sym (append-nil done))
@@ -90,20 +112,6 @@ shortest-ends enough done (group ∷ groups) = ⊎_elim
     (cases_Bool (enough done))
 
 -- ---- what is left once all is out that isn't pinned
-
-tied : (n : ℕ) → (nat_lt n n ≡ false) × ((n == n) ≡ true)
-tied n = (grind (arith, nat_tests), eq-eqb n n refl)
-
-none-found : (parts : List (ℕ × PartValue)) → ((m : ℕ) → find nat_cmp m parts ≡ None) → parts ≡ []
-none-found [] none = refl
-none-found (p ∷ parts) none =
-    let t = tied p.0 in
-    let here : find nat_cmp p.0 (p ∷ parts) ≡ Some p.1 = rw (t.0, t.1) refl in
-    absurd (let c : ◌≡◌ {A = Option PartValue} None (Some p.1) = sym (none p.0) ∙ here in cc)
-
-none-covered : (key : List ℕ) (parts : List (ℕ × PartValue)) → filter (λ (p : ℕ × PartValue). list_any (same_item (part key p.0)) []) parts ≡ []
-none-covered key [] = refl
-none-covered key (p ∷ parts) = none-covered key parts
 
 all-kept : (parts : List (ℕ × PartValue)) → filter (λ (p : ℕ × PartValue). true) parts ≡ parts
 all-kept [] = refl
@@ -142,61 +150,74 @@ decided none over all gone = cond none (after []) (cond over full (cond all (aft
 times-back : (item : Item) (list : List Item) → times item (reverse list) ≡ times item list
 times-back item list = sum_by-IsPermutation (λ i. cond (same_item item i) 1 0) list (reverse list) (IsPermutation-reverse list)
 
-module _ (state : State) (valid : IsValidState state) where
+module _ (state : State) (valid : IsValidState state) (covered : List Item) where
   -- all groups that could go
   abbrev all : List Group
-  all = groups_from_back (is_pinned state []) (reverse state.uses)
+  all = groups_from_back (is_pinned state covered) (reverse state.uses)
 
-  out-item : (n : ℕ) (o : Object) (item : Item) → object_at state n ≡ Some o → has_item o item ≡ true → is_pinned state [] item ≡ false → is_out all item ≡ true
+  out-item : (n : ℕ) (o : Object) (item : Item) → object_at state n ≡ Some o → has_item o item ≡ true → is_pinned state covered item ≡ false → is_out all item ≡ true
   out-item n o item here has free =
       let one = owners-has item n state.objects (ap (slot_has_item item) here ∙ has) in
       let listed = valid.listed item in
       let back = times-back item state.uses in
-      goes (is_pinned state []) (reverse state.uses) item (omega (arith, one, listed, back)) free
+      goes (is_pinned state covered) (reverse state.uses) item (omega (arith, one, listed, back)) free
 
-  parts-gone : (n : ℕ) (o : Object) → object_at state n ≡ Some o → o.live ≡ true → kept_parts all o ≡ []
-  parts-gone n o here alive = none-found (kept_parts all o) (λ m. kept_part_at all o m ∙ each m (part_at o m) refl) where
-    each : (m : ℕ) (v : Option PartValue) → part_at o m ≡ v → cond (not (is_out all (part o.key m))) (part_at o m) None ≡ None
-    each m None e = by (is_out all (part o.key m)) where
-      by : (b : Bool) → cond (not b) (part_at o m) None ≡ None
-      by true = refl
-      by false = e
-    each m (Some v) e =
-        ap (λ (b : Bool). cond (not b) (part_at o m) None)
-        (out-item n o (part o.key m) here (and_from (o.live && bytes_eq o.key o.key) (is_some (part_at o m)) (and_from o.live (bytes_eq o.key o.key) alive (bytes_eq_self o.key)) (ap is_some e)) refl)
+  -- what is covered of the parts of an object
+  abbrev pinned_parts : Object → List (ℕ × PartValue)
+  pinned_parts o = filter (λ (p : ℕ × PartValue). list_any (same_item (part o.key p.0)) covered) o.parts
+
+  pinned-found : (o : Object) (m : ℕ) → find nat_cmp m (pinned_parts o) ≡ cond (list_any (same_item (part o.key m)) covered) (part_at o m) None
+  pinned-found o m = find-where_key nat_cmp (λ k. list_any (same_item (part o.key k)) covered) m (λ k e. ap (λ j. list_any (same_item (part o.key j)) covered) (sym (nat_cmp-IsAntisymmetric m k e))) o.parts
+
+  -- the main item of an object that a handle names is pinned
+  pub main-pinned : (n : ℕ) (o : Object) → object_at state n ≡ Some o → o.live ≡ true → (named : Bool) → is_named state n ≡ named → is_pinned state covered (main o.key) ≡ named
+  main-pinned n o here alive named held =
+      let one = main_owner state valid n o here alive in
+      let number : live_with state o.key ≡ Some n = first_with_found (main o.key) 0 n state.objects (ap (slot_has_item (main o.key)) here ∙ has_main o alive) (omega (arith, one)) ∙ ap Some (let e : 0 + n ≡ n = omega arith in e) in
+      ap (λ (m : Option ℕ). option_map_or (is_named state) m false) number ∙ held
+
+  -- of one that a handle names the covered parts stay
+  parts-kept : (n : ℕ) (o : Object) → object_at state n ≡ Some o → o.live ≡ true → is_named state n ≡ true → kept_parts all o ≡ pinned_parts o
+  parts-kept n o here alive held =
+      same_entries nat_cmp nat_cmp_total (λ x y e. nat_cmp-IsAntisymmetric x y e) (kept_parts all o) (pinned_parts o)
+      (is_sorted-where_key nat_cmp (λ m. not (is_out all (part o.key m))) o.parts sorted) (is_sorted-where_key nat_cmp (λ m. list_any (same_item (part o.key m)) covered) o.parts sorted)
+      (λ m. kept_part_at all o m ∙ each m (part_at o m) refl ∙ sym (pinned-found o m))
+    where
+      sorted : T (is_sorted nat_cmp o.parts)
+      sorted = let is : IsObject o = subst (λ (s : Option Object). IfSome s IsObject) here (valid.objects n) in passes _ is.rising
+
+      each : (m : ℕ) (v : Option PartValue) → part_at o m ≡ v → cond (not (is_out all (part o.key m))) (part_at o m) None ≡ cond (list_any (same_item (part o.key m)) covered) (part_at o m) None
+      each m None e = alike (not (is_out all (part o.key m))) (list_any (same_item (part o.key m)) covered) (part_at o m) e
+      each m (Some v) e = ap (λ (b : Bool). cond b (part_at o m) None) (stays (list_any (same_item (part o.key m)) covered) refl)
+        where
+          stays : (t : Bool) → list_any (same_item (part o.key m)) covered ≡ t → not (is_out all (part o.key m)) ≡ list_any (same_item (part o.key m)) covered
+          stays true held_part = ap not (loose-part (is_pinned state covered) all o.key m (groups_are_loose (is_pinned state covered) (reverse state.uses)) held_part (main-pinned n o here alive true held)) ∙ sym held_part
+          stays false free = ap not (out-item n o (part o.key m) here (and_from (o.live && bytes_eq o.key o.key) (is_some (part_at o m)) (and_from o.live (bytes_eq o.key o.key) alive (bytes_eq_self o.key)) (ap is_some e)) free) ∙ sym free
 
   abbrev LeftAsPinned : ℕ → Option Object → Type 0
-  LeftAsPinned n slot = option_and_then (left_of all) slot ≡ option_and_then (pinned_of state [] n) slot
+  LeftAsPinned n slot = option_and_then (left_of all) slot ≡ option_and_then (pinned_of state covered n) slot
 
   -- of each object what is pinned is left
   module _ (n : ℕ) (o : Object) (here : object_at state n ≡ Some o) where
     abbrev with_parts : List (ℕ × PartValue) → Option Object
     with_parts ps = Some (record o { parts = ps })
 
-    abbrev covered_parts : List (ℕ × PartValue)
-    covered_parts = filter (λ (p : ℕ × PartValue). list_any (same_item (part o.key p.0)) []) o.parts
-
-    covered : covered_parts ≡ []
-    covered = none-covered o.key o.parts
-
     no-parts : o.live ≡ false → o.parts ≡ []
     no-parts dead = let is : IsObject o = subst (λ (s : Option Object). IfSome s IsObject) here (valid.objects n) in is.doomed_has_no_parts dead
 
-    by-marks : (live named : Bool) → o.live ≡ live → is_named state n ≡ named → cond (o.live && is_out all (main o.key)) None (with_parts (kept_parts all o)) ≡ cond (not o.live || is_named state n) (with_parts covered_parts) None
+    by-marks : (live named : Bool) → o.live ≡ live → is_named state n ≡ named → cond (o.live && is_out all (main o.key)) None (with_parts (kept_parts all o)) ≡ cond (not o.live || is_named state n) (with_parts (pinned_parts o)) None
     by-marks true true alive held =
-        ap (λ (b : Bool). cond b None (with_parts (kept_parts all o))) (named_stays state valid [] all (groups_are_loose (is_pinned state []) (reverse state.uses)) n o here held)
-        ∙ ap with_parts (parts-gone n o here alive ∙ sym covered)
-        ∙ ap (λ (b : Bool). cond b (with_parts covered_parts) None) (sym (or_right (not o.live) (is_named state n) held))
+        ap (λ (b : Bool). cond b None (with_parts (kept_parts all o))) (named_stays state valid covered all (groups_are_loose (is_pinned state covered) (reverse state.uses)) n o here held)
+        ∙ ap with_parts (parts-kept n o here alive held)
+        ∙ ap (λ (b : Bool). cond b (with_parts (pinned_parts o)) None) (sym (or_right (not o.live) (is_named state n) held))
     by-marks true false alive loose =
-        let one = main_owner state valid n o here alive in
-        let number : live_with state o.key ≡ Some n = first_with_found (main o.key) 0 n state.objects (ap (slot_has_item (main o.key)) here ∙ has_main o alive) (omega (arith, one)) ∙ ap Some (let e : 0 + n ≡ n = omega arith in e) in
-        let free : is_pinned state [] (main o.key) ≡ false = ap (λ (m : Option ℕ). option_map_or (is_named state) m false) number ∙ loose in
+        let free : is_pinned state covered (main o.key) ≡ false = main-pinned n o here alive false loose in
         ap (λ (b : Bool). cond b None (with_parts (kept_parts all o))) (and_from o.live (is_out all (main o.key)) alive (out-item n o (main o.key) here (has_main o alive) free))
-        ∙ ap₂ (λ (a b : Bool). cond (not a || b) (with_parts covered_parts) None) (sym alive) (sym loose)
+        ∙ ap₂ (λ (a b : Bool). cond (not a || b) (with_parts (pinned_parts o)) None) (sym alive) (sym loose)
     by-marks false named dead held =
         ap (λ (b : Bool). cond (b && is_out all (main o.key)) None (with_parts (kept_parts all o))) dead
-        ∙ ap with_parts (ap (filter (λ (p : ℕ × PartValue). not (is_out all (part o.key p.0)))) (no-parts dead) ∙ sym covered)
-        ∙ ap (λ (b : Bool). cond (not b || is_named state n) (with_parts covered_parts) None) (sym dead)
+        ∙ ap with_parts (ap (filter (λ (p : ℕ × PartValue). not (is_out all (part o.key p.0)))) (no-parts dead) ∙ sym (ap (filter (λ (p : ℕ × PartValue). list_any (same_item (part o.key p.0)) covered)) (no-parts dead)))
+        ∙ ap (λ (b : Bool). cond (not b || is_named state n) (with_parts (pinned_parts o)) None) (sym dead)
 
     object-left : LeftAsPinned n (Some o)
     unfolding left_of pinned_of
@@ -206,14 +227,14 @@ module _ (state : State) (valid : IsValidState state) where
   slot-left n None here = refl
   slot-left n (Some o) here = object-left n o here
 
-  from-left : (start : ℕ) (slots : List (Option Object)) → ((k : ℕ) → LeftAsPinned (start + k) (get_or slots k None)) → map (option_and_then (left_of all)) slots ≡ pinned_from state [] start slots
+  from-left : (start : ℕ) (slots : List (Option Object)) → ((k : ℕ) → LeftAsPinned (start + k) (get_or slots k None)) → map (option_and_then (left_of all)) slots ≡ pinned_from state covered start slots
   from-left start [] each = refl
   from-left start (slot ∷ slots) each =
       ap₂ (λ (o : Option Object) (more : List (Option Object)). o ∷ more)
       (subst (λ n. LeftAsPinned n slot) (let e : start + 0 ≡ start = omega arith in e) (each 0))
       (from-left (start + 1) slots (λ k. subst (λ n. LeftAsPinned n (get_or slots k None)) (let e : start + suc k ≡ start + 1 + k = omega arith in e) (each (suc k))))
 
-  objects-left : (without all state).objects ≡ pinned state []
+  objects-left : (without all state).objects ≡ pinned state covered
   objects-left = objects-without state all ∙ from-left 0 state.objects (λ k. subst (λ n. LeftAsPinned n (get_or state.objects k None)) (let e : k ≡ 0 + k = omega arith in e) (slot-left k (object_at state k) refl))
 
   -- ---- room
@@ -237,42 +258,42 @@ module _ (state : State) (valid : IsValidState state) where
     low-less : low state ≤ state.limits.max_bytes
     low-less = omega arith
 
-    evicted-enough : nat_lt state.limits.max_bytes (total_of (pinned state []) + bytes) || nat_lt state.limits.max_items (count_of (pinned state []) + more) ≡ false → HasEnough (without (evicted_until (fits (low state) bytes more) state []) state)
+    evicted-enough : nat_lt state.limits.max_bytes (total_of (pinned state covered) + bytes) || nat_lt state.limits.max_items (count_of (pinned state covered) + more) ≡ false → HasEnough (without (evicted_until (fits (low state) bytes more) state covered) state)
     unfolding evicted_until
     evicted-enough under = ⊎_elim
         (λ (e : fits (low state) bytes more (without (shortest (λ groups. fits (low state) bytes more (without groups state)) [] all) state) ≡ true).
         fits-facts (low state) (without (shortest (λ groups. fits (low state) bytes more (without groups state)) [] all) state) (limits-without state (shortest (λ groups. fits (low state) bytes more (without groups state)) [] all)) low-less e)
         (λ (e : shortest (λ groups. fits (low state) bytes more (without groups state)) [] all ≡ [] ++ all). subst (λ (groups : List Group). HasEnough (without groups state)) (sym e)
-        (let first : nat_lt state.limits.max_bytes (total_of (pinned state []) + bytes) ≡ false = (or_parts (nat_lt state.limits.max_bytes (total_of (pinned state []) + bytes)) (nat_lt state.limits.max_items (count_of (pinned state []) + more)) under).0 in
-        let second : nat_lt state.limits.max_items (count_of (pinned state []) + more) ≡ false = (or_parts (nat_lt state.limits.max_bytes (total_of (pinned state []) + bytes)) (nat_lt state.limits.max_items (count_of (pinned state []) + more)) under).1 in
-        let one : total_of (pinned state []) + bytes ≤ state.limits.max_bytes = grind (arith, nat_tests) in
-        let two : count_of (pinned state []) + more ≤ state.limits.max_items = grind (arith, nat_tests) in
-        let bytes-left : total (without all state) ≡ total_of (pinned state []) = ap total_of objects-left in
-        let items-left : items (without all state) ≡ count_of (pinned state []) = ap count_of objects-left in
+        (let first : nat_lt state.limits.max_bytes (total_of (pinned state covered) + bytes) ≡ false = (or_parts (nat_lt state.limits.max_bytes (total_of (pinned state covered) + bytes)) (nat_lt state.limits.max_items (count_of (pinned state covered) + more)) under).0 in
+        let second : nat_lt state.limits.max_items (count_of (pinned state covered) + more) ≡ false = (or_parts (nat_lt state.limits.max_bytes (total_of (pinned state covered) + bytes)) (nat_lt state.limits.max_items (count_of (pinned state covered) + more)) under).1 in
+        let one : total_of (pinned state covered) + bytes ≤ state.limits.max_bytes = grind (arith, nat_tests) in
+        let two : count_of (pinned state covered) + more ≤ state.limits.max_items = grind (arith, nat_tests) in
+        let bytes-left : total (without all state) ≡ total_of (pinned state covered) = ap total_of objects-left in
+        let items-left : items (without all state) ≡ count_of (pinned state covered) = ap count_of objects-left in
         record { within = omega (arith, one, bytes-left); few = omega (arith, two, items-left) }))
         (shortest-ends (λ groups. fits (low state) bytes more (without groups state)) [] all)
 
     abbrev over : Bool
-    over = nat_lt state.limits.max_bytes (total_of (pinned state []) + bytes) || nat_lt state.limits.max_items (count_of (pinned state []) + more)
+    over = nat_lt state.limits.max_bytes (total_of (pinned state covered) + bytes) || nat_lt state.limits.max_items (count_of (pinned state covered) + more)
 
     abbrev fit : Bool
     fit = fits state.limits.max_bytes bytes more state
 
     abbrev gone : List Group
-    gone = evicted_until (fits (low state) bytes more) state []
+    gone = evicted_until (fits (low state) bytes more) state covered
 
     by-tests : (o f : Bool) → over ≡ o → fit ≡ f → is_full (decided false o f gone) ≡ false → HasEnough (without (evicted_for (decided false o f gone)) state)
     by-tests true f is-over is-fit free = absurd (clash free)
     by-tests false true is-over is-fit free = fits-facts state.limits.max_bytes (without [] state) (limits-without state []) (omega arith) (ap (fits state.limits.max_bytes bytes more) (none-without state) ∙ is-fit)
     by-tests false false is-over is-fit free = evicted-enough is-over
 
-    room-is : room state [] bytes more ≡ decided (bytes == 0 && more == 0) over fit gone
+    room-is : room state covered bytes more ≡ decided (bytes == 0 && more == 0) over fit gone
     unfolding room
     room-is = refl
 
-    pub room-enough : (bytes == 0 && more == 0) ≡ false → is_full (room state [] bytes more) ≡ false → HasEnough (without (evicted_for (room state [] bytes more)) state)
+    pub room-enough : (bytes == 0 && more == 0) ≡ false → is_full (room state covered bytes more) ≡ false → HasEnough (without (evicted_for (room state covered bytes more)) state)
     room-enough some free =
-        let is : room state [] bytes more ≡ decided false over fit gone = room-is ∙ ap (λ (b : Bool). decided b over fit gone) some in
+        let is : room state covered bytes more ≡ decided false over fit gone = room-is ∙ ap (λ (b : Bool). decided b over fit gone) some in
         subst (λ (r : Room). HasEnough (without (evicted_for r) state)) (sym is) (by-tests over fit refl refl (sym (ap is_full is) ∙ free))
 
 -- ---- a Create
@@ -296,10 +317,10 @@ evicted-for state moment handle key = refl
 pub have-room : CreatesHaveRoom
 have-room state moment handle key valid most can passes =
     let wants = wants-one state moment handle key in
-    let enough : HasEnough state valid (length key) 1 (without (evicted_for (room state [] (length key) 1)) state) =
-    room-enough state valid (length key) 1 (and_right (length key == 0) false refl) (sym (ap is_full wants) ∙ finds-room state moment handle key passes) in
-    let here : HasEnough state valid (length key) 1 (with_room state moment (to_create handle key)) =
-    subst (λ (groups : List Group). HasEnough state valid (length key) 1 (without groups state)) (sym (evicted-for state moment handle key ∙ ap evicted_for wants)) enough in
+    let enough : HasEnough state valid [] (length key) 1 (without (evicted_for (room state [] (length key) 1)) state) =
+    room-enough state valid [] (length key) 1 (and_right (length key == 0) false refl) (sym (ap is_full wants) ∙ finds-room state moment handle key passes) in
+    let here : HasEnough state valid [] (length key) 1 (with_room state moment (to_create handle key)) =
+    subst (λ (groups : List Group). HasEnough state valid [] (length key) 1 (without groups state)) (sym (evicted-for state moment handle key ∙ ap evicted_for wants)) enough in
     let few = here.few in
     let within = here.within in
     let limit : (with_room state moment (to_create handle key)).limits.max_bytes ≡ state.limits.max_bytes = ap (λ (l : Bounds). l.max_bytes) (limits-without state (evicted moment (to_create handle key) state)) in

@@ -20,6 +20,11 @@ pub mod CreateSteps
 pub mod CreateRoom
 pub mod CreateRefusing
 pub mod CoveredParts
+pub mod PinnedParts
+pub mod SparseStored
+pub mod SparseEnds
+pub mod SparseRise
+pub mod SparseCovered
 pub mod CreateEnds
 pub mod Notes
 pub mod RoomPins

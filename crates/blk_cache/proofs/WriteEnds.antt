@@ -70,7 +70,7 @@ early-still old new handle stream offset count others bound passes =
 
 -- ---- states
 
-set-twice : {A : Type 0} (xs : List A) (i : ℕ) (x y : A) → set (set xs i y) i x ≡ set xs i x
+pub set-twice : {A : Type 0} (xs : List A) (i : ℕ) (x y : A) → set (set xs i y) i x ≡ set xs i x
 set-twice [] i x y = refl
 set-twice (z ∷ xs) zero x y = refl
 set-twice {A} (z ∷ xs) (suc i) x y = ap (λ (l : List A). z ∷ l) (set-twice xs i x y)

@@ -79,7 +79,7 @@ module _ (o : Object) (stream offset : ℕ) (cut : Bool) (bytes : List ℕ) (apa
 -- ---- the state with the stream written
 
 module _ (state : State) (handle stream offset : ℕ) (cut : Bool) (bytes : List ℕ) (number : ℕ) (object : Object) (names : Names state handle number object) where
-  number-is : number_of state handle ≡ number
+  pub number-is : number_of state handle ≡ number
   number-is = ap (λ (o : Option ℕ). unwrap_or o (length state.objects)) names.names
 
   pub written-is : written handle stream offset cut bytes state ≡ used_main object (with_slot number (Some (after_write object stream offset cut bytes)) state)
@@ -189,8 +189,8 @@ module _ (state : State) (moment handle stream offset : ℕ) (cut : Bool) (bytes
     ready-within longer =
         let some : (after - before == 0) ≡ false = grind (arith, nat_tests, longer) in
         let none : (after - before == 0 && 0 == 0) ≡ false = ap (λ (b : Bool). b && true) some in
-        let enough : HasEnough state valid (after - before) 0 (without (evicted_for (room state [] (after - before) 0)) state) = room-enough state valid (after - before) 0 none (sym (ap is_full wants) ∙ not-full) in
-        let here : HasEnough state valid (after - before) 0 base = subst (λ (groups : List Group). HasEnough state valid (after - before) 0 (without groups state)) (sym (evicts ∙ ap evicted_for wants)) enough in
+        let enough : HasEnough state valid [] (after - before) 0 (without (evicted_for (room state [] (after - before) 0)) state) = room-enough state valid [] (after - before) 0 none (sym (ap is_full wants) ∙ not-full) in
+        let here : HasEnough state valid [] (after - before) 0 base = subst (λ (groups : List Group). HasEnough state valid [] (after - before) 0 (without groups state)) (sym (evicts ∙ ap evicted_for wants)) enough in
         let within = here.within in
         let limit : base.limits.max_bytes ≡ state.limits.max_bytes = ap (λ (l : Bounds). l.max_bytes) (limits-without state (evicted moment (to_write handle stream offset cut bytes) state)) in
         let sum = total-risen base handle stream offset cut bytes number object names ready-apart in

@@ -20,6 +20,7 @@ pub mod Dooming
 pub mod Unsettling
 pub mod Writing
 pub mod WritingLaws
+pub mod SparseWriting
 pub mod Listing
 pub mod Replying
 pub mod RoomTold

@@ -3,7 +3,7 @@ use Rattle.std.proofs.Common.{◌≡◌, ℕ, ◌+◌, ◌%◌, ◌<◌, ◌≤�
 use Rattle.std.specs.Prelude.{◌^◌, ◌-◌, length}
 use Rattle.std.specs.Option.{ForSome}
 use Rattle.blk_image.specs.Footprint.{one_word}
-use Rattle.blk_image.specs.Image.{AreBytes, Image, Index}
+use Rattle.blk_image.specs.Image.{AreBytes, Image, Index, byte}
 use Rattle.blk_image.proofs.ByteSteps.{word-small}
 use Rattle.blk_image.specs.Bytes.{word_bytes}
 use Rattle.blk_image.specs.Steps.{TrailStep, after, word_step, word_steps}
@@ -14,10 +14,11 @@ use Rattle.blk_disk.specs.declared.tables.BlockFiles.{BlockFiles}
 use Rattle.blk_disk.specs.Open.{IsOpen}
 use Rattle.blk_disk.proofs.Agreeing.{agrees_still}
 use Rattle.blk_chain.proofs.Links.{index_spares, index_word}
+use Rattle.blk_format.specs.Headers.{num_bytes_of, num_entries_of, sizes_of}
 use Rattle.blk_laws.specs.IndexWrites.{IsIndexWord}
 use Rattle.blk_kept.specs.Changes.{KeepsWith}
 use Rattle.blk_kept.proofs.Counters.{counter-keeps, counters-count}
-use Rattle.blk_object.specs.Counters.{AreCountedLess, AreCountersWritten, AreCounters, LessIsCounted, charges}
+use Rattle.blk_object.specs.Counters.{AreCountedLess, AreCountedMore, AreCountersWritten, AreCounters, LessIsCounted, MoreIsCounted, charges}
 use Rattle.blk_object.specs.declared.counters.Counters.{Counters}
 
 -- the words that are written
@@ -142,3 +143,32 @@ less-counted state after layout now unlinked charge from image counts less k l =
     (subst (λ (x : ℕ). IsIndexWord 8 x from l.written.first) same_entries l.written.entries_written)
     (subst (λ (x : ℕ). IsIndexWord 12 x l.written.first l.written.second) same_bytes l.written.bytes_written)
     (subst (λ (x : ℕ). IsIndexWord 268 x l.written.second image) same_size l.written.size_written)
+
+-- ---- more
+
+more-words : (x w n : ℕ) → x ≡ w → (x + n % 2 ^ 32) % 2 ^ 32 ≡ (w + n) % 2 ^ 32
+more-words x w n is = omega (arith, is)
+
+-- the counters that were read are written more
+pub counted-more : (counters : Counters) (entries charge : ℕ) (from image : Image) → AreCounters counters from
+    → AreCountersWritten ((counters.entries + entries % 2 ^ 32) % 2 ^ 32) ((counters.bytes + charge % 2 ^ 32) % 2 ^ 32) ((counters.size + entries % 2 ^ 32) % 2 ^ 32) from image → AreCountedMore entries charge from image
+counted-more counters entries charge from image are set = record {
+  first = set.first;
+  second = set.second;
+  entries_written = subst (λ (x : ℕ). IsIndexWord 8 x from set.first) (more-words counters.entries (num_entries_of (byte from Index)) entries are.entries) set.entries_written;
+  bytes_written = subst (λ (x : ℕ). IsIndexWord 12 x set.first set.second) (more-words counters.bytes (num_bytes_of (byte from Index)) charge are.bytes) set.bytes_written;
+  size_written = subst (λ (x : ℕ). IsIndexWord 268 x set.second image) (more-words counters.size (sizes_of (byte from Index) 0) entries are.size) set.size_written;
+}
+
+so-many-more : (w n m k : ℕ) → w ≡ n → k ≡ n + m → k < 2 ^ 32 → (w + m) % 2 ^ 32 ≡ k
+so-many-more w n m k is more small = omega (arith, is, more, small)
+
+charge-more : (w s t c : ℕ) → w ≡ s % 2 ^ 32 → t ≡ s + c → (w + c) % 2 ^ 32 ≡ t % 2 ^ 32
+charge-more w s t c is more = omega (arith, is, more)
+
+pub more-counted : MoreIsCounted
+more-counted state after layout now unlinked entries charge from image counts more k small set =
+    counters-count after now unlinked from set.first set.second image k
+    (subst (λ (x : ℕ). IsIndexWord 8 x from set.first) (so-many-more (num_entries_of (byte from Index)) (length state.uses) entries (length after.uses) counts.num_entries more.items small) set.entries_written)
+    (subst (λ (x : ℕ). IsIndexWord 12 x set.first set.second) (charge-more (num_bytes_of (byte from Index)) (charges state layout) (charges after now) charge counts.num_bytes more.bytes) set.bytes_written)
+    (subst (λ (x : ℕ). IsIndexWord 268 x set.second image) (so-many-more (sizes_of (byte from Index) 0) (length state.uses) entries (length after.uses) counts.sizes more.items small) set.size_written)

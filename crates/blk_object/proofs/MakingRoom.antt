@@ -32,11 +32,15 @@ all-some f (x ∷ xs) each =
     go rest None some = absurd (let z : ◌≡◌ {A = Option Row} None (Some some.0) = some.1 in cc)
     go rest (Some row) some = ap suc rest
 
-pub uses-few : (state : State) (layout : Layout) (unlinked : List ℕ) (image : Image) → KeepsUncounted state layout unlinked image → length state.uses ≤ items state
+-- it has a row for each item
+pub rows-long : (state : State) (layout : Layout) (unlinked : List ℕ) (image : Image) → KeepsUncounted state layout unlinked image → length (rows state) ≡ length state.uses
 unfolding rows
+rows-long state layout unlinked image k = all-some (row_of state) state.uses (λ item among. let p = k.represents.holds.lies.laid item among in (_, p.row))
+
+pub uses-few : (state : State) (layout : Layout) (unlinked : List ℕ) (image : Image) → KeepsUncounted state layout unlinked image → length state.uses ≤ items state
 uses-few state layout unlinked image k =
     let total = (totals_are_sums state k.valid).count in
-    let long : length (rows state) ≡ length state.uses = all-some (row_of state) state.uses (λ item among. let p = k.represents.holds.lies.laid item among in (_, p.row)) in
+    let long : length (rows state) ≡ length state.uses = rows-long state layout unlinked image k in
     omega (arith, total, long)
 
 -- ---- room in the maps, and a free number

@@ -36,6 +36,11 @@ pub record AreCountedLess (charge : ℕ) (from image : Image) : Type 0 where
   pub size_less : (size + 1) % 2 ^ 32 ≡ sizes_of (byte from Index) 0
   pub written : AreCountersWritten entries bytes size from image
 
+-- as words, they are more by so many entries, and by a charge
+abbrev pub AreCountedMore : (entries charge : ℕ) → (from image : Image) → Type 0
+AreCountedMore entries charge from image =
+    AreCountersWritten ((num_entries_of (byte from Index) + entries) % 2 ^ 32) ((num_bytes_of (byte from Index) + charge) % 2 ^ 32) ((sizes_of (byte from Index) 0 + entries) % 2 ^ 32) from image
+
 -- the charges of the listed items
 abbrev pub charges : State → Layout → ℕ
 charges state layout = sum_by charge_of (loaded_at layout (order state layout))
@@ -49,3 +54,13 @@ pub record IsOneItemLess (state after : State) (layout now : Layout) (charge : �
 abbrev pub LessIsCounted : Type 0
 LessIsCounted = (state after : State) (layout now : Layout) (unlinked : List ℕ) (charge : ℕ) (from image : Image) → CountsItems from state layout → IsOneItemLess state after layout now charge → KeepsUncounted after now unlinked from
     → AreCountedLess (charge % 2 ^ 32) from image → Keeps after now unlinked image
+
+-- a state lists so many items more than another one, with so much more charge
+pub record AreMoreItems (state after : State) (layout now : Layout) (entries charge : ℕ) : Type 0 where
+  pub items : length after.uses ≡ length state.uses + entries
+  pub bytes : charges after now ≡ charges state layout + charge
+
+-- where the counters counted the one, and are counted more, and the other is kept but for them, it is kept and counted
+abbrev pub MoreIsCounted : Type 0
+MoreIsCounted = (state after : State) (layout now : Layout) (unlinked : List ℕ) (entries charge : ℕ) (from image : Image) → CountsItems from state layout → AreMoreItems state after layout now entries charge → KeepsUncounted after now unlinked from
+    → length after.uses < 2 ^ 32 → AreCountedMore entries charge from image → Keeps after now unlinked image

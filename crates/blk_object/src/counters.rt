@@ -7,7 +7,7 @@ ghost use Rattle.blk_io.specs.Faults.{IfDamaged, IfDevice};
 ghost use Rattle.blk_disk.specs.Open.{IsOpen};
 ghost use Rattle.blk_laws.specs.IndexWrites.{IsIndexWord};
 ghost use Rattle.blk_kept.specs.Changes.{KeepsWith};
-ghost use Rattle.blk_object.specs.Counters.{AreCountedLess, AreCounters, AreCountersWritten};
+ghost use Rattle.blk_object.specs.Counters.{AreCountedLess, AreCountedMore, AreCounters, AreCountersWritten};
 ghost use Rattle.blk_object.specs.FailedChecks.{IsFailedCheck, ReadsTooFew};
 ghost use Rattle.blk_object.specs.RemovingNext.{KeepsOut};
 ghost use Rattle.blk_object.specs.Writing.{IsRiseCounted};
@@ -87,6 +87,33 @@ pub fn count_less<F: Folder>(f: &mut F, files: &BlockFiles, charge: u64) -> Resu
     let bytes = counters.bytes.wrapping_sub((charge % WORD_VALUES) as u32);
     let size = counters.size.wrapping_sub(1);
     set_counters(f, files, entries, bytes, size)?;
+    Ok(())
+}
+
+/// Counts so many entries more in the counters of the index, and a charge more, as words: three folder calls read them,
+/// and three write them.
+pub fn count_more<F: Folder>(
+    f: &mut F,
+    files: &BlockFiles,
+    entries: u64,
+    charge: u64,
+) -> Result<(), Fault>
+    requires is_open { ForSome (F.told f.old).files (IsOpen files.now) }
+    ensures counted { OnOk result (ForSome (F.told f.old).files (λ from. ForSome (F.told f.new).files (AreCountedMore entries charge from))) }
+    ensures stops { ForSome (F.told f.old).files (λ from. Passes (F.told f.old) (F.told f.new) (KeepsWith [] [] from)) }
+    ensures is_open { ForSome (F.told f.new).files (IsOpen files.now) }
+    ensures damaged { IfDamaged result (IsFailedCheck files.now (F.told f.new)) }
+    ensures untold { IfDamaged result (λ _. (F.told f.old).files ≡ None) }
+    ensures silent { (F.told f.old).files ≡ None → (F.told f.new).files ≡ None }
+    ensures later { F.faults f.old ≤ F.faults f.new }
+    ensures device { IfDevice result (Rises (F.faults f.old) (F.faults f.new)) }
+{
+    let counters = read_counters(f)?;
+    let more = (entries % WORD_VALUES) as u32;
+    let risen = counters.entries.wrapping_add(more);
+    let bytes = counters.bytes.wrapping_add((charge % WORD_VALUES) as u32);
+    let size = counters.size.wrapping_add(more);
+    set_counters(f, files, risen, bytes, size)?;
     Ok(())
 }
 

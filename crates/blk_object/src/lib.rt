@@ -24,7 +24,7 @@ mod writing;
 mod writing_laws;
 mod writing_places_laws;
 
-pub use counters::{count_less, count_rise};
+pub use counters::{count_less, count_more, count_rise};
 pub use counting_laws::{left_items_are_counted, parts_go_until_none_is_left};
 pub use dooming::{doom_plain, doom_record};
 pub use dooming_laws::held_objects_are_doomed;
@@ -47,5 +47,5 @@ pub use removing_mains::take_main;
 pub use removing_objects::{remove_item, remove_read};
 pub use removing_parts::remove_part;
 pub use writing::write_object;
-pub use writing_laws::rises_are_counted;
+pub use writing_laws::{more_is_counted, rises_are_counted};
 pub use writing_places_laws::filled_places_are_unlinked;

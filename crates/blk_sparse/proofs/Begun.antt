@@ -18,20 +18,22 @@ use Rattle.blk_volume.specs.Entries.{IsParent, stream, IsPlain, IsPart, Role}
 use Rattle.blk_volume.specs.Layout.{Layout, rule_of}
 use Rattle.blk_volume.specs.View.{entry_at}
 use Rattle.blk_laws.proofs.states.Changing.{at-itself}
+use Rattle.blk_laws.proofs.states.Settling.{main-listed}
 use Rattle.blk_stream.specs.Loading.{stored_streams_with}
 use Rattle.blk_stream.proofs.Joined.{IsTold, told_then}
 use Rattle.blk_kept.specs.Changes.{Finds}
 use Rattle.blk_kept.specs.Keeping.{KeepsUncounted}
 use Rattle.blk_kept.specs.ObjectLaws.{layout_after}
 use Rattle.blk_kept.specs.PartStates.{with_object}
-use Rattle.blk_kept.proofs.Dirtying.{set-at}
+use Rattle.blk_kept.proofs.Dirtying.{set-at, set-else}
 use Rattle.blk_kept.proofs.Keeping.{kept-found}
 use Rattle.blk_object.specs.Writing.{ForEachUnsettled, IsToBeWritten, IsWrittenUncounted, node_of_object, with_written}
 use Rattle.blk_object.proofs.GoingNext.{then-counters}
 use Rattle.blk_object.proofs.MakingTaken.{session-then}
 use Rattle.blk_object.proofs.OwnedCharges.{record-key}
 use Rattle.blk_sparse.specs.Beginning.{CanGetIndex, ForEachWithIndex, HasIndex, IsParentMarked, as_sparse, HasParentLength}
-use Rattle.blk_sparse.specs.SparseObjects.{CanBecomeSparse, ForEachPlain, KeepsParentThen, with_signature}
+use Rattle.blk_sparse.specs.SparseObjects.{CanBecomeSparse, ForEachPlain, KeepsParentThen, OthersLieAsBefore, with_signature}
+use Rattle.blk_sparse.proofs.OthersLie.{changed-others, others-of, others-then}
 use Rattle.blk_volume.specs.Found.{row_with}
 use Rattle.blk_object.specs.Owning.{LoadsWith}
 use Rattle.blk_object.proofs.OwnedPlaces.{loaded-checks}
@@ -219,7 +221,18 @@ module _ (state : State) (layout : Layout) (unlinked : List ℕ) (number : ℕ) 
         rest-mid : Finds (rest state) mid → rest state-mid ≡ rest state
         rest-mid found = sym (kept-found state-mid layout-mid unlinked mid w.kept) ∙ found.1
 
-        pub begun : (image : Image) → IsParentMarked state-mid layout-mid unlinked number between w.now h.index mid image → KeepsParentThen (with_object state number (with_signature object signature)) unlinked number (with_signature object signature) node entry signature from image
+        -- the other objects lie where they lay
+        abbrev end : Layout
+        end = layout_after layout-mid (layout-mid.place (main object.key)) (record w.now { role = IsParent h.index })
+
+        first-others : OthersLieAsBefore state number layout layout-mid
+        first-others = subst (λ (n : ℕ). OthersLieAsBefore state number layout (layout_after layout n w.now)) (sym its-node)
+            (changed-others state layout unlinked from p.kept number object p.here p.live (main object.key) (main-listed state p.kept.valid number object true p.here p.live) refl w.now)
+
+        second-others : OthersLieAsBefore state-mid number layout-mid end
+        second-others = changed-others state-mid layout-mid unlinked mid w.kept number between there p.live (main object.key) (main-listed state-mid w.kept.valid number between true there p.live) refl (record w.now { role = IsParent h.index })
+
+        pub begun : (image : Image) → IsParentMarked state-mid layout-mid unlinked number between w.now h.index mid image → KeepsParentThen (with_object state number (with_signature object signature)) layout unlinked number (with_signature object signature) node entry signature from image
         begun image m = record {
           now = layout_after layout-mid (layout-mid.place (main object.key)) (record w.now { role = IsParent h.index });
           parent = record {
@@ -234,6 +247,8 @@ module _ (state : State) (layout : Layout) (unlinked : List ℕ) (number : ℕ) 
             role = refl;
             same = h.signature_is;
           };
+          others = others-of state (with_object state number (with_signature object signature)) number layout end (λ other apart. set-else state number other (Some (with_signature object signature)) apart)
+              (others-then state number layout layout-mid end first-others (others-of state-mid state number layout-mid end (λ other apart. sym (set-else state number other (Some between) apart)) second-others));
           counters = then-counters from mid image w.counters m.counters;
           session = session-then from mid image w.session m.session;
         }
@@ -276,7 +291,7 @@ module _ (a m b : Told) (entry : ℕ) (bytes : List ℕ) (small_bytes : IsBytes 
           passes_then first-stops (subst (λ (rows : List Row). Passes m b (Finds rows)) same run)
 
       pub all-begun : ForSome m.files (λ i. ForEachWithIndex entry i (λ state layout unlinked number object was index. ForSome b.files (IsParentMarked state layout unlinked number object was index i)))
-          → ForSome b.files (KeepsParentThen (with_object state number (with_signature object signature)) unlinked number (with_signature object signature) node entry signature from)
+          → ForSome b.files (KeepsParentThen (with_object state number (with_signature object signature)) layout unlinked number (with_signature object signature) node entry signature from)
       all-begun marks image is = begun state layout unlinked number object node entry from p signature small bytes small_bytes (entry_at from entry).key_len refl h mid.image w image
           (marks mid.image mid.is (with_written state number object 2 0 true bytes) (layout_after layout (node_of_object layout number object) w.now) unlinked number (after_write object 2 0 true bytes) w.now h.index can image is)
 

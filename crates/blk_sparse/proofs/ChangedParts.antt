@@ -36,7 +36,7 @@ use Rattle.blk_kept.specs.Changes.{Finds}
 use Rattle.blk_kept.specs.Keeping.{KeepsUncounted}
 use Rattle.blk_kept.specs.ObjectLaws.{layout_after}
 use Rattle.blk_kept.specs.PartStates.{with_object, with_value}
-use Rattle.blk_kept.proofs.Dirtying.{set-at}
+use Rattle.blk_kept.proofs.Dirtying.{set-at, set-else}
 use Rattle.blk_kept.proofs.Keeping.{kept-found}
 use Rattle.blk_object.specs.Writing.{IsPartToBeWritten, IsPartWrittenUncounted, ForEachPartUnsettled}
 use Rattle.blk_object.proofs.GoingNext.{then-counters}
@@ -44,9 +44,10 @@ use Rattle.blk_object.proofs.MakingTaken.{session-then}
 use Rattle.blk_object.proofs.WrittenParts.{its-row, part-listed}
 use Rattle.blk_object.proofs.WrittenRoles.{IsPartRole, part-from, part-of, role-part-of}
 use Rattle.blk_sparse.specs.Changing.{IsChangedUnused, IsToBeChanged}
-use Rattle.blk_sparse.specs.SparseObjects.{HasPartAt, KeepsParent, with_piece}
+use Rattle.blk_sparse.specs.SparseObjects.{HasPartAt, KeepsParent, OthersLieAsBefore, with_piece}
 use Rattle.blk_sparse.proofs.Begun.{cut-all, object-valid, set-twice, unsettled-named}
 use Rattle.blk_sparse.proofs.FoundParts.{row-of-part}
+use Rattle.blk_sparse.proofs.OthersLie.{changed-others, others-of, others-then}
 use Rattle.blk_sparse.proofs.PartRoles.{covered-from, covered-more}
 use Rattle.blk_sparse.proofs.PartValid.{its-value, value-here, value-twice, value-valid}
 use Rattle.blk_volume.specs.View.{store_of}
@@ -362,7 +363,19 @@ module _ (state : State) (layout : Layout) (unlinked : List ℕ) (number : ℕ) 
       parent-lies : layout-end.at (layout-end.place (main object.key)) ≡ Some g.was
       parent-lies = at-elsewhere layout-mid.at at-node (Some v.now) (layout.place (main object.key)) apart ∙ at-elsewhere layout.at at-node (Some w.now) (layout.place (main object.key)) apart ∙ g.lies
 
-      pub changed : IsChangedUnused state unlinked number object node entry signature n of_part place piece from image
+      -- and so do the other objects
+      first-others : OthersLieAsBefore state number layout layout-mid
+      first-others = changed-others state layout unlinked from g.kept number object g.here g.live (part object.key n) (part-listed state g.kept.valid number object g.here g.live n value t.at.has) refl w.now
+
+      second-others : OthersLieAsBefore state-mid number layout-mid layout-end
+      second-others = changed-others state-mid layout-mid unlinked mid w.kept number object-mid (set-at state number object object-mid g.here) g.live (part object.key n)
+          (part-listed state-mid w.kept.valid number object-mid (set-at state number object object-mid g.here) g.live n with_data_now (value-here n with_data_now object)) refl v.now
+
+      both-others : OthersLieAsBefore (with_object state number (with_piece object n place piece)) number layout layout-end
+      both-others = others-of state (with_object state number (with_piece object n place piece)) number layout layout-end (λ other away. set-else state number other (Some (with_piece object n place piece)) away)
+          (others-then state number layout layout-mid layout-end first-others (others-of state-mid state number layout-mid layout-end (λ other away. sym (set-else state number other (Some object-mid) away)) second-others))
+
+      pub changed : IsChangedUnused state layout unlinked number object node entry signature n of_part place piece from image
       changed = record {
         now = layout-end;
         parent = record {
@@ -384,6 +397,7 @@ module _ (state : State) (layout : Layout) (unlinked : List ℕ) (number : ℕ) 
           lies = at-itself layout-mid.at at-node (Some v.now);
           record_is = ap (λ (l : Loaded). l.contents) v.now_is ∙ mid-record;
         };
+        others = both-others;
         counters = then-counters from mid image w.counters v.counters;
         session = session-then from mid image w.session v.session;
       }
@@ -422,7 +436,7 @@ module _ (a m b : Told) (of_part place : ℕ) (piece bytes : List ℕ) (small_pi
             passes_then data-stops (subst (λ (rows : List Row). Passes m b (Finds rows)) same run)
 
         pub both-changed : ForSome m.files (λ i. ForEachPartUnsettled of_part 2 0 true bytes i (λ state layout unlinked number object n value was role. ForSome b.files (IsPartWrittenUncounted state layout unlinked number object n value was role 2 0 true bytes i)))
-            → ForSome b.files (IsChangedUnused state unlinked number object node entry signature n of_part place piece from)
+            → ForSome b.files (IsChangedUnused state layout unlinked number object node entry signature n of_part place piece from)
         both-changed ends image is =
             changed state layout unlinked number object node entry signature n of_part place piece bytes from t small_piece small_bytes room mid.image w image (ends mid.image mid.is (with_object state number (with_value object n data-value)) (layout_after layout (layout.place (part object.key n)) w.now) unlinked number (with_value object n data-value) n (part_after t.at.value place piece) w.now (IsPart noted-facts.name t.noted.index) second image is)
 

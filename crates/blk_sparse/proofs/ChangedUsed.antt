@@ -79,8 +79,8 @@ module _ (of_part place : ℕ) (piece bytes : List ℕ) (state : State) (layout 
     abbrev mid : IsTold m (Finds (rest state))
     mid = told_then a m from (Finds (rest state)) there first
 
-    module _ (changed : ForSome m.files (IsChangedUnused state unlinked number object node entry signature n of_part place piece from)) where
-      now : IsChangedUnused state unlinked number object node entry signature n of_part place piece from mid.image
+    module _ (changed : ForSome m.files (IsChangedUnused state layout unlinked number object node entry signature n of_part place piece from)) where
+      now : IsChangedUnused state layout unlinked number object node entry signature n of_part place piece from mid.image
       now = changed mid.image mid.is
 
       listed : IsListedAt (with_object state number (with_piece object n place piece)) now.now unlinked (part object.key n) of_part mid.image
@@ -89,12 +89,13 @@ module _ (of_part place : ℕ) (piece bytes : List ℕ) (state : State) (layout 
       pub change-stops : ForSome m.files (λ i. ForEachListedAt of_part i (λ state layout unlinked item. Passes m b (FindsBeforeOrAfter state item))) → Passes a b (Finds (rest state))
       change-stops passes = passes_then first (passes_weaker (passes mid.image mid.is (with_object state number (with_piece object n place piece)) now.now unlinked (part object.key n) listed) either-found either-found)
 
-      pub change-ends : ForSome m.files (λ i. ForEachListedAt of_part i (λ state layout unlinked item. ForSome b.files (IsUsed state layout unlinked item i))) → ForSome b.files (KeepsParentThen (with_piece_written state number object n place piece) unlinked number (with_piece object n place piece) node entry signature from)
+      pub change-ends : ForSome m.files (λ i. ForEachListedAt of_part i (λ state layout unlinked item. ForSome b.files (IsUsed state layout unlinked item i))) → ForSome b.files (KeepsParentThen (with_piece_written state number object n place piece) layout unlinked number (with_piece object n place piece) node entry signature from)
       change-ends ends image is =
           let u : IsUsed (with_object state number (with_piece object n place piece)) now.now unlinked (part object.key n) mid.image image = ends mid.image mid.is (with_object state number (with_piece object n place piece)) now.now unlinked (part object.key n) listed image is in
           record {
             now = now.now;
             parent = record { kept = u.kept; here = now.parent.here; live = now.parent.live; node_is = now.parent.node_is; was = now.parent.was; lies = now.parent.lies; record_is = now.parent.record_is; index = now.parent.index; role = now.parent.role; same = now.parent.same };
+            others = now.others;
             counters = then-counters from mid.image image now.counters u.counters;
             session = session-then from mid.image image now.session u.session;
           }

@@ -19,6 +19,7 @@ pub mod NewWhole
 pub mod NewIndex
 pub mod ParentFlags
 pub mod Begun
+pub mod OthersLie
 pub mod PartUses
 pub mod FoundParts
 pub mod PartValid
@@ -32,4 +33,8 @@ pub mod ReadParts
 pub mod ChangedUsed
 pub mod WritingPieces
 pub mod WritingCovered
+pub mod PartCharges
+pub mod MeasuredParts
+pub mod MoreItems
+pub mod StoredObjects
 pub mod KeptParents

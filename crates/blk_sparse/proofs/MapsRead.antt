@@ -68,6 +68,9 @@ module _ (state : State) (layout : Layout) (unlinked : List ℕ) (number : ℕ) 
     presence = says.presence_is;
   }
 
+  pub says-bytes : stream 1 at.was.streams ≡ at.value.bytes
+  says-bytes = says.bytes_are
+
   pub loads-as : LoadsAsPart of_part from
   loads-as = record { loaded = at.was; loads = part-loads; name = its.name; index = its.index; role = its.role }
 

@@ -32,7 +32,7 @@ use Rattle.blk_kept.specs.Changes.{Finds, StillFinds}
 use Rattle.blk_kept.specs.Keeping.{KeepsUncounted}
 use Rattle.blk_kept.specs.NewPartLaws.{with_new_part}
 use Rattle.blk_kept.specs.PartStates.{with_value}
-use Rattle.blk_kept.proofs.Dirtying.{set-at}
+use Rattle.blk_kept.proofs.Dirtying.{set-at, set-else}
 use Rattle.blk_kept.proofs.NewParts as parts
 use Rattle.blk_kept.proofs.NewPartsKept.{values-keep}
 use Rattle.blk_object.specs.Making.{LeavesRoom}
@@ -46,6 +46,7 @@ use Rattle.blk_sparse.proofs.NewBits.{index-place, parent-kind, parent-shown}
 use Rattle.blk_sparse.proofs.NewKept.{all-kept, end-counters, end-session, noting-finds}
 use Rattle.blk_sparse.proofs.NewMade as made
 use Rattle.blk_sparse.proofs.NewPlaces.{new-long}
+use Rattle.blk_sparse.proofs.OthersLie.{others-of, part-others}
 
 -- a part that an object lacks is one that is missing
 missing-one : (object : Object) (n : ℕ) → is_some (part_at object n) ≡ false → length (missing_parts object (n ∷ [])) ≡ 1
@@ -217,7 +218,7 @@ module _ (a b : Told) (parent : ℕ) (child : ChildName) (name : List ℕ) (plac
                 lies-last : (with_new_part layout object.key child.part seen l).at (layout.place (main object.key)) ≡ Some seen
                 lies-last = at-elsewhere (put layout.at p (Some seen)) l.node (Some l) p (parts.apart (view_of mid2.0) state objects layout key child.part was seen l t.written) ∙ at-itself layout.at p (Some seen)
 
-                pub part-made : KeepsParentThen (with_piece_written state number object child.part place piece) unlinked number (with_piece object child.part place piece) node parent (cast_unsigned w64 child.signature) from image
+                pub part-made : KeepsParentThen (with_piece_written state number object child.part place piece) layout unlinked number (with_piece object child.part place piece) node parent (cast_unsigned w64 child.signature) from image
                 part-made = record {
                   now = after;
                   parent = record {
@@ -232,6 +233,8 @@ module _ (a b : Told) (parent : ℕ) (child : ChildName) (name : List ℕ) (plac
                     role = refl;
                     same = can.grows.parent.same;
                   };
+                  others = others-of state (with_piece_written state number object child.part place piece) number layout after (λ other apart. set-else state number other (Some (with_piece object child.part place piece)) apart)
+                      (part-others state layout unlinked from can.grows.parent.kept number object can.grows.parent.here can.grows.parent.live (view_of mid2.0) objects child.part was seen l t.written);
                   counters = counters-then from mid1.0 image takes.taken.counters (counters-then mid1.0 mid2.0 image writes.counters
                       (end-counters state objects layout unlinked key child.part was seen l mid2.0 mid3.0 t g files (open_then mid3.0 mid3.1).agrees below can.grows.parent.index can.grows.parent.role image (open_last image now).agrees it-noted refl (values-keep state number object child.part value can.grows.parent.here)));
                   session = session-then from mid1.0 image takes.taken.session (session-then mid1.0 mid2.0 image writes.session

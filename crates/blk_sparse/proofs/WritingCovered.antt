@@ -21,12 +21,14 @@ use Rattle.blk_volume.specs.Layout.{Layout}
 use Rattle.blk_kept.specs.Changes.{Finds}
 use Rattle.blk_kept.specs.CommandStates.{amidst}
 use Rattle.blk_kept.specs.PartStates.{with_value}
+use Rattle.blk_kept.proofs.Dirtying.{set-else}
 use Rattle.blk_kept.proofs.Keeping.{kept-found}
 use Rattle.blk_object.proofs.MakingStored.{counters-then}
 use Rattle.blk_object.proofs.MakingTaken.{session-then}
-use Rattle.blk_sparse.specs.SparseObjects.{CanGetParts, KeepsParent, KeepsParentThen, missing_parts, parts_of, value_or_empty, with_bytes, with_bytes_written, with_piece, with_piece_written}
+use Rattle.blk_sparse.specs.SparseObjects.{CanGetParts, KeepsParent, KeepsParentThen, OthersLieAsBefore, missing_parts, parts_of, value_or_empty, with_bytes, with_bytes_written, with_piece, with_piece_written}
 use Rattle.blk_sparse.proofs.Begun.{object-valid}
 use Rattle.blk_sparse.proofs.NewMade.{set-self}
+use Rattle.blk_sparse.proofs.OthersLie.{others-of, others-same, others-then}
 use Rattle.blk_sparse.proofs.UsedParts.{covered-one, covered-two}
 use Rattle.blk_sparse.proofs.PartValid.{keeps-used, rest-whatever}
 
@@ -39,7 +41,7 @@ set-twice (z ∷ xs) (suc i) x y = ap (λ (l : List (Option Object)). z ∷ l) (
 
 -- ---- items
 
-missing-more : (object : Object) (n : ℕ) (o : Option PartValue) → part_at object n ≡ o → cond (is_some (part_at object n)) (length object.parts) (length object.parts + 1) ≡ length object.parts + length (missing_parts object (n ∷ []))
+pub missing-more : (object : Object) (n : ℕ) (o : Option PartValue) → part_at object n ≡ o → cond (is_some (part_at object n)) (length object.parts) (length object.parts + 1) ≡ length object.parts + length (missing_parts object (n ∷ []))
 missing-more object n None e = rw e (omega arith)
 missing-more object n (Some v) e = rw e (omega arith)
 
@@ -50,18 +52,18 @@ items-more state valid number object here n value uses =
     let long : length (with_value object n value).parts ≡ length object.parts + length (missing_parts object (n ∷ [])) = length-put nat_cmp nat_cmp_total n value object.parts (passes _ (object-valid state valid number object here).rising) ∙ missing-more object n (part_at object n) refl in
     omega (arith, moved, was, long)
 
-missing-two : (object : Object) (n m : ℕ) (o : Option PartValue) → part_at object n ≡ o → length (missing_parts object (n ∷ m ∷ [])) ≡ length (missing_parts object (n ∷ [])) + length (missing_parts object (m ∷ []))
+pub missing-two : (object : Object) (n m : ℕ) (o : Option PartValue) → part_at object n ≡ o → length (missing_parts object (n ∷ m ∷ [])) ≡ length (missing_parts object (n ∷ [])) + length (missing_parts object (m ∷ []))
 missing-two object n m None e = rw e (omega arith)
 missing-two object n m (Some v) e = rw e (omega arith)
 
-still-missing : (object : Object) (n m : ℕ) (value : PartValue) → (m == n) ≡ false → missing_parts (with_value object n value) (m ∷ []) ≡ missing_parts object (m ∷ [])
+pub still-missing : (object : Object) (n m : ℕ) (value : PartValue) → (m == n) ≡ false → missing_parts (with_value object n value) (m ∷ []) ≡ missing_parts object (m ∷ [])
 still-missing object n m value apart =
     let same : part_at (with_value object n value) m ≡ part_at object m = find-put nat_cmp nat_cmp_total m n value object.parts ∙ ap (λ (b : Bool). cond b (Some value) (find nat_cmp m object.parts)) (unsigned_tied m n ∙ apart) in
     rw same refl
 
 -- ---- one part
 
-bytes-one : (object : Object) (offset n place : ℕ) (bytes : List ℕ) → covered_parts offset (length bytes) ≡ n ∷ [] → offset ≡ n * 1048576 + place → place + length bytes ≤ 1048576 → with_bytes object offset bytes ≡ with_piece object n place bytes
+pub bytes-one : (object : Object) (offset n place : ℕ) (bytes : List ℕ) → covered_parts offset (length bytes) ≡ n ∷ [] → offset ≡ n * 1048576 + place → place + length bytes ≤ 1048576 → with_bytes object offset bytes ≡ with_piece object n place bytes
 unfolding parts_after
 bytes-one object offset n place bytes covers at room =
     let inside : offset - n * 1048576 ≡ place = omega (arith, at) in
@@ -75,7 +77,7 @@ bytes-one object offset n place bytes covers at room =
 abbrev two_pieces : Object → (n : ℕ) → (p : ℕ) → List ℕ → (q : ℕ) → List ℕ → Object
 two_pieces object n p front q back = with_piece (with_piece object n p front) (n + 1) q back
 
-bytes-two : (object : Object) (offset n place left : ℕ) (bytes : List ℕ) → covered_parts offset (length bytes) ≡ n ∷ (n + 1) ∷ [] → offset ≡ n * 1048576 + place → place + left ≡ 1048576 → length bytes ≤ 1048576 → with_bytes object offset bytes ≡ with_piece (with_piece object n place (take left bytes)) (n + 1) 0 (drop left bytes)
+pub bytes-two : (object : Object) (offset n place left : ℕ) (bytes : List ℕ) → covered_parts offset (length bytes) ≡ n ∷ (n + 1) ∷ [] → offset ≡ n * 1048576 + place → place + left ≡ 1048576 → length bytes ≤ 1048576 → with_bytes object offset bytes ≡ with_piece (with_piece object n place (take left bytes)) (n + 1) 0 (drop left bytes)
 unfolding parts_after
 bytes-two object offset n place left bytes covers at rest_is most =
     let inside : offset - n * 1048576 ≡ place = omega (arith, at) in
@@ -106,13 +108,14 @@ at-place offset n place is_part is_place = omega (arith, is_part, is_place)
 -- ---- no bytes
 
 pub none-written : (state : State) (layout : Layout) (unlinked : List ℕ) (number : ℕ) (object : Object) (node entry signature : ℕ) (from : Image) (offset : ℕ) (bytes : List ℕ) → CanGetParts (covered_parts offset (length bytes)) state layout unlinked number object node entry signature from
-    → length bytes ≡ 0 → (image : Image) → image ≡ from → KeepsParentThen (with_bytes_written state number object offset bytes) unlinked number (with_bytes object offset bytes) node entry signature from image
+    → length bytes ≡ 0 → (image : Image) → image ≡ from → KeepsParentThen (with_bytes_written state number object offset bytes) layout unlinked number (with_bytes object offset bytes) node entry signature from image
 unfolding covered_parts parts_after
 none-written state layout unlinked number object node entry signature from offset [] can none image same =
     let states : with_bytes_written state number object offset [] ≡ state = ap (λ (slots : List (Option Object)). record state { objects = slots }) (set-self state.objects number (Some object) can.parent.here object refl) in
-    subst (λ (i : Image). KeepsParentThen (with_bytes_written state number object offset []) unlinked number (with_bytes object offset []) node entry signature from i) (sym same)
+    subst (λ (i : Image). KeepsParentThen (with_bytes_written state number object offset []) layout unlinked number (with_bytes object offset []) node entry signature from i) (sym same)
     (record {
       now = layout;
+      others = others-same (with_bytes_written state number object offset []) number layout;
       parent = subst (λ (s : State). KeepsParent s layout unlinked number object node entry signature from) (sym states) can.parent;
       counters = record { sizes = refl; num_entries = refl; num_bytes = refl };
       session = record { crash = refl; id = refl };
@@ -130,13 +133,13 @@ module _ (state : State) (layout : Layout) (unlinked : List ℕ) (number : ℕ) 
     pub can-one : CanGetParts (n ∷ []) state layout unlinked number object node entry signature from
     can-one = subst (λ (ns : List ℕ). CanGetParts ns state layout unlinked number object node entry signature from) covers can
 
-    pub done-one : (image : Image) → KeepsParentThen (with_piece_written state number object n place bytes) unlinked number (with_piece object n place bytes) node entry signature from image
-        → KeepsParentThen (with_bytes_written state number object offset bytes) unlinked number (with_bytes object offset bytes) node entry signature from image
+    pub done-one : (image : Image) → KeepsParentThen (with_piece_written state number object n place bytes) layout unlinked number (with_piece object n place bytes) node entry signature from image
+        → KeepsParentThen (with_bytes_written state number object offset bytes) layout unlinked number (with_bytes object offset bytes) node entry signature from image
     done-one image k =
         let same : with_bytes object offset bytes ≡ with_piece object n place bytes = bytes-one object offset n place bytes covers at room in
         let states : with_bytes_written state number object offset bytes ≡ with_piece_written state number object n place bytes = ap₂ (λ (o : Object) (ns : List ℕ). amidst state number o (used_all (parts_of object ns) state.uses)) same covers in
-        subst (λ (s : State). KeepsParentThen s unlinked number (with_bytes object offset bytes) node entry signature from image) (sym states)
-        (subst (λ (o : Object). KeepsParentThen (with_piece_written state number object n place bytes) unlinked number o node entry signature from image) (sym same) k)
+        subst (λ (s : State). KeepsParentThen s layout unlinked number (with_bytes object offset bytes) node entry signature from image) (sym states)
+        (subst (λ (o : Object). KeepsParentThen (with_piece_written state number object n place bytes) layout unlinked number o node entry signature from image) (sym same) k)
 
   module _ (covers : covered_parts offset (length bytes) ≡ n ∷ (n + 1) ∷ []) (left : ℕ) (rest_is : place + left ≡ 1048576) (most : length bytes ≤ 1048576) (front back : List ℕ) (is_front : front ≡ take left bytes) (is_back : back ≡ drop left bytes) where
     both : CanGetParts (n ∷ (n + 1) ∷ []) state layout unlinked number object node entry signature from
@@ -159,7 +162,10 @@ module _ (state : State) (layout : Layout) (unlinked : List ℕ) (number : ℕ) 
     rest-mid = rest-whatever state number object can.parent.kept.valid can.parent.here can.parent.live can.unsettled (with_piece object n place front) (used (part object.key n) state.uses) (record { key_is = refl; live = can.parent.live; unsettled = can.unsettled })
         (keeps-used state number object can.parent.kept.valid can.parent.here can.parent.live can.unsettled (part object.key n) refl)
 
-    module _ (mid : Image) (k : KeepsParentThen (with_piece_written state number object n place front) unlinked number (with_piece object n place front) node entry signature from mid) where
+    module _ (mid : Image) (k : KeepsParentThen (with_piece_written state number object n place front) layout unlinked number (with_piece object n place front) node entry signature from mid) where
+      abbrev last_state : State
+      last_state = with_piece_written (with_piece_written state number object n place front) number (with_piece object n place front) (n + 1) 0 back
+
       pub can-second : CanGetParts ((n + 1) ∷ []) (with_piece_written state number object n place front) k.now unlinked number (with_piece object n place front) node entry signature mid
       can-second = record {
         parent = k.parent;
@@ -176,8 +182,14 @@ module _ (state : State) (layout : Layout) (unlinked : List ℕ) (number : ℕ) 
           other : (m : ℕ) → ((m + 1) == m) ≡ false
           other m = grind (arith, nat_tests)
 
-      pub done-two : (image : Image) → KeepsParentThen (with_piece_written (with_piece_written state number object n place front) number (with_piece object n place front) (n + 1) 0 back) unlinked number (with_piece (with_piece object n place front) (n + 1) 0 back) node entry signature mid image
-          → KeepsParentThen (with_bytes_written state number object offset bytes) unlinked number (with_bytes object offset bytes) node entry signature from image
+      -- the other objects lie where they lay before both
+      both-others : (end : Layout) → OthersLieAsBefore (with_piece_written (with_piece_written state number object n place front) number (with_piece object n place front) (n + 1) 0 back) number k.now end
+          → OthersLieAsBefore (with_piece_written (with_piece_written state number object n place front) number (with_piece object n place front) (n + 1) 0 back) number layout end
+      both-others end last = others-then last_state number layout k.now end
+          (others-of (with_piece_written state number object n place front) last_state number layout k.now (λ other apart. set-else (with_piece_written state number object n place front) number other (Some (with_piece (with_piece object n place front) (n + 1) 0 back)) apart) k.others) last
+
+      pub done-two : (image : Image) → KeepsParentThen (with_piece_written (with_piece_written state number object n place front) number (with_piece object n place front) (n + 1) 0 back) k.now unlinked number (with_piece (with_piece object n place front) (n + 1) 0 back) node entry signature mid image
+          → KeepsParentThen (with_bytes_written state number object offset bytes) layout unlinked number (with_bytes object offset bytes) node entry signature from image
       done-two image last =
           let same : with_bytes object offset bytes ≡ with_piece (with_piece object n place front) (n + 1) 0 back =
           bytes-two object offset n place left bytes covers at rest_is most ∙ ap₂ (λ (f b : List ℕ). with_piece (with_piece object n place f) (n + 1) 0 b) (sym is_front) (sym is_back) in
@@ -185,6 +197,6 @@ module _ (state : State) (layout : Layout) (unlinked : List ℕ) (number : ℕ) 
           let states : with_bytes_written state number object offset bytes ≡ with_piece_written (with_piece_written state number object n place front) number (with_piece object n place front) (n + 1) 0 back =
           ap₂ (λ (o : Object) (ns : List ℕ). amidst state number o (used_all (parts_of object ns) state.uses)) same covers
           ∙ ap (λ (slots : List (Option Object)). record state { objects = slots; uses = uses }) (sym (set-twice state.objects number (Some (with_piece object n place front)) (Some (with_piece (with_piece object n place front) (n + 1) 0 back)))) in
-          subst (λ (s : State). KeepsParentThen s unlinked number (with_bytes object offset bytes) node entry signature from image) (sym states)
-          (subst (λ (o : Object). KeepsParentThen (with_piece_written (with_piece_written state number object n place front) number (with_piece object n place front) (n + 1) 0 back) unlinked number o node entry signature from image) (sym same)
-          (record { now = last.now; parent = last.parent; counters = counters-then from mid image k.counters last.counters; session = session-then from mid image k.session last.session }))
+          subst (λ (s : State). KeepsParentThen s layout unlinked number (with_bytes object offset bytes) node entry signature from image) (sym states)
+          (subst (λ (o : Object). KeepsParentThen (with_piece_written (with_piece_written state number object n place front) number (with_piece object n place front) (n + 1) 0 back) layout unlinked number o node entry signature from image) (sym same)
+          (record { now = last.now; parent = last.parent; others = both-others last.now last.others; counters = counters-then from mid image k.counters last.counters; session = session-then from mid image k.session last.session }))

@@ -14,7 +14,7 @@ use Rattle.blk_kept.specs.Changes.{SameCounters, SameSession}
 use Rattle.blk_kept.specs.PartStates.{with_object}
 use Rattle.blk_object.specs.Owning.{LoadsWith}
 use Rattle.blk_ranges.specs.PartMaps.{presence_in}
-use Rattle.blk_sparse.specs.SparseObjects.{CanGetParts, HasPartAt, KeepsParent, with_piece}
+use Rattle.blk_sparse.specs.SparseObjects.{CanGetParts, HasPartAt, KeepsParent, OthersLieAsBefore, with_piece}
 
 -- some bytes are an index of a part, in which, after an old one, what is written between two places is present
 pub record IsNoted (old : PartIndex) (from to : ℕ) (bytes : List ℕ) : Type 0 where
@@ -47,10 +47,11 @@ ForEachToBeChanged of_part place piece bytes from P =
     (state : State) (layout : Layout) (unlinked : List ℕ) (number : ℕ) (object : Object) (node entry signature n : ℕ)
     → IsToBeChanged state layout unlinked number object node entry signature n of_part place piece bytes from → P state layout unlinked number object node entry signature n
 
--- the state with the piece is kept, before the part is used; it lies at its node with its record still
-pub record IsChangedUnused (state : State) (unlinked : List ℕ) (number : ℕ) (object : Object) (node entry signature n of_part place : ℕ) (piece : List ℕ) (from image : Image) : Type 0 where
+-- the state with the piece is kept, before the part is used; it lies at its node with its record still, and each other object where it lay
+pub record IsChangedUnused (state : State) (old : Layout) (unlinked : List ℕ) (number : ℕ) (object : Object) (node entry signature n of_part place : ℕ) (piece : List ℕ) (from image : Image) : Type 0 where
   pub now : Layout
   pub parent : KeepsParent (with_object state number (with_piece object n place piece)) now unlinked number (with_piece object n place piece) node entry signature image
   pub at : HasPartAt now (with_piece object n place piece) n of_part
+  pub others : OthersLieAsBefore (with_object state number (with_piece object n place piece)) number old now
   pub counters : SameCounters from image
   pub session : SameSession from image

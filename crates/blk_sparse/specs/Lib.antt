@@ -1,10 +1,12 @@
 pub mod Beginning
 pub mod Changing
 pub mod Children
+pub mod Measuring
 pub mod Dropping
 pub mod Parents
 pub mod Parts
 pub mod Reading
 pub mod SparseObjects
+pub mod SparseWrites
 pub mod NewParts
 pub mod Writing

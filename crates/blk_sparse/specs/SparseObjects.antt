@@ -1,5 +1,5 @@
 -- Sparse objects of a folder: a parent with its parts, before and after they are written, read or used.
-use Rattle.std.specs.Prelude.{◌≡◌, ℕ, ◌+◌, ◌≤◌, List, [], ◌++◌, filter, false, is_some, length, map, not, true, unwrap_or}
+use Rattle.std.specs.Prelude.{◌≡◌, ◌≢◌, ℕ, ◌+◌, ◌≤◌, List, [], ◌++◌, filter, false, is_some, length, map, not, true, unwrap_or}
 use Rattle.std.specs.declared.option.Option.TheVariants.{Some}
 use Rattle.blk_image.specs.Image.{Image}
 use Rattle.blk_model.specs.Effects.{existing_parts, used, used_all}
@@ -17,6 +17,7 @@ use Rattle.blk_kept.specs.Changes.{Finds, SameCounters, SameSession}
 use Rattle.blk_kept.specs.CommandStates.{amidst, in_order}
 use Rattle.blk_kept.specs.Keeping.{CountsItems, KeepsUncounted}
 use Rattle.blk_kept.specs.PartStates.{with_object, with_value}
+use Rattle.blk_object.specs.Writing.{node_of_object}
 
 -- Parents.
 
@@ -39,10 +40,17 @@ ForEachKeptParent node entry signature from P =
     (state : State) (layout : Layout) (unlinked : List ℕ) (number : ℕ) (object : Object)
     → KeepsParent state layout unlinked number object node entry signature from → P state layout unlinked number object
 
--- a state is kept then, in which the number has this object, with the same main item; the counters and the session of the index are as they were
-pub record KeepsParentThen (state : State) (unlinked : List ℕ) (number : ℕ) (object : Object) (node entry signature : ℕ) (from image : Image) : Type 0 where
+-- each other object lies where it lay, and is there as it was
+abbrev pub OthersLieAsBefore : State → (number : ℕ) → (old new : Layout) → Type 0
+OthersLieAsBefore state number old new =
+    (other : ℕ) (object : Object) → other ≢ number → object_at state other ≡ Some object
+    → (node_of_object new other object ≡ node_of_object old other object) × (new.at (node_of_object old other object) ≡ old.at (node_of_object old other object))
+
+-- a state is kept then, in which the number has this object, with the same main item, and each other object lies where it lay in a layout; the counters and the session of the index are as they were
+pub record KeepsParentThen (state : State) (old : Layout) (unlinked : List ℕ) (number : ℕ) (object : Object) (node entry signature : ℕ) (from image : Image) : Type 0 where
   pub now : Layout
   pub parent : KeepsParent state now unlinked number object node entry signature image
+  pub others : OthersLieAsBefore state number old now
   pub counters : SameCounters from image
   pub session : SameSession from image
 

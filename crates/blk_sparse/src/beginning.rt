@@ -53,7 +53,7 @@ pub fn begin<F: Folder>(
     requires is_open { ForSome (F.told f.old).files (IsOpen files.old) }
 
     // Each state that was kept, with such an object, is kept with it sparse in the end, but for the counters.
-    ensures begun { OnOk result (ForSome (F.told f.old).files (λ from. ForEachPlain entry from (λ state layout unlinked number object node. ForSome (F.told f.new).files (KeepsParentThen (with_object state number (with_signature object (cast_unsigned w64 signature))) unlinked number (with_signature object (cast_unsigned w64 signature)) node entry (cast_unsigned w64 signature) from)))) }
+    ensures begun { OnOk result (ForSome (F.told f.old).files (λ from. ForEachPlain entry from (λ state layout unlinked number object node. ForSome (F.told f.new).files (KeepsParentThen (with_object state number (with_signature object (cast_unsigned w64 signature))) layout unlinked number (with_signature object (cast_unsigned w64 signature)) node entry (cast_unsigned w64 signature) from)))) }
 
     // At each word what was at rest is found: an object that isn't settled isn't.
     ensures stops { ForSome (F.told f.old).files (λ from. ForEachPlain entry from (λ state layout unlinked number object node. Passes (F.told f.old) (F.told f.new) (Finds (rest state)))) }
@@ -124,7 +124,7 @@ fn give_index<F: Folder>(
     requires stands { IsTrue (stands_among files.old entry) }
     requires long { length bytes.now ≡ parent_index_length }
     requires is_open { ForSome (F.told f.old).files (IsOpen files.old) }
-    ensures begun { OnOk result (ForSome (F.told f.old).files (λ from. ForEachPlainWith bytes.now entry from (λ state layout unlinked number object node signature. ForSome (F.told f.new).files (KeepsParentThen (with_object state number (with_signature object signature)) unlinked number (with_signature object signature) node entry signature from)))) }
+    ensures begun { OnOk result (ForSome (F.told f.old).files (λ from. ForEachPlainWith bytes.now entry from (λ state layout unlinked number object node signature. ForSome (F.told f.new).files (KeepsParentThen (with_object state number (with_signature object signature)) layout unlinked number (with_signature object signature) node entry signature from)))) }
     ensures stops { ForSome (F.told f.old).files (λ from. ForEachPlainWith bytes.now entry from (λ state layout unlinked number object node signature. Passes (F.told f.old) (F.told f.new) (Finds (rest state)))) }
     ensures keeps { KeepsStanding files.old files.new }
     ensures is_open { OnOk result (ForSome (F.told f.new).files (IsOpen files.new)) }

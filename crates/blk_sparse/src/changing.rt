@@ -54,7 +54,7 @@ pub(crate) fn change_part<F: Folder>(
     requires is_open { ForSome (F.told f.old).files (IsOpen files.old) }
 
     // Each state that was kept, with such a part of an object that isn't settled, is kept with the piece written and the part in front, but for the counters.
-    ensures written { OnOk result (ForSome (F.told f.old).files (λ from. ForEachPartThere part from (λ state layout unlinked number object node entry signature n. ForSome (F.told f.new).files (KeepsParentThen (with_piece_written state number object n place piece.now) unlinked number (with_piece object n place piece.now) node entry signature from)))) }
+    ensures written { OnOk result (ForSome (F.told f.old).files (λ from. ForEachPartThere part from (λ state layout unlinked number object node entry signature n. ForSome (F.told f.new).files (KeepsParentThen (with_piece_written state number object n place piece.now) layout unlinked number (with_piece object n place piece.now) node entry signature from)))) }
 
     // At each word what was at rest is found: an object that isn't settled isn't, nor are its parts.
     ensures stops { ForSome (F.told f.old).files (λ from. ForEachPartThere part from (λ state layout unlinked number object node entry signature n. Passes (F.told f.old) (F.told f.new) (Finds (rest state)))) }
@@ -131,7 +131,7 @@ fn write_noted<F: Folder>(
     requires inside { place + length piece.now ≤ part_size }
     requires map { length map.now ≡ 192 }
     requires is_open { ForSome (F.told f.old).files (IsOpen files.old) }
-    ensures written { OnOk result (ForSome (F.told f.old).files (λ from. ForEachToBeChanged part place piece.now map.now from (λ state layout unlinked number object node entry signature n. ForSome (F.told f.new).files (IsChangedUnused state unlinked number object node entry signature n part place piece.now from)))) }
+    ensures written { OnOk result (ForSome (F.told f.old).files (λ from. ForEachToBeChanged part place piece.now map.now from (λ state layout unlinked number object node entry signature n. ForSome (F.told f.new).files (IsChangedUnused state layout unlinked number object node entry signature n part place piece.now from)))) }
     ensures stops { ForSome (F.told f.old).files (λ from. ForEachToBeChanged part place piece.now map.now from (λ state layout unlinked number object node entry signature n. Passes (F.told f.old) (F.told f.new) (Finds (rest state)))) }
     ensures keeps { KeepsStanding files.old files.new }
     ensures is_open { OnOk result (ForSome (F.told f.new).files (IsOpen files.new)) }

@@ -341,7 +341,7 @@ pub(crate) fn make_part<F: Folder>(
     requires is_open { ForSome (F.told f.old).files (IsOpen files.old) }
 
     // Of each unsettled object with such a parent, which lacks the part of this name, the state with the piece written is kept in the end, but for the counters.
-    ensures written { OnOk result (ForSome (F.told f.old).files (λ from. ForEachLacking parent child.now name.now from (λ state layout unlinked number object node. ForSome (F.told f.new).files (KeepsParentThen (with_piece_written state number object child.now.part place piece.now) unlinked number (with_piece object child.now.part place piece.now) node parent (cast_unsigned w64 child.now.signature) from)))) }
+    ensures written { OnOk result (ForSome (F.told f.old).files (λ from. ForEachLacking parent child.now name.now from (λ state layout unlinked number object node. ForSome (F.told f.new).files (KeepsParentThen (with_piece_written state number object child.now.part place piece.now) layout unlinked number (with_piece object child.now.part place piece.now) node parent (cast_unsigned w64 child.now.signature) from)))) }
 
     // At each word what was at rest is found: an object that isn't settled isn't.
     ensures stops { ForSome (F.told f.old).files (λ from. ForEachLacking parent child.now name.now from (λ state layout unlinked number object node. Passes (F.told f.old) (F.told f.new) (Finds (rest state)))) }

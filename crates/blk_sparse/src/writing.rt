@@ -49,7 +49,7 @@ pub(crate) fn write_piece<F: Folder>(
     requires is_open { ForSome (F.told f.old).files (IsOpen files.old) }
 
     // Each state that was kept, with such an object, is kept with the piece written and the part in front, but for the counters.
-    ensures written { OnOk result (ForSome (F.told f.old).files (λ from. ForEachGrowingOfKey (number ∷ []) key.now parent.now.entry (cast_unsigned w64 parent.now.signature) from (λ state layout unlinked at object node. ForSome (F.told f.new).files (KeepsParentThen (with_piece_written state at object number place piece.now) unlinked at (with_piece object number place piece.now) node parent.now.entry (cast_unsigned w64 parent.now.signature) from)))) }
+    ensures written { OnOk result (ForSome (F.told f.old).files (λ from. ForEachGrowingOfKey (number ∷ []) key.now parent.now.entry (cast_unsigned w64 parent.now.signature) from (λ state layout unlinked at object node. ForSome (F.told f.new).files (KeepsParentThen (with_piece_written state at object number place piece.now) layout unlinked at (with_piece object number place piece.now) node parent.now.entry (cast_unsigned w64 parent.now.signature) from)))) }
 
     // At each word what was at rest is found: an object that isn't settled isn't.
     ensures stops { ForSome (F.told f.old).files (λ from. ForEachGrowingOfKey (number ∷ []) key.now parent.now.entry (cast_unsigned w64 parent.now.signature) from (λ state layout unlinked at object node. Passes (F.told f.old) (F.told f.new) (Finds (rest state)))) }
@@ -110,7 +110,7 @@ fn write_covered<F: Folder>(
     requires few { length bytes.now ≤ part_size }
     requires inside { offset + length bytes.now ≤ largest_offset }
     requires is_open { ForSome (F.told f.old).files (IsOpen files.old) }
-    ensures written { OnOk result (ForSome (F.told f.old).files (λ from. ForEachGrowingOfKey (covered_parts offset (length bytes.now)) key.now parent.now.entry (cast_unsigned w64 parent.now.signature) from (λ state layout unlinked at object node. ForSome (F.told f.new).files (KeepsParentThen (with_bytes_written state at object offset bytes.now) unlinked at (with_bytes object offset bytes.now) node parent.now.entry (cast_unsigned w64 parent.now.signature) from)))) }
+    ensures written { OnOk result (ForSome (F.told f.old).files (λ from. ForEachGrowingOfKey (covered_parts offset (length bytes.now)) key.now parent.now.entry (cast_unsigned w64 parent.now.signature) from (λ state layout unlinked at object node. ForSome (F.told f.new).files (KeepsParentThen (with_bytes_written state at object offset bytes.now) layout unlinked at (with_bytes object offset bytes.now) node parent.now.entry (cast_unsigned w64 parent.now.signature) from)))) }
     ensures stops { ForSome (F.told f.old).files (λ from. ForEachGrowingOfKey (covered_parts offset (length bytes.now)) key.now parent.now.entry (cast_unsigned w64 parent.now.signature) from (λ state layout unlinked at object node. Passes (F.told f.old) (F.told f.new) (Finds (rest state)))) }
     ensures keeps { KeepsStanding files.old files.new }
     ensures is_open { OnOk result (ForSome (F.told f.new).files (IsOpen files.new)) }
@@ -154,7 +154,7 @@ pub fn write<F: Folder>(
     requires is_open { ForSome (F.told f.old).files (IsOpen files.old) }
 
     // Each state that was kept, with such an object, is kept with the bytes written and the covered parts in front, but for the counters.
-    ensures written { OnOk result (ForSome (F.told f.old).files (λ from. ForEachGrowing (covered_parts offset (length bytes.now)) parent.now.node parent.now.entry (cast_unsigned w64 parent.now.signature) from (λ state layout unlinked number object. ForSome (F.told f.new).files (KeepsParentThen (with_bytes_written state number object offset bytes.now) unlinked number (with_bytes object offset bytes.now) parent.now.node parent.now.entry (cast_unsigned w64 parent.now.signature) from)))) }
+    ensures written { OnOk result (ForSome (F.told f.old).files (λ from. ForEachGrowing (covered_parts offset (length bytes.now)) parent.now.node parent.now.entry (cast_unsigned w64 parent.now.signature) from (λ state layout unlinked number object. ForSome (F.told f.new).files (KeepsParentThen (with_bytes_written state number object offset bytes.now) layout unlinked number (with_bytes object offset bytes.now) parent.now.node parent.now.entry (cast_unsigned w64 parent.now.signature) from)))) }
 
     // At each word what was at rest is found: an object that isn't settled isn't.
     ensures stops { ForSome (F.told f.old).files (λ from. ForEachGrowing (covered_parts offset (length bytes.now)) parent.now.node parent.now.entry (cast_unsigned w64 parent.now.signature) from (λ state layout unlinked number object. Passes (F.told f.old) (F.told f.new) (Finds (rest state)))) }

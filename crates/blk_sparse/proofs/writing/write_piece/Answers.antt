@@ -67,7 +67,7 @@ returns-clause-written g c =
     let same = of_z-to_z w64 (cast_unsigned w64 c.args.parent.now.signature) (let small = c.requires.signature in omega (arith, small)) in
     let at = stays-there (g.F.Folder.told c.args.f.now) (g.F.Folder.told c.find_part.new.f) from there c.in_ok-part.ensures.stays in
     let none = subst (IsPartFound layout object c.args.number) c.in_default.is (c.in_ok-part.ensures.part from there state layout unlinked number object node c.args.parent.now.entry (signed state layout unlinked number object node c.args.parent.now.entry (cast_unsigned w64 c.args.parent.now.signature) c.args.number from can _ same) of_key) in
-    subst (λ (t : ℕ). KeepsParentThen (with_piece_written state number object c.args.number c.args.place c.args.piece.now) unlinked number (with_piece object c.args.number c.args.place c.args.piece.now) node c.args.parent.now.entry t from image) same
+    subst (λ (t : ℕ). KeepsParentThen (with_piece_written state number object c.args.number c.args.place c.args.piece.now) layout unlinked number (with_piece object c.args.number c.args.place c.args.piece.now) node c.args.parent.now.entry t from image) same
     (ends from at state layout unlinked number object node (can-make state layout unlinked number object node c.args.parent.now.entry (cast_unsigned w64 c.args.parent.now.signature) c.args.number from can c.args.key.now _ _ same of_key c.child_name-len.ensures.name none) image now))
     c.make_part.ensures.written
 

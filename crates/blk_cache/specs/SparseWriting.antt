@@ -1,0 +1,127 @@
+-- A SparseWrite: what is asked of its end, and what the cache counts then.
+use Rattle.std.specs.Prelude.{◌≡◌, ◌<◌, ◌≤◌, ◌+◌, ◌%◌, ◌^◌, ℕ, List, [], false, if◌then◌else◌, length, map, true}
+use Rattle.std.specs.declared.option.Option.TheVariants.{None, Some}
+use Rattle.blk_image.specs.Image.{Image}
+use Rattle.blk_model.specs.Effects.{effect}
+use Rattle.blk_model.specs.Items.{part, plain, sparse}
+use Rattle.blk_model.specs.Refusals.{refused}
+use Rattle.blk_model.specs.Request.{to_sparse_write}
+use Rattle.blk_model.specs.Room.{items, total}
+use Rattle.blk_model.specs.Sizes.{most_items, part_size, parts_index_charge, signatures}
+use Rattle.blk_model.specs.Sparse.{covered_parts}
+use Rattle.blk_model.specs.State.{IsValidState, Object, State}
+use Rattle.blk_volume.specs.Layout.{Layout}
+use Rattle.blk_kept.specs.CommandStates.{with_room}
+use Rattle.blk_kept.specs.OneCallLaws.{Names}
+use Rattle.blk_sparse.specs.declared.measuring.Measured.{Measured}
+use Rattle.blk_sparse.specs.declared.storing.Target.{Target}
+use Rattle.blk_sparse.specs.Measuring.{IsMeasured}
+use Rattle.blk_sparse.specs.SparseObjects.{with_signature}
+use Rattle.blk_sparse.specs.SparseWrites.{signature_to, sparse_state}
+use Rattle.blk_cache.specs.declared.cache.Cache.{Cache}
+use Rattle.blk_cache.specs.declared.covered.Covered.{Covered}
+use Rattle.blk_cache.specs.CacheKeeping.{KeepsState}
+use Rattle.blk_cache.specs.Covering.{AreCovered}
+use Rattle.blk_cache.specs.Creating.{sum_within}
+
+-- The object.
+
+-- an object is plain, with nothing in its second and its third stream, or sparse with the signature
+pub record IsTargetOf (object : Object) (target : Target) : Type 0 where
+  pub of_plain : target.plain ≡ true → (object.shape ≡ plain) × ((object.streams.1 ≡ []) × (object.streams.2 ≡ []))
+  pub of_sparse : target.plain ≡ false → object.shape ≡ sparse (signature_to target)
+
+-- a plain one gets the signature of the moment
+abbrev pub IsSignedBy : (moment : ℕ) → Target → Type 0
+IsSignedBy moment target = target.plain ≡ true → signature_to target ≡ moment % signatures
+
+-- the same with this node and this record
+abbrev pub own_target : (node entry : ℕ) → Target → Target
+own_target node entry target = record { parent = record { entry = entry; node = node; signature = target.parent.signature }; plain = target.plain }
+
+-- The change.
+
+-- the live object of a handle isn't settled, and gets the bytes: the state with them is charged for so much more and so many items more, which a cache may have
+pub record CanStore (state : State) (handle offset : ℕ) (bytes : List ℕ) (target : Target) (more_bytes more_items : ℕ) : Type 0 where
+  pub number : ℕ
+  pub object : Object
+  pub names : Names state handle number object
+  pub live : object.live ≡ true
+  pub unsettled : object.settled ≡ false
+  pub is : IsTargetOf object target
+  pub total_more : total (sparse_state state number object (signature_to target) offset bytes) ≡ total state + more_bytes
+  pub items_more : items (sparse_state state number object (signature_to target) offset bytes) ≡ items state + more_items
+  pub few : items state + more_items ≤ most_items
+  pub within : total state + more_bytes < 2 ^ 64
+
+-- a cache keeps some state whose object can get them
+pub record KeepsToStore (cache : Cache) (handle offset : ℕ) (bytes : List ℕ) (target : Target) (more_bytes more_items : ℕ) (image : Image) : Type 0 where
+  pub state : State
+  pub kept : KeepsState cache state image
+  pub can : CanStore state handle offset bytes target more_bytes more_items
+
+-- What is counted.
+
+-- how much more an object is charged as a main item once it is sparse
+abbrev pub index_charge : Target → ℕ
+index_charge target = if target.plain then parts_index_charge else 0
+
+-- the items and the bytes are so many more, and those of the open objects by the index of a plain one; all else is as before
+pub record CountsParts (old new : Cache) (target : Target) (more_bytes more_items : ℕ) : Type 0 where
+  pub items : new.items ≡ sum_within old.items more_items
+  pub bytes : new.bytes ≡ sum_within old.bytes more_bytes
+  pub open_bytes : new.open_bytes ≡ sum_within old.open_bytes (index_charge target)
+  pub limits : new.limits ≡ old.limits
+  pub handles : new.handles ≡ old.handles
+  pub files : new.files ≡ old.files
+  pub mark : new.mark ≡ old.mark
+  pub notes : new.notes ≡ old.notes
+
+-- The end.
+
+-- a cache keeps what a SparseWrite leaves of a state once all that it evicts is out; it isn't refused, and it raises what is kept by so much and so many items
+pub record IsReadyToStore (cache : Cache) (state : State) (moment handle offset : ℕ) (bytes : List ℕ) (target : Target) (more_bytes more_items : ℕ) (image : Image) : Type 0 where
+  pub valid : IsValidState state
+  pub passes : refused moment (to_sparse_write handle offset bytes) state ≡ None
+  pub kept : KeepsState cache (with_room state moment (to_sparse_write handle offset bytes)) image
+  pub number : ℕ
+  pub object : Object
+  pub names : Names (with_room state moment (to_sparse_write handle offset bytes)) handle number object
+  pub live : object.live ≡ true
+  pub is : IsTargetOf object target
+  pub signed : IsSignedBy moment target
+  pub total_more : total (effect moment (to_sparse_write handle offset bytes) (with_room state moment (to_sparse_write handle offset bytes))) ≡ total (with_room state moment (to_sparse_write handle offset bytes)) + more_bytes
+  pub items_more : items (effect moment (to_sparse_write handle offset bytes) (with_room state moment (to_sparse_write handle offset bytes))) ≡ items (with_room state moment (to_sparse_write handle offset bytes)) + more_items
+  pub few : items (with_room state moment (to_sparse_write handle offset bytes)) + more_items ≤ most_items
+  pub within : total (with_room state moment (to_sparse_write handle offset bytes)) + more_bytes < 2 ^ 64
+
+-- a cache is ready for a SparseWrite of some state
+pub record IsReadyToStoreSome (cache : Cache) (handle offset : ℕ) (bytes : List ℕ) (target : Target) (more_bytes more_items : ℕ) (image : Image) : Type 0 where
+  pub state : State
+  pub moment : ℕ
+  pub ready : IsReadyToStore cache state moment handle offset bytes target more_bytes more_items image
+
+-- Before room is made.
+
+-- the parts that a SparseWrite covers, as they are measured
+abbrev pub covered_of : Measured → Covered
+covered_of found = record { first = found.first; second = found.second; bytes = found.charged }
+
+-- are covered so
+abbrev pub MeasuredPartsAreCovered : Type 0
+MeasuredPartsAreCovered =
+    (cache : Cache) (state : State) (image : Image) (k : KeepsState cache state image) (handle number : ℕ) (object : Object) (target : Target) (offset count : ℕ) (found : Measured) → Names state handle number object → object.live ≡ true
+    → IsTargetOf object target → 1 ≤ count → count ≤ part_size → IsMeasured k.layout (with_signature object (signature_to target)) (signature_to target) offset count found
+    → AreCovered state k.layout (map (part object.key) (covered_parts offset count)) (covered_of found)
+
+-- so much more is kept after some bytes, and so many items more
+pub record IsRaisedBy (state : State) (moment handle offset : ℕ) (bytes : List ℕ) (more_bytes more_items : ℕ) : Type 0 where
+  pub total_more : total (effect moment (to_sparse_write handle offset bytes) state) ≡ total state + more_bytes
+  pub items_more : items (effect moment (to_sparse_write handle offset bytes) state) ≡ items state + more_items
+
+-- as it is measured, with the index of an object that is plain
+abbrev pub SparseWritesRaiseAsMeasured : Type 0
+SparseWritesRaiseAsMeasured =
+    (state : State) (moment handle number : ℕ) (object : Object) (target : Target) (offset : ℕ) (bytes : List ℕ) (layout : Layout) (found : Measured) → IsValidState state → Names state handle number object
+    → IsTargetOf object target → IsSignedBy moment target → 1 ≤ length bytes → length bytes ≤ part_size → IsMeasured layout (with_signature object (signature_to target)) (signature_to target) offset (length bytes) found
+    → IsRaisedBy state moment handle offset bytes (found.bytes + index_charge target) found.items

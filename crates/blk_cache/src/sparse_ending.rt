@@ -1,0 +1,147 @@
+// The end of a SparseWrite: its object is unsettled, and then the bytes are stored and counted.
+ghost use Rattle.std.specs.Prelude.{◌≡◌, ◌≤◌, ◌<◌, ◌+◌, IfOk, IsSome, None, OnOk, length};
+ghost use Rattle.std.specs.Option.{ForSome};
+ghost use Rattle.blk_image.specs.Told.{Passes, Rises};
+ghost use Rattle.blk_io.specs.Faults.{IfDamaged, IfDevice};
+ghost use Rattle.blk_model.specs.Holding.{rest};
+ghost use Rattle.blk_model.specs.Request.{to_sparse_write};
+ghost use Rattle.blk_model.specs.Sizes.{largest_offset, part_size, signatures};
+ghost use Rattle.blk_model.specs.State.{State};
+ghost use Rattle.blk_model.specs.declared.Answer.TheVariants as answer;
+ghost use Rattle.blk_disk.specs.Open.{IsOpen};
+ghost use Rattle.blk_handles.specs.Bindings.{binding_of};
+ghost use Rattle.blk_kept.specs.Changes.{Finds};
+ghost use Rattle.blk_kept.specs.Commands.{IsDone, MayStop};
+ghost use Rattle.blk_object.specs.FailedChecks.{IsFailedCheck};
+ghost use Rattle.blk_sparse.specs.SparseWrites.{signature_to, sparse_state};
+ghost use Rattle.blk_cache.specs.CacheKeeping.{KeepsState};
+ghost use Rattle.blk_cache.specs.SparseWriting.{CanStore, CountsParts, IsReadyToStore, IsReadyToStoreSome, KeepsToStore, own_target};
+
+use crate::cache::Cache;
+use blk_handles::OpenObject;
+use blk_io::{Fault, Folder};
+use blk_model::Answer;
+use blk_sparse::{Parent, Target, store_sparse};
+
+// What a sparse object is charged for the index of its parts.
+const PARTS_INDEX: u64 = 8256;
+
+impl Cache {
+    /// Ends a SparseWrite of some bytes that isn't refused, once all that it evicts is out: its object is unsettled, and
+    /// then it gets the bytes, which raise what is kept by so many bytes and items.
+    pub(crate) fn end_sparse_write<F: Folder>(
+        &mut self,
+        f: &mut F,
+        handle: u16,
+        target: &Target,
+        offset: u64,
+        bytes: &[u8],
+        more_bytes: u64,
+        more_items: u64,
+        moment: u64,
+    ) -> Result<Answer, Fault>
+        requires bound { IsSome (binding_of self.old.handles handle) }
+        requires signature { signature_to target.now < signatures }
+        requires some { 1 ≤ length bytes.now }
+        requires few { length bytes.now ≤ part_size }
+        requires inside { offset + length bytes.now ≤ largest_offset }
+        requires is_open { ForSome (F.told f.old).files (IsOpen self.old.files) }
+
+        // It is done, whatever state the SparseWrite began with, and may be stopped at each word.
+        ensures does { IfOk result (λ answer. ForSome (F.told f.old).files (λ from. (state : State) → IsReadyToStore self.old state moment handle offset bytes.now target.now more_bytes more_items from → IsDone (KeepsState self.new) (F.told f.new) moment (to_sparse_write handle offset bytes.now) answer state)) }
+        ensures stops { ForSome (F.told f.old).files (λ from. (state : State) → IsReadyToStore self.old state moment handle offset bytes.now target.now more_bytes more_items from → Passes (F.told f.old) (F.told f.new) (MayStop state moment (to_sparse_write handle offset bytes.now))) }
+
+        ensures wrote { IfOk result (λ given. given ≡ answer.Wrote (length bytes.now)) }
+        ensures notes { self.new.notes ≡ self.old.notes }
+        ensures mark { self.new.mark ≡ self.old.mark }
+        ensures is_open { OnOk result (ForSome (F.told f.new).files (IsOpen self.new.files)) }
+        ensures damaged { IfDamaged result (IsFailedCheck self.new.files (F.told f.new)) }
+        ensures untold { ForSome (F.told f.old).files (IsReadyToStoreSome self.old handle offset bytes.now target.now more_bytes more_items) → IfDamaged result (λ _. (F.told f.old).files ≡ None) }
+        ensures silent { (F.told f.old).files ≡ None → (F.told f.new).files ≡ None }
+        ensures later { F.faults f.old ≤ F.faults f.new }
+        ensures device { IfDevice result (Rises (F.faults f.old) (F.faults f.new)) }
+    {
+        self.unsettle(f, handle)?;
+        self.store_unsettled(
+            f, handle, target, offset, bytes, more_bytes, more_items, moment,
+        )?;
+        Ok(Answer::Wrote(bytes.len() as u64))
+    }
+
+    // Gives an object that isn't settled some bytes of sparse data, and counts what they raise.
+    fn store_unsettled<F: Folder>(
+        &mut self,
+        f: &mut F,
+        handle: u16,
+        target: &Target,
+        offset: u64,
+        bytes: &[u8],
+        more_bytes: u64,
+        more_items: u64,
+        moment: u64,
+    ) -> Result<(), Fault>
+        requires bound { IsSome (binding_of self.old.handles handle) }
+        requires signature { signature_to target.now < signatures }
+        requires some { 1 ≤ length bytes.now }
+        requires few { length bytes.now ≤ part_size }
+        requires inside { offset + length bytes.now ≤ largest_offset }
+        requires is_open { ForSome (F.told f.old).files (IsOpen self.old.files) }
+
+        // In the end each state that was kept, whose object can get them, is kept with them, and with its items in front.
+        ensures stored { OnOk result (ForSome (F.told f.old).files (λ from. (state : State) → KeepsState self.old state from → (can : CanStore state handle offset bytes.now target.now more_bytes more_items) → ForSome (F.told f.new).files (KeepsState self.new (sparse_state state can.number can.object (signature_to target.now) offset bytes.now)))) }
+
+        // At each word what was at rest is found.
+        ensures stops { ForSome (F.told f.old).files (λ from. (state : State) → KeepsState self.old state from → CanStore state handle offset bytes.now target.now more_bytes more_items → Passes (F.told f.old) (F.told f.new) (Finds (rest state))) }
+
+        ensures notes { self.new.notes ≡ self.old.notes }
+        ensures mark { self.new.mark ≡ self.old.mark }
+        ensures is_open { OnOk result (ForSome (F.told f.new).files (IsOpen self.new.files)) }
+        ensures damaged { IfDamaged result (IsFailedCheck self.new.files (F.told f.new)) }
+        ensures untold { ForSome (F.told f.old).files (KeepsToStore self.old handle offset bytes.now target.now more_bytes more_items) → IfDamaged result (λ _. (F.told f.old).files ≡ None) }
+        ensures silent { (F.told f.old).files ≡ None → (F.told f.new).files ≡ None }
+        ensures later { F.faults f.old ≤ F.faults f.new }
+        ensures device { IfDevice result (Rises (F.faults f.old) (F.faults f.new)) }
+    {
+        let Some(object) = self.handles.object(handle) else {
+            unreachable!();
+        };
+        let own = own_target(&object, target);
+        store_sparse(
+            f,
+            &mut self.files,
+            &own,
+            &mut self.name,
+            offset,
+            bytes,
+            more_items,
+            more_bytes,
+            moment,
+        )?;
+        self.count_parts(target, more_bytes, more_items);
+        Ok(())
+    }
+
+    // Counts so many bytes and items more, and the index of an object that was plain.
+    fn count_parts(&mut self, target: &Target, more_bytes: u64, more_items: u64)
+        ensures counts { CountsParts self.old self.new target.now more_bytes more_items }
+    {
+        self.items = self.items.saturating_add(more_items);
+        self.bytes = self.bytes.saturating_add(more_bytes);
+        let index = if target.plain { PARTS_INDEX } else { 0 };
+        self.open_bytes = self.open_bytes.saturating_add(index);
+    }
+}
+
+// The target with the record and the node of an open object.
+fn own_target(object: &OpenObject, target: &Target) -> Target
+    ensures { result ≡ own_target object.now.node object.now.entry target.now }
+{
+    Target {
+        parent: Parent {
+            entry: object.entry,
+            node: object.node,
+            signature: target.parent.signature,
+        },
+        plain: target.plain,
+    }
+}

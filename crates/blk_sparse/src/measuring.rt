@@ -1,0 +1,305 @@
+// What a write adds to an object with parts, measured before it is made.
+ghost use Rattle.std.specs.Prelude.{◌≡◌, ◌≤◌, ◌<◌, ◌+◌, ◌^◌, [], IfOk, IsTrue, None, length};
+ghost use Rattle.std.specs.Int.{cast_unsigned, w64};
+ghost use Rattle.std.specs.Option.{ForSome};
+ghost use Rattle.blk_image.specs.Told.{Rises, Stays};
+ghost use Rattle.blk_model.specs.Sizes.{blocks_index_charge, largest_offset, longest_key, part_count, part_size, signatures};
+ghost use Rattle.blk_format.specs.Address.{blocks_256, kind_of};
+ghost use Rattle.blk_model.specs.State.{Object};
+ghost use Rattle.blk_format.specs.Names.{child_name, longest_name};
+ghost use Rattle.blk_volume.specs.Layout.{Layout};
+ghost use Rattle.blk_io.specs.Faults.{IfDamaged, IfDevice};
+ghost use Rattle.blk_disk.specs.Open.{IsOpen};
+ghost use Rattle.blk_disk.specs.Tables.{stands_among};
+ghost use Rattle.blk_object.specs.FailedChecks.{IsFailedCheck};
+ghost use Rattle.blk_sparse.specs.Measuring.{ForEachParentMeasured, ForEachPartMeasured, ForEachPlainMeasured, IsMeasured, IsOne, IsPieceMeasured, IsTwo, one_if_none};
+ghost use Rattle.blk_sparse.specs.Parts.{ForEachOfKey};
+ghost use Rattle.blk_sparse.specs.SparseObjects.{with_signature};
+
+use crate::children::{Parent, read_key};
+use crate::parts::find_part;
+use blk_addr::Addr;
+use blk_disk::BlockFiles;
+use blk_entry::{node_of, read_head};
+use blk_io::{Fault, Folder};
+use blk_object::charge_of_head;
+use blk_ranges::{LONGEST_KEY, PART_SIZE, child_name, child_of};
+
+// What a part is charged for the index of its blocks.
+const BLOCKS_INDEX: u64 = 192;
+
+// The stream of a part that has its data.
+const DATA: usize = 1;
+
+/// What a write adds to an object with parts, and which of the parts that it covers there are.
+#[derive(Clone, Copy, Debug)]
+pub struct Measured {
+    /// The nodes of those that there are, two at most.
+    pub first: Option<Addr>,
+    pub second: Option<Addr>,
+    /// What these are charged.
+    pub charged: u64,
+    /// How much more the covered parts are charged then, and how many of them are made.
+    pub bytes: u64,
+    pub items: u64,
+}
+
+// A covered part: its node and its charge, where there is the part, and how much more it is charged after the write.
+#[derive(Clone, Copy, Debug)]
+pub(crate) struct Piece {
+    pub(crate) node: Option<Addr>,
+    pub(crate) charged: u64,
+    pub(crate) bytes: u64,
+}
+
+/// Measures what a write of some bytes adds to an object with parts. Nothing is written.
+///
+/// The key is read from the parent's record into the front of `name`, and the names of the parts are made behind the
+/// longest key. Each covered part is searched, and two folder calls read one that there is.
+pub fn measure<F: Folder>(
+    f: &mut F,
+    files: &BlockFiles,
+    parent: &Parent,
+    name: &mut [u8],
+    offset: u64,
+    count: u64,
+) -> Result<Measured, Fault>
+    requires kind { kind_of parent.now.entry ≡ blocks_256 }
+    requires stands { IsTrue (stands_among files.now parent.now.entry) }
+    requires signature { cast_unsigned w64 parent.now.signature < signatures }
+    requires name { longest_key + longest_name ≤ length name.old }
+    requires some { 1 ≤ count }
+    requires few { count ≤ part_size }
+    requires inside { offset + count ≤ largest_offset }
+    requires is_open { ForSome (F.told f.old).files (IsOpen files.now) }
+    ensures measured { IfOk result (λ found. ForSome (F.told f.old).files (λ from. ForEachParentMeasured parent.now.node parent.now.entry (cast_unsigned w64 parent.now.signature) from (λ layout object. IsMeasured layout object (cast_unsigned w64 parent.now.signature) offset count found))) }
+    ensures stays { Stays (F.told f.old) (F.told f.new) }
+
+    // A damage is a check that fails on what is read here. A folder that tells its files, with such an object, gives none.
+    ensures damaged { IfDamaged result (IsFailedCheck files.now (F.told f.new)) }
+    ensures untold { ForSome (F.told f.old).files (λ from. ForEachParentMeasured parent.now.node parent.now.entry (cast_unsigned w64 parent.now.signature) from (λ layout object. IfDamaged result (λ _. (F.told f.old).files ≡ None))) }
+
+    ensures later { F.faults f.old ≤ F.faults f.new }
+    ensures device { IfDevice result (Rises (F.faults f.old) (F.faults f.new)) }
+{
+    let len = read_key(f, files, parent.entry, name)?;
+    let (key, room) = name.split_at_mut(LONGEST_KEY as usize);
+    measure_covered(f, files, &key[..len], parent.signature, room, offset, count)
+}
+
+// Measures the parts that a write covers, of an object with a key.
+fn measure_covered<F: Folder>(
+    f: &mut F,
+    files: &BlockFiles,
+    key: &[u8],
+    signature: i64,
+    room: &mut [u8],
+    offset: u64,
+    count: u64,
+) -> Result<Measured, Fault>
+    requires some_key { 1 ≤ length key.now }
+    requires short_key { length key.now ≤ longest_key }
+    requires signature { cast_unsigned w64 signature < signatures }
+    requires room { longest_name ≤ length room.old }
+    requires some { 1 ≤ count }
+    requires few { count ≤ part_size }
+    requires inside { offset + count ≤ largest_offset }
+    requires is_open { ForSome (F.told f.old).files (IsOpen files.now) }
+    ensures measured { IfOk result (λ found. ForSome (F.told f.old).files (λ from. ForEachOfKey key.now (cast_unsigned w64 signature) from (λ state layout unlinked at object node entry. IsMeasured layout object (cast_unsigned w64 signature) offset count found))) }
+    ensures room { length room.new ≡ length room.old }
+    ensures stays { Stays (F.told f.old) (F.told f.new) }
+    ensures damaged { IfDamaged result (IsFailedCheck files.now (F.told f.new)) }
+    ensures untold { ForSome (F.told f.old).files (λ from. ForEachOfKey key.now (cast_unsigned w64 signature) from (λ state layout unlinked at object node entry. IfDamaged result (λ _. (F.told f.old).files ≡ None))) }
+    ensures later { F.faults f.old ≤ F.faults f.new }
+    ensures device { IfDevice result (Rises (F.faults f.old) (F.faults f.new)) }
+{
+    let (number, place) = child_of(offset);
+    let end = u64::from(place) + count;
+    let size = u64::from(PART_SIZE);
+    if end <= size {
+        let piece = measure_piece(f, files, key, signature, number, room, end)?;
+        return Ok(measured_one(&piece));
+    }
+    let front = measure_piece(f, files, key, signature, number, room, size)?;
+    let back = measure_piece(f, files, key, signature, number + 1, room, end - size)?;
+    Ok(measured_two(&front, &back))
+}
+
+// Measures one part, for data up to an end.
+fn measure_piece<F: Folder>(
+    f: &mut F,
+    files: &BlockFiles,
+    key: &[u8],
+    signature: i64,
+    number: u32,
+    room: &mut [u8],
+    end: u64,
+) -> Result<Piece, Fault>
+    requires some { 1 ≤ length key.now }
+    requires short { length key.now ≤ longest_key }
+    requires signature { cast_unsigned w64 signature < signatures }
+    requires number { number < part_count }
+    requires room { longest_name ≤ length room.old }
+    requires end { end ≤ part_size }
+    requires is_open { ForSome (F.told f.old).files (IsOpen files.now) }
+    ensures measured { IfOk result (λ piece. ForSome (F.told f.old).files (λ from. ForEachOfKey key.now (cast_unsigned w64 signature) from (λ state layout unlinked at object node entry. IsPieceMeasured layout object (cast_unsigned w64 signature) number end piece))) }
+    ensures light { IfOk result (λ piece. piece.charged + piece.bytes < 2 ^ 35) }
+    ensures room { length room.new ≡ length room.old }
+    ensures stays { Stays (F.told f.old) (F.told f.new) }
+    ensures damaged { IfDamaged result (IsFailedCheck files.now (F.told f.new)) }
+    ensures untold { ForSome (F.told f.old).files (λ from. ForEachOfKey key.now (cast_unsigned w64 signature) from (λ state layout unlinked at object node entry. IfDamaged result (λ _. (F.told f.old).files ≡ None))) }
+    ensures later { F.faults f.old ≤ F.faults f.new }
+    ensures device { IfDevice result (Rises (F.faults f.old) (F.faults f.new)) }
+{
+    match find_part(f, files, key, signature, number, room)? {
+        Some(part) => measure_there(f, files, part, end),
+        None => Ok(measure_new(key, signature, number, room, end)),
+    }
+}
+
+// Measures a part that there is, by its record.
+fn measure_there<F: Folder>(
+    f: &mut F,
+    files: &BlockFiles,
+    part: Addr,
+    end: u64,
+) -> Result<Piece, Fault>
+    requires kind { kind_of part ≡ blocks_256 }
+    requires stands { IsTrue (stands_among files.now part) }
+    requires end { end ≤ part_size }
+    requires is_open { ForSome (F.told f.old).files (IsOpen files.now) }
+    ensures measured { IfOk result (λ piece. ForSome (F.told f.old).files (λ from. ForEachPartMeasured part from (λ layout object signature n. IsPieceMeasured layout object signature n end piece))) }
+    ensures light { IfOk result (λ piece. piece.charged + piece.bytes < 2 ^ 35) }
+    ensures stays { Stays (F.told f.old) (F.told f.new) }
+    ensures damaged { IfDamaged result (IsFailedCheck files.now (F.told f.new)) }
+    ensures untold { ForSome (F.told f.old).files (λ from. ForEachPartMeasured part from (λ layout object signature n. IfDamaged result (λ _. (F.told f.old).files ≡ None))) }
+    ensures later { F.faults f.old ≤ F.faults f.new }
+    ensures device { IfDevice result (Rises (F.faults f.old) (F.faults f.new)) }
+{
+    let node = node_of(f, files, part)?;
+    let head = read_head(f, files, part)?;
+    Ok(Piece {
+        node: Some(node),
+        charged: charge_of_head(&head),
+        bytes: end.saturating_sub(u64::from(head.sizes[DATA])),
+    })
+}
+
+// Measures a part that is made: its name, its data up to the end, and the index of its blocks.
+fn measure_new(key: &[u8], signature: i64, number: u32, room: &mut [u8], end: u64) -> Piece
+    requires some { 1 ≤ length key.now }
+    requires short { length key.now ≤ longest_key }
+    requires signature { cast_unsigned w64 signature < signatures }
+    requires number { number < part_count }
+    requires room { longest_name ≤ length room.old }
+    requires end { end ≤ part_size }
+    ensures node { result.node ≡ None }
+    ensures charged { result.charged ≡ 0 }
+    ensures bytes { result.bytes ≡ length (child_name key.now (cast_unsigned w64 signature) number) + end + blocks_index_charge }
+    ensures light { result.bytes < 2 ^ 35 }
+    ensures room { length room.new ≡ length room.old }
+{
+    let len = child_name(key, signature, number, room);
+    Piece {
+        node: None,
+        charged: 0,
+        bytes: len as u64 + end + BLOCKS_INDEX,
+    }
+}
+
+// What is measured where one part is covered.
+fn measured_one(piece: &Piece) -> Measured
+    requires light { piece.now.charged + piece.now.bytes < 2 ^ 35 }
+    ensures { IsOne piece.now result }
+{
+    Measured {
+        first: piece.node,
+        second: None,
+        charged: piece.charged,
+        bytes: piece.bytes,
+        items: one_if_none(&piece.node),
+    }
+}
+
+// What is measured where two are.
+fn measured_two(front: &Piece, back: &Piece) -> Measured
+    requires front { front.now.charged + front.now.bytes < 2 ^ 35 }
+    requires back { back.now.charged + back.now.bytes < 2 ^ 35 }
+    ensures { IsTwo front.now back.now result }
+{
+    Measured {
+        first: front.node,
+        second: back.node,
+        charged: front.charged + back.charged,
+        bytes: front.bytes + back.bytes,
+        items: one_if_none(&front.node) + one_if_none(&back.node),
+    }
+}
+
+// One where there is no node.
+fn one_if_none(node: &Option<Addr>) -> u64
+    ensures { result ≡ one_if_none node.now }
+{
+    match node {
+        Some(_) => 0,
+        None => 1,
+    }
+}
+
+/// Measures what a write of some bytes adds to a plain object that becomes sparse with a signature, but for the index of
+/// its parts: each covered part is made. Nothing is written, and two folder calls read the key into the front of `name`.
+pub fn measure_plain<F: Folder>(
+    f: &mut F,
+    files: &BlockFiles,
+    entry: Addr,
+    signature: i64,
+    name: &mut [u8],
+    offset: u64,
+    count: u64,
+) -> Result<Measured, Fault>
+    requires kind { kind_of entry ≡ blocks_256 }
+    requires stands { IsTrue (stands_among files.now entry) }
+    requires signature { cast_unsigned w64 signature < signatures }
+    requires name { longest_key + longest_name ≤ length name.old }
+    requires some { 1 ≤ count }
+    requires few { count ≤ part_size }
+    requires inside { offset + count ≤ largest_offset }
+    requires is_open { ForSome (F.told f.old).files (IsOpen files.now) }
+    ensures measured { IfOk result (λ found. ForSome (F.told f.old).files (λ from. ForEachPlainMeasured entry from (λ layout object. IsMeasured layout (with_signature object (cast_unsigned w64 signature)) (cast_unsigned w64 signature) offset count found))) }
+    ensures stays { Stays (F.told f.old) (F.told f.new) }
+
+    // A damage is a check that fails on what is read here. A folder that tells its files, with such an object, gives none.
+    ensures damaged { IfDamaged result (IsFailedCheck files.now (F.told f.new)) }
+    ensures untold { ForSome (F.told f.old).files (λ from. ForEachPlainMeasured entry from (λ layout object. IfDamaged result (λ _. (F.told f.old).files ≡ None))) }
+
+    ensures later { F.faults f.old ≤ F.faults f.new }
+    ensures device { IfDevice result (Rises (F.faults f.old) (F.faults f.new)) }
+{
+    let len = read_key(f, files, entry, name)?;
+    let (key, room) = name.split_at_mut(LONGEST_KEY as usize);
+    Ok(measure_made(&key[..len], signature, room, offset, count))
+}
+
+// Measures the parts that a write covers, of an object with a key that has none.
+fn measure_made(key: &[u8], signature: i64, room: &mut [u8], offset: u64, count: u64) -> Measured
+    requires some_key { 1 ≤ length key.now }
+    requires short_key { length key.now ≤ longest_key }
+    requires signature { cast_unsigned w64 signature < signatures }
+    requires room { longest_name ≤ length room.old }
+    requires some { 1 ≤ count }
+    requires few { count ≤ part_size }
+    requires inside { offset + count ≤ largest_offset }
+    ensures measured { (layout : Layout) (object : Object) → object.key ≡ key.now → object.parts ≡ [] → IsMeasured layout object (cast_unsigned w64 signature) offset count result }
+    ensures room { length room.new ≡ length room.old }
+{
+    let (number, place) = child_of(offset);
+    let end = u64::from(place) + count;
+    let size = u64::from(PART_SIZE);
+    if end <= size {
+        let piece = measure_new(key, signature, number, room, end);
+        return measured_one(&piece);
+    }
+    let front = measure_new(key, signature, number, room, size);
+    let back = measure_new(key, signature, number + 1, room, end - size);
+    measured_two(&front, &back)
+}

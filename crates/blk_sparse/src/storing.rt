@@ -1,0 +1,154 @@
+// Sparse data are written to an open object: it is used, becomes sparse where it is plain, gets the bytes, and is counted.
+ghost use Rattle.std.specs.Prelude.{◌≡◌, ◌≤◌, ◌<◌, ◌+◌, [], IsTrue, None, OnOk, length};
+ghost use Rattle.std.specs.Int.{cast_unsigned, w64};
+ghost use Rattle.std.specs.Option.{ForSome};
+ghost use Rattle.blk_image.specs.Told.{Passes, Rises};
+ghost use Rattle.blk_model.specs.Holding.{rest};
+ghost use Rattle.blk_model.specs.Sizes.{largest_offset, longest_key, part_size, signatures};
+ghost use Rattle.blk_model.specs.Sparse.{covered_parts};
+ghost use Rattle.blk_model.specs.State.{State};
+ghost use Rattle.blk_format.specs.Address.{blocks_256, kind_of};
+ghost use Rattle.blk_format.specs.Names.{longest_name};
+ghost use Rattle.blk_volume.specs.Layout.{Layout};
+ghost use Rattle.blk_io.specs.Faults.{IfDamaged, IfDevice};
+ghost use Rattle.blk_disk.specs.Open.{IsOpen};
+ghost use Rattle.blk_disk.specs.Tables.{stands_among};
+ghost use Rattle.blk_alloc.specs.Extending.{KeepsStanding};
+ghost use Rattle.blk_kept.specs.Changes.{Finds};
+ghost use Rattle.blk_object.specs.FailedChecks.{IsFailedCheck};
+ghost use Rattle.blk_sparse.specs.SparseObjects.{ForEachGrowing, KeepsParentThen, with_bytes, with_bytes_written, with_signature};
+ghost use Rattle.blk_sparse.specs.SparseWrites.{CountsAfter, ForEachTarget, ForEachToStore, IsCountedThen, IsStored, signature_to, with_parent_used};
+
+use crate::beginning::begin;
+use crate::children::Parent;
+use crate::parts::use_entry;
+use crate::writing::write;
+use blk_disk::BlockFiles;
+use blk_io::{Fault, Folder};
+use blk_object::count_more;
+
+/// An object to which sparse data are written: its record, its node and the signature of its parts, which a plain one
+/// gets; and whether it is plain.
+#[derive(Clone, Copy, Debug)]
+pub struct Target {
+    pub parent: Parent,
+    pub plain: bool,
+}
+
+/// Writes sparse data to a live object that isn't settled: its main item is used, it becomes sparse where it is plain,
+/// the bytes are written, and so many items more and so much more charge are counted in the index.
+///
+/// The key is read from the record into the front of `name`, and the names of the parts are made behind the longest key.
+pub fn store_sparse<F: Folder>(
+    f: &mut F,
+    files: &mut BlockFiles,
+    target: &Target,
+    name: &mut [u8],
+    offset: u64,
+    bytes: &[u8],
+    entries: u64,
+    charge: u64,
+    moment: u64,
+) -> Result<(), Fault>
+    requires kind { kind_of target.now.parent.entry ≡ blocks_256 }
+    requires stands { IsTrue (stands_among files.old target.now.parent.entry) }
+    requires signature { signature_to target.now < signatures }
+    requires name { longest_key + longest_name ≤ length name.old }
+    requires few { length bytes.now ≤ part_size }
+    requires inside { offset + length bytes.now ≤ largest_offset }
+    requires is_open { ForSome (F.told f.old).files (IsOpen files.old) }
+
+    // Each state that was kept, with such an object, is kept with the bytes, and with its items in front.
+    ensures stored { OnOk result (ForSome (F.told f.old).files (λ from. ForEachToStore target.now offset bytes.now entries charge from (λ state layout number object. ForSome (F.told f.new).files (IsStored state layout number object target.now offset bytes.now from)))) }
+
+    // At each word what was at rest is found: an object that isn't settled isn't.
+    ensures stops { ForSome (F.told f.old).files (λ from. ForEachToStore target.now offset bytes.now entries charge from (λ state layout number object. Passes (F.told f.old) (F.told f.new) (Finds (rest state)))) }
+
+    // What stood still does.
+    ensures keeps { KeepsStanding files.old files.new }
+    ensures is_open { OnOk result (ForSome (F.told f.new).files (IsOpen files.new)) }
+
+    // A damage is a check that fails on what is read here; nothing is written after it.
+    ensures damaged { IfDamaged result (IsFailedCheck files.new (F.told f.new)) }
+
+    // A folder that tells its files, with such an object, gives no damage.
+    ensures untold { ForSome (F.told f.old).files (λ from. ForEachToStore target.now offset bytes.now entries charge from (λ state layout number object. IfDamaged result (λ _. (F.told f.old).files ≡ None))) }
+
+    ensures silent { (F.told f.old).files ≡ None → (F.told f.new).files ≡ None }
+    ensures later { F.faults f.old ≤ F.faults f.new }
+    ensures device { IfDevice result (Rises (F.faults f.old) (F.faults f.new)) }
+{
+    use_and_begin(f, files, target, moment)?;
+    write_and_count(
+        f,
+        files,
+        &target.parent,
+        name,
+        offset,
+        bytes,
+        entries,
+        charge,
+        moment,
+    )
+}
+
+// Uses the main item of an object, which becomes sparse where it is plain.
+fn use_and_begin<F: Folder>(
+    f: &mut F,
+    files: &mut BlockFiles,
+    target: &Target,
+    moment: u64,
+) -> Result<(), Fault>
+    requires kind { kind_of target.now.parent.entry ≡ blocks_256 }
+    requires stands { IsTrue (stands_among files.old target.now.parent.entry) }
+    requires signature { signature_to target.now < signatures }
+    requires is_open { ForSome (F.told f.old).files (IsOpen files.old) }
+    ensures begun { OnOk result (ForSome (F.told f.old).files (λ from. ForEachTarget [] target.now from (λ state layout unlinked number object. ForSome (F.told f.new).files (KeepsParentThen (with_parent_used state number object (signature_to target.now)) layout unlinked number (with_signature object (signature_to target.now)) target.now.parent.node target.now.parent.entry (signature_to target.now) from)))) }
+    ensures stops { ForSome (F.told f.old).files (λ from. ForEachTarget [] target.now from (λ state layout unlinked number object. Passes (F.told f.old) (F.told f.new) (Finds (rest state)))) }
+    ensures keeps { KeepsStanding files.old files.new }
+    ensures is_open { OnOk result (ForSome (F.told f.new).files (IsOpen files.new)) }
+    ensures damaged { IfDamaged result (IsFailedCheck files.new (F.told f.new)) }
+    ensures untold { ForSome (F.told f.old).files (λ from. ForEachTarget [] target.now from (λ state layout unlinked number object. IfDamaged result (λ _. (F.told f.old).files ≡ None))) }
+    ensures silent { (F.told f.old).files ≡ None → (F.told f.new).files ≡ None }
+    ensures later { F.faults f.old ≤ F.faults f.new }
+    ensures device { IfDevice result (Rises (F.faults f.old) (F.faults f.new)) }
+{
+    use_entry(f, files, target.parent.entry, moment)?;
+    if target.plain {
+        return begin(f, files, target.parent.entry, target.parent.signature);
+    }
+    Ok(())
+}
+
+// Writes bytes to an object with parts, and counts so many items more, and so much more charge, in the index.
+fn write_and_count<F: Folder>(
+    f: &mut F,
+    files: &mut BlockFiles,
+    parent: &Parent,
+    name: &mut [u8],
+    offset: u64,
+    bytes: &[u8],
+    entries: u64,
+    charge: u64,
+    moment: u64,
+) -> Result<(), Fault>
+    requires kind { kind_of parent.now.entry ≡ blocks_256 }
+    requires stands { IsTrue (stands_among files.old parent.now.entry) }
+    requires signature { cast_unsigned w64 parent.now.signature < signatures }
+    requires name { longest_key + longest_name ≤ length name.old }
+    requires few { length bytes.now ≤ part_size }
+    requires inside { offset + length bytes.now ≤ largest_offset }
+    requires is_open { ForSome (F.told f.old).files (IsOpen files.old) }
+    ensures counted { OnOk result (ForSome (F.told f.old).files (λ from. ForEachGrowing (covered_parts offset (length bytes.now)) parent.now.node parent.now.entry (cast_unsigned w64 parent.now.signature) from (λ state layout unlinked number object. (counted : State) (laid : Layout) → CountsAfter counted laid (with_bytes_written state number object offset bytes.now) entries charge from → ForSome (F.told f.new).files (IsCountedThen (with_bytes_written state number object offset bytes.now) layout unlinked number (with_bytes object offset bytes.now) parent.now.node parent.now.entry (cast_unsigned w64 parent.now.signature) from)))) }
+    ensures stops { ForSome (F.told f.old).files (λ from. ForEachGrowing (covered_parts offset (length bytes.now)) parent.now.node parent.now.entry (cast_unsigned w64 parent.now.signature) from (λ state layout unlinked number object. Passes (F.told f.old) (F.told f.new) (Finds (rest state)))) }
+    ensures keeps { KeepsStanding files.old files.new }
+    ensures is_open { OnOk result (ForSome (F.told f.new).files (IsOpen files.new)) }
+    ensures damaged { IfDamaged result (IsFailedCheck files.new (F.told f.new)) }
+    ensures untold { ForSome (F.told f.old).files (λ from. ForEachGrowing (covered_parts offset (length bytes.now)) parent.now.node parent.now.entry (cast_unsigned w64 parent.now.signature) from (λ state layout unlinked number object. IfDamaged result (λ _. (F.told f.old).files ≡ None))) }
+    ensures silent { (F.told f.old).files ≡ None → (F.told f.new).files ≡ None }
+    ensures later { F.faults f.old ≤ F.faults f.new }
+    ensures device { IfDevice result (Rises (F.faults f.old) (F.faults f.new)) }
+{
+    write(f, files, parent, name, offset, bytes, moment)?;
+    count_more(f, files, entries, charge)
+}
