@@ -98,7 +98,7 @@ abbrev row-key : Row → List ℕ
 row-key (main_row key shape streams) = key
 row-key (part_row key n value) = key
 
-abbrev row-shape : Row → Shape
+abbrev pub row-shape : Row → Shape
 row-shape (main_row key shape streams) = shape
 row-shape (part_row key n value) = plain
 
@@ -106,7 +106,7 @@ abbrev row-streams : Row → Streams
 row-streams (main_row key shape streams) = streams
 row-streams (part_row key n value) = ([], [], [])
 
-no-main : (key : List ℕ) (n : ℕ) (value : _) (other : List ℕ) (shape : Shape) (streams : Streams) → part_row key n value ≡ main_row other shape streams → ⊥
+pub no-main : (key : List ℕ) (n : ℕ) (value : _) (other : List ℕ) (shape : Shape) (streams : Streams) → part_row key n value ≡ main_row other shape streams → ⊥
 no-main key n value other shape streams e = cc
 
 -- ---- what the record says
@@ -200,7 +200,7 @@ module _ (state : State) (layout : Layout) (unlinked : List ℕ) (image : Image)
       let one : d.loaded ≡ is.loaded = some_inj (sym d.here ∙ ap layout.at (sym place) ∙ is.at) in
       ap row_of_loaded (sym one) ∙ d.row
 
-  bound-row : row_of_loaded is.loaded ≡ main_row is.object.key is.object.shape is.object.streams
+  pub bound-row : row_of_loaded is.loaded ≡ main_row is.object.key is.object.shape is.object.streams
   bound-row = by is.object.live refl where
     by : (t : Bool) → is.object.live ≡ t → row_of_loaded is.loaded ≡ main_row is.object.key is.object.shape is.object.streams
     by true e = live-row e

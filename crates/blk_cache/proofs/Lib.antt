@@ -39,6 +39,7 @@ pub mod EvictedGroups
 pub mod BoundRecords
 pub mod CloseGone
 pub mod Asks
+pub mod SparseAsks
 pub mod Sizes
 pub mod ReadSteps
 pub mod PrintedReads
@@ -53,7 +54,10 @@ pub mod UnsettleSteps
 pub mod WriteRoom
 pub mod ListedRows
 pub mod Replies
+pub mod SparseReplies
+pub mod PresentReads
 pub mod StepEnds
+pub mod SparseUses
 pub mod WriteRefusing
 pub mod WriteSteps
 pub mod WriteUses

@@ -7,7 +7,7 @@ use Rattle.blk_image.specs.Image.{Image}
 use Rattle.blk_image.specs.Told.{Told}
 use Rattle.blk_model.specs.Bounds.{bounds_of}
 use Rattle.blk_model.specs.Bytes.{bytes_from}
-use Rattle.blk_model.specs.Effects.{effect, object_of, stream_of}
+use Rattle.blk_model.specs.Effects.{effect, object_of, sparse_used, stream_of}
 use Rattle.blk_model.specs.Refusals.{evicted, first_refusal, is_kept_from_streams, names_none, no_name, no_stream, refusals, refused}
 use Rattle.blk_model.specs.Holding.{rows}
 use Rattle.blk_model.specs.Reply.{answer_of, answered, gave}
@@ -34,44 +34,43 @@ use Rattle.blk_cache.specs.Reading.{bytes_there}
 use Rattle.blk_cache.specs.ReadPrinting.{ForRead, KeepsToRead}
 use Rattle.blk_items.specs.RoomPrinting.{Prints, PrintsInPart}
 use Rattle.blk_cache.specs.Replying.{ForBytes, ForReply, ForRows, IsAfter, bytes_text, rows_text, text_of_reply}
-use Rattle.blk_cache.specs.Stepping.{IsPlain}
 use Rattle.blk_items.proofs.RoomTexts.{appends-longer, printed-on}
 use Rattle.blk_cache.proofs.Sizes.{named-object}
 
 -- ---- the text is the map's
 
-done-text : (moment : ℕ) (request : Request) (state : State) → IsPlain request → text_of_reply request (answer_of (outcome moment request state None).reply) (outcome moment request state None).state ≡ reply_text (outcome moment request state None).reply
-unfolding outcome reply evicted effect without reply_text
-done-text moment (to_create handle key) state b = refl
-done-text moment (to_open handle key) state b = refl
-done-text moment (to_read handle stream offset count) state b = refl
-done-text moment (to_write handle stream offset cut bytes) state b = refl
-done-text moment (to_size handle stream) state b = refl
-done-text moment (to_sparse_write handle offset bytes) state b = absurd b
-done-text moment (to_sparse_read handle offset count) state b = absurd b
-done-text moment (to_sparse_range handle offset count) state b = absurd b
-done-text moment (to_doom handle) state b = refl
-done-text moment (to_doom_key key) state b = refl
-done-text moment (to_close handle) state b = refl
-done-text moment to_list state b = refl
-done-text moment (to_trim bytes) state b = refl
-done-text moment to_total state b = refl
+done-text : (moment : ℕ) (request : Request) (state : State) → text_of_reply request (answer_of (outcome moment request state None).reply) (outcome moment request state None).state ≡ reply_text (outcome moment request state None).reply
+unfolding outcome reply evicted effect without reply_text sparse_used
+done-text moment (to_create handle key) state = refl
+done-text moment (to_open handle key) state = refl
+done-text moment (to_read handle stream offset count) state = refl
+done-text moment (to_write handle stream offset cut bytes) state = refl
+done-text moment (to_size handle stream) state = refl
+done-text moment (to_sparse_write handle offset bytes) state = refl
+done-text moment (to_sparse_read handle offset count) state = refl
+done-text moment (to_sparse_range handle offset count) state = refl
+done-text moment (to_doom handle) state = refl
+done-text moment (to_doom_key key) state = refl
+done-text moment (to_close handle) state = refl
+done-text moment to_list state = refl
+done-text moment (to_trim bytes) state = refl
+done-text moment to_total state = refl
 
 refused-text : (moment : ℕ) (request : Request) (state : State) (why : Refusal) → text_of_reply request (answer_of (outcome moment request state (Some why)).reply) (outcome moment request state (Some why)).state ≡ reply_text (outcome moment request state (Some why)).reply
 unfolding outcome
 refused-text moment request state why = refl
 
-outcome-text : (moment : ℕ) (request : Request) (state : State) (why : Option Refusal) → IsPlain request → text_of_reply request (answer_of (outcome moment request state why).reply) (outcome moment request state why).state ≡ reply_text (outcome moment request state why).reply
-outcome-text moment request state None b = done-text moment request state b
-outcome-text moment request state (Some why) b = refused-text moment request state why
+outcome-text : (moment : ℕ) (request : Request) (state : State) (why : Option Refusal) → text_of_reply request (answer_of (outcome moment request state why).reply) (outcome moment request state why).state ≡ reply_text (outcome moment request state why).reply
+outcome-text moment request state None = done-text moment request state
+outcome-text moment request state (Some why) = refused-text moment request state why
 
-step-text : (moment : ℕ) (request : Request) (state : State) → IsPlain request → text_of_reply request (answer_of (step state moment request).reply) (step state moment request).state ≡ reply_text (step state moment request).reply
+step-text : (moment : ℕ) (request : Request) (state : State) → text_of_reply request (answer_of (step state moment request).reply) (step state moment request).state ≡ reply_text (step state moment request).reply
 unfolding step
-step-text moment request state b = outcome-text moment request state (refused moment request state) b
+step-text moment request state = outcome-text moment request state (refused moment request state)
 
 -- by the state after a command the text of its reply is that of the map's
-pub text-after : (moment : ℕ) (request : Request) (state : State) (given : Answer) → IsPlain request → given ≡ answer_of (step state moment request).reply → text_of_reply request given (step state moment request).state ≡ reply_text (step state moment request).reply
-text-after moment request state given b is = ap (λ (a : Answer). text_of_reply request a (step state moment request).state) is ∙ step-text moment request state b
+pub text-after : (moment : ℕ) (request : Request) (state : State) (given : Answer) → given ≡ answer_of (step state moment request).reply → text_of_reply request given (step state moment request).state ≡ reply_text (step state moment request).reply
+text-after moment request state given is = ap (λ (a : Answer). text_of_reply request a (step state moment request).state) is ∙ step-text moment request state
 
 -- ---- the state that is kept is the one after the command
 
@@ -108,7 +107,7 @@ module _ (moment handle stream offset count : ℕ) (before : State) where
       ap (λ (s : State). stream_refusal s handle stream) (now ∙ step-is e) ∙ same-refusal ∙ e
 
 -- a handle names an object
-record NamesOne (state : State) (handle : ℕ) : Type 0 where
+pub record NamesOne (state : State) (handle : ℕ) : Type 0 where
   pub number : ℕ
   pub object : Object
   pub names : Names state handle number object
@@ -129,12 +128,15 @@ some-there : {A : Type 0} (o : Option A) → IsSome o → (a : A) × (o ≡ Some
 some-there None is = absurd (let z : false ≡ true = is in cc)
 some-there (Some a) is = (a, refl)
 
-names-one : (state : State) (handle stream : ℕ) → IsValidState state → stream_refusal state handle stream ≡ None → NamesOne state handle
-names-one state handle stream valid there =
-    let named : is_none (named_by state handle) ≡ false = or-right (no_name handle) (is_none (named_by state handle)) (first-of (names_none state handle) (no_stream stream) (is_kept_from_streams state handle stream) refusal.BadHandle refusal.BadStream refusal.SparseStream there) in
+pub named-one : (state : State) (handle : ℕ) → IsValidState state → names_none state handle ≡ false → NamesOne state handle
+named-one state handle valid there =
+    let named : is_none (named_by state handle) ≡ false = or-right (no_name handle) (is_none (named_by state handle)) there in
     let number = not-none (named_by state handle) named in
     let object = some-there (object_at state number.0) (subst (λ (o : Option ℕ). IfSome o (λ n. IsSome (object_at state n))) number.1 (valid.bound handle)) in
     record { number = number.0; object = object.0; names = record { names = number.1; here = object.1 } }
+
+names-one : (state : State) (handle stream : ℕ) → IsValidState state → stream_refusal state handle stream ≡ None → NamesOne state handle
+names-one state handle stream valid there = named-one state handle valid (first-of (names_none state handle) (no_stream stream) (is_kept_from_streams state handle stream) refusal.BadHandle refusal.BadStream refusal.SparseStream there)
 
 module _ (moment handle stream offset count : ℕ) (before : State) where
   -- it gives as many bytes as there are
@@ -185,22 +187,22 @@ module _ (cache : Cache) (told : Told) (handle stream offset count number : ℕ)
       subst P (ap (λ (o : Object). reply_text (gave (bytes_from (stream_of o stream) offset count))) (sym (named-object state handle one.number one.object one.names)))
       (reads image here state k one.number count one.object one.names there said)
 
--- a command that isn't a Read reads none
-pub no-bytes : (given : Command) (state : State) → ((handle stream offset count : ℕ) → given ≡ command.Read handle stream offset count → ⊥) → bytes_text (request_of given) state ≡ []
-no-bytes (command.Create handle key) state other = refl
-no-bytes (command.Open handle key) state other = refl
-no-bytes (command.Read handle stream offset count) state other = absurd (other handle stream offset count refl)
-no-bytes (command.Write handle stream offset cut bytes) state other = refl
-no-bytes (command.Size handle stream) state other = refl
-no-bytes (command.SparseWrite handle offset bytes) state other = refl
-no-bytes (command.SparseRead handle offset count) state other = refl
-no-bytes (command.SparseRange handle offset count) state other = refl
-no-bytes (command.Doom handle) state other = refl
-no-bytes (command.DoomKey key) state other = refl
-no-bytes (command.Close handle) state other = refl
-no-bytes command.List state other = refl
-no-bytes (command.Trim bytes) state other = refl
-no-bytes command.Total state other = refl
+-- a command that is neither a Read nor a SparseRead reads none
+pub no-bytes : (given : Command) (state : State) → ((handle stream offset count : ℕ) → given ≡ command.Read handle stream offset count → ⊥) → ((handle offset count : ℕ) → given ≡ command.SparseRead handle offset count → ⊥) → bytes_text (request_of given) state ≡ []
+no-bytes (command.Create handle key) state other sparse = refl
+no-bytes (command.Open handle key) state other sparse = refl
+no-bytes (command.Read handle stream offset count) state other sparse = absurd (other handle stream offset count refl)
+no-bytes (command.Write handle stream offset cut bytes) state other sparse = refl
+no-bytes (command.Size handle stream) state other sparse = refl
+no-bytes (command.SparseWrite handle offset bytes) state other sparse = refl
+no-bytes (command.SparseRead handle offset count) state other sparse = absurd (sparse handle offset count refl)
+no-bytes (command.SparseRange handle offset count) state other sparse = refl
+no-bytes (command.Doom handle) state other sparse = refl
+no-bytes (command.DoomKey key) state other sparse = refl
+no-bytes (command.Close handle) state other sparse = refl
+no-bytes command.List state other sparse = refl
+no-bytes (command.Trim bytes) state other sparse = refl
+no-bytes command.Total state other sparse = refl
 
 -- ---- the parts of a reply
 

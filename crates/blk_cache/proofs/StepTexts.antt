@@ -6,7 +6,7 @@ use Rattle.blk_image.specs.Steps.{after}
 use Rattle.blk_image.specs.Told.{Told}
 use Rattle.blk_io.specs.Streams.{Appends}
 use Rattle.blk_model.specs.Refusals.{evicted, refused}
-use Rattle.blk_model.specs.Request.{Request, to_close, to_doom, to_doom_key, to_list, to_open, to_read, to_size, to_total}
+use Rattle.blk_model.specs.Request.{Request, to_close, to_doom, to_doom_key, to_list, to_open, to_read, to_size, to_sparse_range, to_sparse_read, to_total}
 use Rattle.blk_model.specs.Room.{Group}
 use Rattle.blk_model.specs.State.{State}
 use Rattle.blk_model.specs.Step.{outcome, step}
@@ -19,7 +19,7 @@ use Rattle.blk_cache.specs.CacheKeeping.{KeepsState}
 use Rattle.blk_cache.specs.CommandClauses.{KeepsAny}
 use Rattle.blk_items.specs.RoomPrinting.{Prints, PrintsInPart}
 use Rattle.blk_cache.specs.Replying.{ForReply, KeepsAfter}
-use Rattle.blk_cache.specs.Stepping.{IsPlain, SaysEvicted, SaysFront, evicted_first, outcome_text}
+use Rattle.blk_cache.specs.Stepping.{SaysEvicted, SaysFront, evicted_first, outcome_text}
 use Rattle.blk_items.proofs.RoomTexts.{none-printed, part-on, printed-on}
 use Rattle.blk_cache.proofs.Replies.{is-after, text-after}
 
@@ -31,6 +31,8 @@ EvictsNothing (to_open handle key) = Unit {0}
 EvictsNothing (to_read handle stream offset count) = Unit {0}
 EvictsNothing (to_size handle stream) = Unit {0}
 EvictsNothing (to_close handle) = Unit {0}
+EvictsNothing (to_sparse_read handle offset count) = Unit {0}
+EvictsNothing (to_sparse_range handle offset count) = Unit {0}
 EvictsNothing (to_doom handle) = Unit {0}
 EvictsNothing (to_doom_key key) = Unit {0}
 EvictsNothing to_list = Unit {0}
@@ -43,6 +45,8 @@ none-evicted moment (to_open handle key) state n = refl
 none-evicted moment (to_read handle stream offset count) state n = refl
 none-evicted moment (to_size handle stream) state n = refl
 none-evicted moment (to_close handle) state n = refl
+none-evicted moment (to_sparse_read handle offset count) state n = refl
+none-evicted moment (to_sparse_range handle offset count) state n = refl
 none-evicted moment (to_doom handle) state n = refl
 none-evicted moment (to_doom_key key) state n = refl
 none-evicted moment to_list state n = refl
@@ -84,13 +88,13 @@ module _ (old done : Cache) (told mid now : Told) (moment : ℕ) (request : Requ
     by None is = is
     by (Some image) is = let one = any image is in absurd (no (sym none ∙ (still-told one.0 image is one.1).1))
 
-  module _ (built : IsPlain request) (answer : Answer) (does : Does (KeepsState old) (KeepsState done) told now moment request answer) where
+  module _ (answer : Answer) (does : Does (KeepsState old) (KeepsState done) told now moment request answer) where
     -- what is said of the reply, by the state after the command
     replied : (P : List ℕ → Type 0) → ForReply done now request answer P → ForKept (KeepsState old) told (λ state. P (reply_text (step state moment request).reply))
     replied P says image there state k =
         let d = does image there state k in
         let here = still-told state image there k in
-        subst P (text-after moment request state answer built d.answered) (says here.0 here.1 (step state moment request).state (d.kept here.0 here.1) (is-after moment request state answer d.answered))
+        subst P (text-after moment request state answer d.answered) (says here.0 here.1 (step state moment request).state (d.kept here.0 here.1) (is-after moment request state answer d.answered))
 
     -- the cache keeps the state after the command, where it kept one
     pub any-after : ForSome told.files (KeepsAny old) → (image : Image) → told.files ≡ Some image → ForSome now.files (KeepsAfter done request answer)

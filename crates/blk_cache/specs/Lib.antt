@@ -23,4 +23,6 @@ pub mod WritingLaws
 pub mod SparseWriting
 pub mod Listing
 pub mod Replying
+pub mod SparseAsking
+pub mod SparseReading
 pub mod RoomTold

@@ -1,12 +1,14 @@
 -- The bytes of a Read, as they are printed.
-use Rattle.std.specs.Prelude.{◌≡◌, ◌+◌, ◌^◌, ◌&&◌, ℕ, Bool, List, length, nat_lt}
+use Rattle.std.specs.Prelude.{◌≡◌, ◌≤◌, ◌+◌, ◌^◌, ◌&&◌, ℕ, Bool, List, length, nat_lt, true}
 use Rattle.std.specs.declared.option.Option.TheVariants.{None}
 use Rattle.blk_image.specs.Image.{Image}
 use Rattle.blk_image.specs.Told.{Told}
 use Rattle.blk_model.specs.Bytes.{bytes_from}
 use Rattle.blk_model.specs.Effects.{stream_of}
+use Rattle.blk_model.specs.Items.{is_sparse}
 use Rattle.blk_model.specs.Reply.{gave}
-use Rattle.blk_model.specs.Sizes.{stream_count}
+use Rattle.blk_model.specs.Sizes.{largest_offset, part_size, stream_count}
+use Rattle.blk_model.specs.Sparse.{sparse_bytes}
 use Rattle.blk_model.specs.State.{Object, State}
 use Rattle.blk_volume.specs.Entries.{stream}
 use Rattle.blk_script.specs.Reply.{reply_text}
@@ -37,3 +39,26 @@ pub record KeepsToRead (cache : Cache) (handle stream offset number : ℕ) (imag
 -- whether an object has a stream with this number, and so many bytes from an offset on end where a u64 can tell
 abbrev pub can_be_read : (stream offset number : ℕ) → Bool
 can_be_read stream offset number = nat_lt stream stream_count && nat_lt (offset + number) (2 ^ 64)
+
+-- Of sparse data.
+
+-- a handle names a live sparse object, of which so many bytes from an offset on are all present
+pub record NamesPresent (state : State) (handle offset number : ℕ) : Type 0 where
+  pub n : ℕ
+  pub object : Object
+  pub names : Names state handle n object
+  pub live : object.live ≡ true
+  pub has_parts : is_sparse object.shape ≡ true
+  pub all : length (sparse_bytes object offset number) ≡ number
+  pub few : number ≤ part_size
+  pub inside : offset + number ≤ largest_offset
+
+-- what holds of the text of a SparseRead's reply, in each state that is kept where there is such an object
+abbrev pub ForPresent : Cache → Told → (handle offset number : ℕ) → (List ℕ → Type 0) → Type 0
+ForPresent cache told handle offset number P = ForKept (KeepsState cache) told (λ state. (p : NamesPresent state handle offset number) → P (reply_text (gave (sparse_bytes p.object offset number))))
+
+-- a cache keeps some state in which there is one
+pub record KeepsPresent (cache : Cache) (handle offset number : ℕ) (image : Image) : Type 0 where
+  pub state : State
+  pub kept : KeepsState cache state image
+  pub present : NamesPresent state handle offset number

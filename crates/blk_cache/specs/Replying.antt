@@ -7,7 +7,8 @@ use Rattle.blk_model.specs.Bytes.{bytes_from}
 use Rattle.blk_model.specs.Effects.{object_of, stream_of}
 use Rattle.blk_model.specs.Holding.{rows}
 use Rattle.blk_model.specs.Reply.{answer_of, answered, gave}
-use Rattle.blk_model.specs.Request.{Request, to_read}
+use Rattle.blk_model.specs.Request.{Request, to_read, to_sparse_read}
+use Rattle.blk_model.specs.Sparse.{sparse_bytes}
 use Rattle.blk_model.specs.State.{State}
 use Rattle.blk_model.specs.Step.{step}
 use Rattle.blk_model.specs.declared.Answer.{Answer}
@@ -17,9 +18,10 @@ use Rattle.blk_kept.specs.Commands.{ForKept}
 use Rattle.blk_cache.specs.declared.cache.Cache.{Cache}
 use Rattle.blk_cache.specs.CacheKeeping.{KeepsState}
 
--- the line of the bytes that a request reads in a state
+-- the line of the bytes that a request reads in a state, which its use of items leaves
 abbrev pub bytes_text : Request → State → List ℕ
 bytes_text (to_read handle stream offset count) state = reply_text (gave (bytes_from (stream_of (object_of state handle) stream) offset count))
+bytes_text (to_sparse_read handle offset count) state = reply_text (gave (sparse_bytes (object_of state handle) offset count))
 bytes_text _ state = []
 
 -- the lines of the rows of a state, and then the line of an answer

@@ -6,7 +6,7 @@ use Rattle.blk_io.specs.Streams.{Appends}
 use Rattle.blk_io.specs.declared.fault.Damage.{Damage}
 use Rattle.blk_io.specs.declared.fault.Fault.{Fault}
 use Rattle.blk_io.specs.declared.fault.Fault.TheVariants as fault
-use Rattle.blk_model.specs.Request.{Request, to_sparse_range, to_sparse_read, to_sparse_write}
+use Rattle.blk_model.specs.Request.{Request, to_sparse_write}
 use Rattle.blk_model.specs.Step.{Outcome, step}
 use Rattle.blk_kept.specs.Commands.{ForKept}
 use Rattle.blk_script.specs.Reply.{evicted_text, reply_text}
@@ -69,11 +69,9 @@ IfStepDamaged (Err step_fault.Device) P = Unit {0}
 IfStepDamaged (Err step_fault.Sink) P = Unit {0}
 IfStepDamaged (Ok a) P = Unit {0}
 
--- Until sparse data is built.
+-- Until a SparseWrite is built.
 
--- a request is none of the three on sparse data
-abbrev pub IsPlain : Request → Type 0
-IsPlain (to_sparse_write handle offset bytes) = ⊥
-IsPlain (to_sparse_read handle offset count) = ⊥
-IsPlain (to_sparse_range handle offset count) = ⊥
-IsPlain _ = Unit {0}
+-- a request isn't one
+abbrev pub IsBuilt : Request → Type 0
+IsBuilt (to_sparse_write handle offset bytes) = ⊥
+IsBuilt _ = Unit {0}

@@ -5,6 +5,7 @@ ghost use Rattle.blk_image.specs.Told.{Rises, Stays};
 ghost use Rattle.blk_io.specs.Faults.{IfDamaged, IfDevice};
 ghost use Rattle.blk_model.specs.Reply.{answered};
 ghost use Rattle.blk_model.specs.Request.{request_of};
+ghost use Rattle.blk_disk.specs.Open.{IsOpen};
 ghost use Rattle.blk_object.specs.FailedChecks.{IsFailedCheck};
 ghost use Rattle.blk_script.specs.Reply.{reply_text};
 ghost use Rattle.blk_cache.specs.CommandClauses.{KeepsAny};
@@ -18,8 +19,8 @@ use blk_model::{Answer, Command};
 use blk_script::print_reply;
 
 impl Cache {
-    /// Prints the reply of a command that is done, unless the sink failed before: the bytes of a Read and the rows of a
-    /// List as the folder has them now, and else the line of the answer.
+    /// Prints the reply of a command that is done, unless the sink failed before: the bytes of a Read or a SparseRead
+    /// and the rows of a List as the folder has them now, and else the line of the answer.
     ///
     /// Nothing is written. After a fault a front of the reply is printed.
     pub(crate) fn reply<F: Folder, K: Sink>(
@@ -30,6 +31,7 @@ impl Cache {
         command: &Command,
         answer: &Answer,
     ) -> Result<(), Fault>
+        requires is_open { ForSome (F.told f.old).files (IsOpen self.old.files) }
         ensures printed { OnOk result (ForReply self.old (F.told f.old) (request_of command.now) answer.now (Prints failed.old failed.new (K.written out.old) (K.written out.new))) }
         ensures part { ForReply self.old (F.told f.old) (request_of command.now) answer.now (PrintsInPart failed.old (K.written out.old) (K.written out.new)) }
         ensures failed { FailsWhereItRose failed.old failed.new (K.faults out.old) (K.faults out.new) }
@@ -55,19 +57,21 @@ impl Cache {
 
     // Prints the bytes that a command reads, of which there is this number.
     fn print_bytes_for<F: Folder, K: Sink>(
-        &self,
+        &mut self,
         f: &mut F,
         out: &mut K,
         failed: &mut bool,
         command: &Command,
         number: u64,
     ) -> Result<(), Fault>
-        ensures printed { OnOk result (ForBytes self.now (F.told f.old) (request_of command.now) number (Prints failed.old failed.new (K.written out.old) (K.written out.new))) }
-        ensures part { ForBytes self.now (F.told f.old) (request_of command.now) number (PrintsInPart failed.old (K.written out.old) (K.written out.new)) }
+        requires is_open { ForSome (F.told f.old).files (IsOpen self.old.files) }
+        ensures printed { OnOk result (ForBytes self.old (F.told f.old) (request_of command.now) number (Prints failed.old failed.new (K.written out.old) (K.written out.new))) }
+        ensures part { ForBytes self.old (F.told f.old) (request_of command.now) number (PrintsInPart failed.old (K.written out.old) (K.written out.new)) }
         ensures failed { FailsWhereItRose failed.old failed.new (K.faults out.old) (K.faults out.new) }
+        ensures others { OnlyRoomChanges self.old self.new }
         ensures stays { Stays (F.told f.old) (F.told f.new) }
-        ensures damaged { IfDamaged result (IsFailedCheck self.now.files (F.told f.new)) }
-        ensures untold { ForSome (F.told f.old).files (KeepsAfter self.now (request_of command.now) (Answer.Bytes number)) → IfDamaged result (λ _. (F.told f.old).files ≡ None) }
+        ensures damaged { IfDamaged result (IsFailedCheck self.new.files (F.told f.new)) }
+        ensures untold { ForSome (F.told f.old).files (KeepsAfter self.old (request_of command.now) (Answer.Bytes number)) → IfDamaged result (λ _. (F.told f.old).files ≡ None) }
         ensures later { F.faults f.old ≤ F.faults f.new }
         ensures later_out { K.faults out.old ≤ K.faults out.new }
         ensures device { IfDevice result (Rises (F.faults f.old) (F.faults f.new)) }
@@ -79,6 +83,9 @@ impl Cache {
                 offset,
                 ..
             } => self.print_read(f, out, failed, handle, stream, offset, number),
+            Command::SparseRead { handle, offset, .. } => {
+                self.print_sparse(f, out, failed, handle, offset, number)
+            }
             _ => Ok(()),
         }
     }

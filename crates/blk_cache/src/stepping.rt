@@ -14,17 +14,18 @@ ghost use Rattle.blk_object.specs.FailedChecks.{IsFailedCheck};
 ghost use Rattle.blk_cache.specs.CacheKeeping.{KeepsState};
 ghost use Rattle.blk_cache.specs.CommandClauses.{IsRefused, KeepsAny, OnlyNotesChange};
 ghost use Rattle.blk_items.specs.RoomPrinting.{FailsWhereItRose};
-ghost use Rattle.blk_cache.specs.Stepping.{IfDone, IfSink, IfStepDamaged, IfStepDevice, IsPlain, SaysEvicted, SaysFront, evicted_first, outcome_text};
+ghost use Rattle.blk_cache.specs.Stepping.{IfDone, IfSink, IfStepDamaged, IfStepDevice, IsBuilt, SaysEvicted, SaysFront, evicted_first, outcome_text};
 
 use crate::cache::Cache;
 use crate::fault::StepFault;
+use crate::sparse_reading::Wanted;
 use blk_io::{Fault, Folder, Sink};
 use blk_model::{Answer, Command};
 
 impl Cache {
     /// Does one command at a moment, in microseconds since 1970 UTC: what it evicts is printed as it goes, all is written,
-    /// it is noted that one command more is done, and then the reply is printed: the bytes of a Read and the rows of a List
-    /// as the folder has them then.
+    /// it is noted that one command more is done, and then the reply is printed: the bytes of a Read or a SparseRead and
+    /// the rows of a List as the folder has them then.
     ///
     /// A refusal is an answer, and changes nothing; its note is made too.
     ///
@@ -41,7 +42,7 @@ impl Cache {
         command: &Command,
     ) -> Result<Answer, StepFault>
         requires is_open { ForSome (F.told f.old).files (IsOpen self.old.files) }
-        requires plain { IsPlain (request_of command.now) }
+        requires built { IsBuilt (request_of command.now) }
 
         // The answer is the map's, and the state after it is kept, also where only the sink failed.
         ensures answered { IfOk result (λ answer. ForKept (KeepsState self.old) (F.told f.old) (λ state. answer ≡ answer_of (step state moment (request_of command.now)).reply)) }
@@ -141,7 +142,7 @@ impl Cache {
         command: &Command,
     ) -> Result<Answer, Fault>
         requires is_open { ForSome (F.told f.old).files (IsOpen self.old.files) }
-        requires plain { IsPlain (request_of command.now) }
+        requires built { IsBuilt (request_of command.now) }
         ensures does { IfOk result (λ answer. Does (KeepsState self.old) (KeepsState self.new) (F.told f.old) (F.told f.new) moment (request_of command.now) answer) }
         ensures stops { MayStopAtEach (KeepsState self.old) (F.told f.old) (F.told f.new) moment (request_of command.now) }
         ensures says { OnOk result (SaysEvicted self.old (F.told f.old) moment (request_of command.now) failed.old failed.new (K.written out.old) (K.written out.new)) }
@@ -180,9 +181,17 @@ impl Cache {
             Command::List => self.list(f),
             Command::Trim { bytes } => self.trim(f, out, failed, bytes),
             Command::Total => Ok(self.total()),
-            Command::SparseWrite { .. }
-            | Command::SparseRead { .. }
-            | Command::SparseRange { .. } => unreachable!(),
+            Command::SparseWrite { .. } => unreachable!(),
+            Command::SparseRead {
+                handle,
+                offset,
+                count,
+            } => self.use_sparse(f, Wanted::Bytes, handle, offset, count, moment),
+            Command::SparseRange {
+                handle,
+                offset,
+                count,
+            } => self.use_sparse(f, Wanted::Run, handle, offset, count, moment),
         }
     }
 

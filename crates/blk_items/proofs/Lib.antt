@@ -16,3 +16,4 @@ pub mod OpenTargets
 pub mod ListedRecords
 pub mod ListedLines
 pub mod PrintedRanges
+pub mod PresentRanges

@@ -1,7 +1,7 @@
 -- Bytes of a stream that are printed piece by piece.
 use Rattle.std.proofs.Common.{◌≡◌, ℕ, ◌+◌, ◌-◌, ◌≤◌, ◌<◌, Bool, List, [], ◌∷◌, ◌++◌, length, take, drop, Option, Some, sym, ap, subst, ◌∙◌, append_assoc, arith}
 use Rattle.std.specs.Prelude.{codes, min}
-use Rattle.std.proofs.lemmas.List.{append-nil, drop-drop, drop-take, drop_all, length-drop, length-take, take-append-drop, take-take, take_all}
+use Rattle.std.proofs.lemmas.List.{append-nil, drop-drop, drop-take, drop_all, length-append, length-drop, length-take, take-append-drop, take-take, take_all}
 use Rattle.hex.specs.Hex.{encode_lower}
 use Rattle.blk_image.specs.Image.{Image}
 use Rattle.blk_model.specs.Bytes.{bytes_from}
@@ -137,3 +137,40 @@ module _ (files : BlockFiles) (range : StreamRange) (image : Image) (p : HasByte
       subst (PrintsInPart f0 w0 w2) (sym line-is)
       (part-on f0 f1 w0 w1 w2 (codes "data " ++ (number_text range.count ++ codes " ")) (data_text p.bytes ++ 10 ∷ []) front
       (record { silent = middle.silent; front = appends-longer w1 w2 (data_text p.bytes) (10 ∷ []) middle.front }))
+
+-- ---- the line of two ranges
+
+module _ (files : BlockFiles) (first second : StreamRange) (image : Image) (p : HasBytes files first image) (q : HasBytes files second image) (some : 1 ≤ first.count) where
+  together : length (p.bytes ++ q.bytes) ≡ first.count + second.count
+  together = let a = p.long in let b = q.long in let both = length-append p.bytes q.bytes in omega (arith, a, b, both)
+
+  -- in the order in which it is printed
+  both-line : reply_text (gave (p.bytes ++ q.bytes)) ≡ (codes "data " ++ (number_text (first.count + second.count) ++ codes " ")) ++ (encode_lower p.bytes ++ (encode_lower q.bytes ++ 10 ∷ []))
+  both-line =
+      data-line (p.bytes ++ q.bytes)
+      ∙ ap (λ (n : ℕ). (codes "data " ++ (number_text n ++ codes " ")) ++ (data_text (p.bytes ++ q.bytes) ++ 10 ∷ [])) together
+      ∙ ap (λ (l : List ℕ). (codes "data " ++ (number_text (first.count + second.count) ++ codes " ")) ++ (l ++ 10 ∷ [])) (data_text-some (p.bytes ++ q.bytes) (let long = together in omega (arith, long, some)) ∙ encode_lower-append p.bytes q.bytes)
+      ∙ ap (λ (l : List ℕ). (codes "data " ++ (number_text (first.count + second.count) ++ codes " ")) ++ l) (append_assoc (encode_lower p.bytes) (encode_lower q.bytes) (10 ∷ []))
+
+  pub both-printed : (f0 f1 f2 f3 f4 : Bool) (w0 w1 w2 w3 w4 : Option (List ℕ)) → Prints f0 f1 w0 w1 (codes "data " ++ (number_text (first.count + second.count) ++ codes " ")) → Prints f1 f2 w1 w2 (encode_lower p.bytes) → Prints f2 f3 w2 w3 (encode_lower q.bytes) → Prints f3 f4 w3 w4 (10 ∷ [])
+      → Prints f0 f4 w0 w4 (reply_text (gave (p.bytes ++ q.bytes)))
+  both-printed f0 f1 f2 f3 f4 w0 w1 w2 w3 w4 front one two last =
+      subst (Prints f0 f4 w0 w4) (sym both-line)
+      (printed-on f0 f1 f4 w0 w1 w4 (codes "data " ++ (number_text (first.count + second.count) ++ codes " ")) (encode_lower p.bytes ++ (encode_lower q.bytes ++ 10 ∷ [])) front
+      (printed-on f1 f2 f4 w1 w2 w4 (encode_lower p.bytes) (encode_lower q.bytes ++ 10 ∷ []) one
+      (printed-on f2 f3 f4 w2 w3 w4 (encode_lower q.bytes) (10 ∷ []) two last)))
+
+  -- where the bytes of the first are printed in part
+  pub first-in-part : (f0 f1 : Bool) (w0 w1 w2 : Option (List ℕ)) → Prints f0 f1 w0 w1 (codes "data " ++ (number_text (first.count + second.count) ++ codes " ")) → PrintsInPart f1 w1 w2 (encode_lower p.bytes) → PrintsInPart f0 w0 w2 (reply_text (gave (p.bytes ++ q.bytes)))
+  first-in-part f0 f1 w0 w1 w2 front one =
+      subst (PrintsInPart f0 w0 w2) (sym both-line)
+      (part-on f0 f1 w0 w1 w2 (codes "data " ++ (number_text (first.count + second.count) ++ codes " ")) (encode_lower p.bytes ++ (encode_lower q.bytes ++ 10 ∷ [])) front
+      (record { silent = one.silent; front = appends-longer w1 w2 (encode_lower p.bytes) (encode_lower q.bytes ++ 10 ∷ []) one.front }))
+
+  -- where those of the second are
+  pub second-in-part : (f0 f1 f2 : Bool) (w0 w1 w2 w3 : Option (List ℕ)) → Prints f0 f1 w0 w1 (codes "data " ++ (number_text (first.count + second.count) ++ codes " ")) → Prints f1 f2 w1 w2 (encode_lower p.bytes) → PrintsInPart f2 w2 w3 (encode_lower q.bytes) → PrintsInPart f0 w0 w3 (reply_text (gave (p.bytes ++ q.bytes)))
+  second-in-part f0 f1 f2 w0 w1 w2 w3 front one two =
+      subst (PrintsInPart f0 w0 w3) (sym both-line)
+      (part-on f0 f1 w0 w1 w3 (codes "data " ++ (number_text (first.count + second.count) ++ codes " ")) (encode_lower p.bytes ++ (encode_lower q.bytes ++ 10 ∷ [])) front
+      (part-on f1 f2 w1 w2 w3 (encode_lower p.bytes) (encode_lower q.bytes ++ 10 ∷ []) one
+      (record { silent = two.silent; front = appends-longer w2 w3 (encode_lower q.bytes) (10 ∷ []) two.front })))

@@ -7,3 +7,4 @@ pub mod DoomingObjects
 pub mod ItemRows
 pub mod ListPlaces
 pub mod RangePrinting
+pub mod PresentPrinting

@@ -62,6 +62,43 @@ pub fn print_range<F: Folder, K: Sink>(
     Ok(())
 }
 
+/// Prints the line of bytes of two streams, one behind the other: how many they are together, and then the bytes.
+///
+/// Two folder calls are made for each 4096 bytes of either. Nothing is written. After a fault a front of the line is
+/// printed. A damage is one of `read`, or that a stream has become shorter.
+pub(crate) fn print_ranges<F: Folder, K: Sink>(
+    f: &mut F,
+    files: &BlockFiles,
+    out: &mut K,
+    failed: &mut bool,
+    first: &StreamRange,
+    second: &StreamRange,
+) -> Result<(), Fault>
+    requires some { 1 ≤ first.now.count }
+    requires together { first.now.count + second.now.count < 2 ^ 64 }
+    requires first_names { IsTrue (is_record_among files.now first.now.entry) }
+    requires second_names { IsTrue (is_record_among files.now second.now.entry) }
+    requires first_stream { first.now.stream < 3 }
+    requires second_stream { second.now.stream < 3 }
+    requires first_fits { first.now.offset + first.now.count < 2 ^ 64 }
+    requires second_fits { second.now.offset + second.now.count < 2 ^ 64 }
+    ensures printed { OnOk result (ForSome (F.told f.old).files (λ image. (p : HasBytes files.now first.now image) (q : HasBytes files.now second.now image) → Prints failed.old failed.new (K.written out.old) (K.written out.new) (reply_text (gave (p.bytes ++ q.bytes))))) }
+    ensures part { ForSome (F.told f.old).files (λ image. (p : HasBytes files.now first.now image) (q : HasBytes files.now second.now image) → PrintsInPart failed.old (K.written out.old) (K.written out.new) (reply_text (gave (p.bytes ++ q.bytes)))) }
+    ensures failed { FailsWhereItRose failed.old failed.new (K.faults out.old) (K.faults out.new) }
+    ensures stays { Stays (F.told f.old) (F.told f.new) }
+    ensures damaged { IfDamaged result (IsFailedCheck files.now (F.told f.new)) }
+    ensures untold { ForSome (F.told f.old).files (HasBytes files.now first.now) → ForSome (F.told f.old).files (HasBytes files.now second.now) → IfDamaged result (λ _. (F.told f.old).files ≡ None) }
+    ensures later { F.faults f.old ≤ F.faults f.new }
+    ensures later_out { K.faults out.old ≤ K.faults out.new }
+    ensures device { IfDevice result (Rises (F.faults f.old) (F.faults f.new)) }
+{
+    say_front(out, failed, first.count + second.count);
+    print_pieces(f, files, out, failed, first)?;
+    print_pieces(f, files, out, failed, second)?;
+    say_text(out, failed, b"\n");
+    Ok(())
+}
+
 // Prints bytes of a stream, `-` where there are none.
 fn print_data<F: Folder, K: Sink>(
     f: &mut F,

@@ -38,3 +38,5 @@ pub mod MeasuredParts
 pub mod MoreItems
 pub mod StoredObjects
 pub mod KeptParents
+pub mod UsedMains
+pub mod FrontRuns

@@ -77,7 +77,7 @@ head-of bytes index is = go (length bytes == 8256) refl (read_parent_head (conte
       }
 
 -- what begins otherwise is no index
-pub no-index : (bytes old new : List ℕ) (n : ℕ) → IsPiece bytes 0 old new n → 32796 ≤ length old → (read_head : Option ParentHead) → read_head ≡ None
+pub no-index : (bytes old new : List ℕ) (n : ℕ) → IsPiece bytes 0 old new n → 8256 ≤ length old → (read_head : Option ParentHead) → read_head ≡ None
     → option_map head_fields read_head ≡ (if nat_le 64 (length (take n new)) then read_parent_head (content (take n new)) else None) → read_parent_index bytes ≡ None
 no-index bytes old new n p room read_head none is = go (read_parent_index bytes) refl where
   go : (o : Option ParentIndex) → read_parent_index bytes ≡ o → o ≡ None
@@ -90,7 +90,7 @@ no-index bytes old new n p room read_head none is = go (read_parent_index bytes)
       absurd (none-some (sym (ap (option_map head_fields) none) ∙ is ∙ ap (λ (bs : List ℕ). if nat_le 64 (length bs) then read_parent_head (content bs) else None) whole ∙ head.head))
 
 -- what was read is the index
-module _ (image : Image) (entry : ℕ) (loaded : Loaded) (index : ParentIndex) (w : LoadsWith entry loaded image) (role : loaded.role ≡ IsParent index) (old new : List ℕ) (n : ℕ) (room : 32796 ≤ length old) (piece : ForSome (streams_at image entry) (λ (streams : List (List ℕ)). IsPiece (stream 2 streams) 0 old new n)) where
+module _ (image : Image) (entry : ℕ) (loaded : Loaded) (index : ParentIndex) (w : LoadsWith entry loaded image) (role : loaded.role ≡ IsParent index) (old new : List ℕ) (n : ℕ) (room : 8256 ≤ length old) (piece : ForSome (streams_at image entry) (λ (streams : List (List ℕ)). IsPiece (stream 2 streams) 0 old new n)) where
   head : IsHeadOf (stream 2 loaded.streams) index
   head = head-of (stream 2 loaded.streams) index (index-there image entry loaded index w role)
 

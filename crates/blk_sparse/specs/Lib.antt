@@ -10,3 +10,4 @@ pub mod SparseObjects
 pub mod SparseWrites
 pub mod NewParts
 pub mod Writing
+pub mod Finding

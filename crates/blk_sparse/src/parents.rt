@@ -32,7 +32,7 @@ use blk_disk::BlockFiles;
 use blk_entry::record_damage;
 use blk_io::{Fault, Folder};
 use blk_object::{Owned, doom_record, free_owned, take_main};
-use blk_ranges::ParentHead;
+use blk_ranges::{ParentHead, ParentMap};
 use blk_record::EntryView;
 use blk_stream::read;
 
@@ -100,7 +100,7 @@ pub fn remove_parent_with<F: Folder, E: FnMut(u32)>(
     ensures later { F.faults f.old ≤ F.faults f.new }
     ensures device { IfDevice result (Rises (F.faults f.old) (F.faults f.new)) }
 {
-    let signature = read_signature(f, files, found.entry, room)?;
+    let signature = read_signature(f, files, found.entry)?;
     take_main(f, files, found, node, owned.charge)?;
     drop_and_free(f, files, key, signature, owned, room, each)
 }
@@ -152,33 +152,35 @@ pub fn doom_parent<F: Folder>(
     ensures later { F.faults f.old ≤ F.faults f.new }
     ensures device { IfDevice result (Rises (F.faults f.old) (F.faults f.new)) }
 {
-    let signature = read_signature(f, files, found.entry, room)?;
+    let signature = read_signature(f, files, found.entry)?;
     take_main(f, files, found, node, charge)?;
     let parts = drop_parts_with(f, files, key, signature, room, &mut |_| ())?;
     doom_record(f, files, found.entry)?;
     Ok(parts)
 }
 
-// Reads the signature of the index of a parent, by two folder calls. The index is read into `room`.
-fn read_signature<F: Folder>(
-    f: &mut F,
-    files: &BlockFiles,
-    entry: Addr,
-    room: &mut [u8],
-) -> Result<i64, Fault>
+/// Reads the signature of the index of a parent, by two folder calls.
+///
+/// A damage is one of `read`, or a third stream that begins otherwise than an index.
+pub fn read_signature<F: Folder>(f: &mut F, files: &BlockFiles, entry: Addr) -> Result<i64, Fault>
     requires kind { kind_of entry ≡ blocks_256 }
     requires stands { IsTrue (stands_among files.now entry) }
-    requires room { longest_name ≤ length room.old }
+
+    // It is that of what a node names with this record, where that is a parent.
     ensures signature { IfOk result (λ signature. ForSome (F.told f.old).files (λ image. (loaded : Loaded) (index : ParentIndex) → LoadsWith entry loaded image → loaded.role ≡ IsParent index → index.signature ≡ cast_unsigned w64 signature)) }
     ensures small { IfOk result (λ signature. cast_unsigned w64 signature < signatures) }
     ensures stays { Stays (F.told f.old) (F.told f.new) }
+
+    // A damage is a check that fails on what is read here. A folder that tells its files gives none where this is a parent's record.
     ensures damaged { IfDamaged result (IsFailedCheck files.now (F.told f.new)) }
     ensures untold { ForSome (F.told f.old).files (Agrees files.now) → ForSome (F.told f.old).files (LoadsAsParent entry) → IfDamaged result (λ _. (F.told f.old).files ≡ None) }
+
     ensures later { F.faults f.old ≤ F.faults f.new }
     ensures device { IfDevice result (Rises (F.faults f.old) (F.faults f.new)) }
 {
-    let len = read(f, files, entry, INDEX, 0, room)?;
-    match ParentHead::read(&room[..len]) {
+    let mut bytes = [0u8; ParentMap::LEN];
+    let len = read(f, files, entry, INDEX, 0, &mut bytes)?;
+    match ParentHead::read(&bytes[..len]) {
         Some(head) => Ok(head.signature),
         None => Err(record_damage(entry, EntryView::FLAGS, PARENT)),
     }

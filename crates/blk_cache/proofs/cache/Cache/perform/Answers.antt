@@ -3,7 +3,7 @@ use Rattle.std.specs.Option.{ForSome}
 use Rattle.blk_image.specs.Told.{Told}
 use Rattle.blk_disk.specs.Open.{IsOpen}
 use Rattle.std.specs.Prelude.{IfOk, OnOk}
-use Rattle.blk_model.specs.Request.{request_of, to_close, to_doom, to_doom_key, to_list, to_open, to_read, to_size, to_total}
+use Rattle.blk_model.specs.Request.{request_of, to_close, to_doom, to_doom_key, to_list, to_open, to_read, to_size, to_sparse_range, to_sparse_read, to_total}
 use Rattle.blk_model.specs.declared.Command.{Command}
 use Rattle.blk_kept.specs.Commands.{Does, MayStopAtEach}
 use Rattle.blk_kept.proofs.Stopping.{nothing-stops}
@@ -153,3 +153,33 @@ returns-in-DoomKey-clause-says g c = subst (λ (cmd : Command). OnOk c.doom_key.
 pub returns-in-DoomKey-clause-front : goal.returns-in-DoomKey-clause-front
 returns-in-DoomKey-clause-front g c = subst (λ (cmd : Command). SaysFront c.args.self.now (g.F.Folder.told c.args.f.now) c.args.moment (request_of cmd) (g.K.Sink.written c.args.out.now) (g.K.Sink.written c.args.out.now)) (sym c.in-DoomKey.is)
     (front-nothing c.args.self.now (g.F.Folder.told c.args.f.now) c.args.moment (to_doom_key c.in-DoomKey.key.now) tt c.args.failed.now (g.K.Sink.written c.args.out.now))
+
+pub returns-in-SparseRead-clause-does : goal.returns-in-SparseRead-clause-does
+returns-in-SparseRead-clause-does g c = subst (λ (cmd : Command). IfOk c.use_sparse.result (λ given. Does (KeepsState c.args.self.now) (KeepsState c.use_sparse.new.self) (g.F.Folder.told c.args.f.now) (g.F.Folder.told c.use_sparse.new.f) c.args.moment (request_of cmd) given)) (sym c.in-SparseRead.is) c.use_sparse.ensures.does
+
+pub returns-in-SparseRead-clause-stops : goal.returns-in-SparseRead-clause-stops
+returns-in-SparseRead-clause-stops g c = subst (λ (cmd : Command). MayStopAtEach (KeepsState c.args.self.now) (g.F.Folder.told c.args.f.now) (g.F.Folder.told c.use_sparse.new.f) c.args.moment (request_of cmd)) (sym c.in-SparseRead.is) c.use_sparse.ensures.stops
+
+pub returns-in-SparseRead-clause-says : goal.returns-in-SparseRead-clause-says
+returns-in-SparseRead-clause-says g c = subst (λ (cmd : Command). OnOk c.use_sparse.result (SaysEvicted c.args.self.now (g.F.Folder.told c.args.f.now) c.args.moment (request_of cmd) c.args.failed.now c.args.failed.now (g.K.Sink.written c.args.out.now) (g.K.Sink.written c.args.out.now))) (sym c.in-SparseRead.is)
+    (on-ok c.use_sparse.result (SaysEvicted c.args.self.now (g.F.Folder.told c.args.f.now) c.args.moment (to_sparse_read c.in-SparseRead.handle c.in-SparseRead.offset c.in-SparseRead.count) c.args.failed.now c.args.failed.now (g.K.Sink.written c.args.out.now) (g.K.Sink.written c.args.out.now))
+    (says-nothing c.args.self.now (g.F.Folder.told c.args.f.now) c.args.moment (to_sparse_read c.in-SparseRead.handle c.in-SparseRead.offset c.in-SparseRead.count) tt c.args.failed.now (g.K.Sink.written c.args.out.now)))
+
+pub returns-in-SparseRead-clause-front : goal.returns-in-SparseRead-clause-front
+returns-in-SparseRead-clause-front g c = subst (λ (cmd : Command). SaysFront c.args.self.now (g.F.Folder.told c.args.f.now) c.args.moment (request_of cmd) (g.K.Sink.written c.args.out.now) (g.K.Sink.written c.args.out.now)) (sym c.in-SparseRead.is)
+    (front-nothing c.args.self.now (g.F.Folder.told c.args.f.now) c.args.moment (to_sparse_read c.in-SparseRead.handle c.in-SparseRead.offset c.in-SparseRead.count) tt c.args.failed.now (g.K.Sink.written c.args.out.now))
+
+pub returns-in-SparseRange-clause-does : goal.returns-in-SparseRange-clause-does
+returns-in-SparseRange-clause-does g c = subst (λ (cmd : Command). IfOk c.use_sparse.result (λ given. Does (KeepsState c.args.self.now) (KeepsState c.use_sparse.new.self) (g.F.Folder.told c.args.f.now) (g.F.Folder.told c.use_sparse.new.f) c.args.moment (request_of cmd) given)) (sym c.in-SparseRange.is) c.use_sparse.ensures.does
+
+pub returns-in-SparseRange-clause-stops : goal.returns-in-SparseRange-clause-stops
+returns-in-SparseRange-clause-stops g c = subst (λ (cmd : Command). MayStopAtEach (KeepsState c.args.self.now) (g.F.Folder.told c.args.f.now) (g.F.Folder.told c.use_sparse.new.f) c.args.moment (request_of cmd)) (sym c.in-SparseRange.is) c.use_sparse.ensures.stops
+
+pub returns-in-SparseRange-clause-says : goal.returns-in-SparseRange-clause-says
+returns-in-SparseRange-clause-says g c = subst (λ (cmd : Command). OnOk c.use_sparse.result (SaysEvicted c.args.self.now (g.F.Folder.told c.args.f.now) c.args.moment (request_of cmd) c.args.failed.now c.args.failed.now (g.K.Sink.written c.args.out.now) (g.K.Sink.written c.args.out.now))) (sym c.in-SparseRange.is)
+    (on-ok c.use_sparse.result (SaysEvicted c.args.self.now (g.F.Folder.told c.args.f.now) c.args.moment (to_sparse_range c.in-SparseRange.handle c.in-SparseRange.offset c.in-SparseRange.count) c.args.failed.now c.args.failed.now (g.K.Sink.written c.args.out.now) (g.K.Sink.written c.args.out.now))
+    (says-nothing c.args.self.now (g.F.Folder.told c.args.f.now) c.args.moment (to_sparse_range c.in-SparseRange.handle c.in-SparseRange.offset c.in-SparseRange.count) tt c.args.failed.now (g.K.Sink.written c.args.out.now)))
+
+pub returns-in-SparseRange-clause-front : goal.returns-in-SparseRange-clause-front
+returns-in-SparseRange-clause-front g c = subst (λ (cmd : Command). SaysFront c.args.self.now (g.F.Folder.told c.args.f.now) c.args.moment (request_of cmd) (g.K.Sink.written c.args.out.now) (g.K.Sink.written c.args.out.now)) (sym c.in-SparseRange.is)
+    (front-nothing c.args.self.now (g.F.Folder.told c.args.f.now) c.args.moment (to_sparse_range c.in-SparseRange.handle c.in-SparseRange.offset c.in-SparseRange.count) tt c.args.failed.now (g.K.Sink.written c.args.out.now))

@@ -49,6 +49,10 @@ made old mid told now same note = subst (λ (n : ℕ). Applies told now (Note (n
 
 -- The folder fails in the reply.
 
+pub reply-requires : goal.reply-requires
+reply-requires g c =
+    open-on c.perform.new.self c.note.new.self (g.F.Folder.told c.perform.new.f) (g.F.Folder.told c.note.new.f) (same-files (g.F.Folder.told c.perform.new.f) (g.F.Folder.told c.note.new.f) _ c.in_ok-note.ensures.done) c.in_ok-note.ensures.others c.in_ok-answer.ensures.is_open
+
 pub returns-in_err-reply-clause-stepped : goal.returns-in_err-reply-clause-stepped
 returns-in_err-reply-clause-stepped g c =
     subst (λ (t : Told). ForKept (KeepsState c.args.self.now) (g.F.Folder.told c.args.f.now) (IsStepped (g.F.Folder.told c.args.f.now) t c.args.moment (request_of c.args.command.now) (note_number (c.args.self.now.notes + 1)))) (sym c.in_err-reply.ensures.stays)
@@ -58,7 +62,7 @@ returns-in_err-reply-clause-stepped g c =
 pub returns-in_err-reply-clause-front : goal.returns-in_err-reply-clause-front
 returns-in_err-reply-clause-front g c =
     front-printed c.args.self.now c.note.new.self (g.F.Folder.told c.args.f.now) (g.F.Folder.told c.perform.new.f) (g.F.Folder.told c.note.new.f) c.args.moment (request_of c.args.command.now) c.in_ok-answer.ensures.stops
-    (same-files (g.F.Folder.told c.perform.new.f) (g.F.Folder.told c.note.new.f) _ c.in_ok-note.ensures.done) c.requires.plain c.in_ok-answer.answer (noted-does c.args.self.now c.perform.new.self c.note.new.self (g.F.Folder.told c.args.f.now) (g.F.Folder.told c.perform.new.f) (g.F.Folder.told c.note.new.f) c.args.moment (request_of c.args.command.now) (note_number (c.args.self.now.notes + 1)) c.in_ok-answer.ensures.stops c.in_ok-answer.answer c.in_ok-answer.ensures.does
+    (same-files (g.F.Folder.told c.perform.new.f) (g.F.Folder.told c.note.new.f) _ c.in_ok-note.ensures.done) c.in_ok-answer.answer (noted-does c.args.self.now c.perform.new.self c.note.new.self (g.F.Folder.told c.args.f.now) (g.F.Folder.told c.perform.new.f) (g.F.Folder.told c.note.new.f) c.args.moment (request_of c.args.command.now) (note_number (c.args.self.now.notes + 1)) c.in_ok-answer.ensures.stops c.in_ok-answer.answer c.in_ok-answer.ensures.does
     (made c.args.self.now.notes c.perform.new.self.notes (g.F.Folder.told c.perform.new.f) (g.F.Folder.told c.note.new.f) c.in_ok-answer.ensures.notes c.in_ok-note.ensures.done) c.in_ok-note.ensures.others)
     c.perform.new.failed c.reply.new.failed (g.K.Sink.written c.args.out.now) (g.K.Sink.written c.perform.new.out) (g.K.Sink.written c.reply.new.out) c.in_ok-answer.ensures.says c.in_err-reply.ensures.part
 
@@ -78,7 +82,7 @@ returns-in_err-reply-clause-untold g c any =
     (λ damage none. none-before c.args.self.now c.note.new.self (g.F.Folder.told c.args.f.now) (g.F.Folder.told c.perform.new.f) (g.F.Folder.told c.note.new.f) c.args.moment (request_of c.args.command.now) c.in_ok-answer.ensures.stops
     (same-files (g.F.Folder.told c.perform.new.f) (g.F.Folder.told c.note.new.f) _ c.in_ok-note.ensures.done) any none)
     (c.reply.ensures.untold (any-after c.args.self.now c.note.new.self (g.F.Folder.told c.args.f.now) (g.F.Folder.told c.perform.new.f) (g.F.Folder.told c.note.new.f) c.args.moment (request_of c.args.command.now) c.in_ok-answer.ensures.stops
-    (same-files (g.F.Folder.told c.perform.new.f) (g.F.Folder.told c.note.new.f) _ c.in_ok-note.ensures.done) c.requires.plain c.in_ok-answer.answer (noted-does c.args.self.now c.perform.new.self c.note.new.self (g.F.Folder.told c.args.f.now) (g.F.Folder.told c.perform.new.f) (g.F.Folder.told c.note.new.f) c.args.moment (request_of c.args.command.now) (note_number (c.args.self.now.notes + 1)) c.in_ok-answer.ensures.stops c.in_ok-answer.answer c.in_ok-answer.ensures.does
+    (same-files (g.F.Folder.told c.perform.new.f) (g.F.Folder.told c.note.new.f) _ c.in_ok-note.ensures.done) c.in_ok-answer.answer (noted-does c.args.self.now c.perform.new.self c.note.new.self (g.F.Folder.told c.args.f.now) (g.F.Folder.told c.perform.new.f) (g.F.Folder.told c.note.new.f) c.args.moment (request_of c.args.command.now) (note_number (c.args.self.now.notes + 1)) c.in_ok-answer.ensures.stops c.in_ok-answer.answer c.in_ok-answer.ensures.does
     (made c.args.self.now.notes c.perform.new.self.notes (g.F.Folder.told c.perform.new.f) (g.F.Folder.told c.note.new.f) c.in_ok-answer.ensures.notes c.in_ok-note.ensures.done) c.in_ok-note.ensures.others) any image there))))
 
 -- It is done, and the sink failed.
@@ -98,7 +102,7 @@ returns-then-failed-clause-stepped g c =
 pub returns-then-failed-clause-front : goal.returns-then-failed-clause-front
 returns-then-failed-clause-front g c =
     front-printed c.args.self.now c.note.new.self (g.F.Folder.told c.args.f.now) (g.F.Folder.told c.perform.new.f) (g.F.Folder.told c.note.new.f) c.args.moment (request_of c.args.command.now) c.in_ok-answer.ensures.stops
-    (same-files (g.F.Folder.told c.perform.new.f) (g.F.Folder.told c.note.new.f) _ c.in_ok-note.ensures.done) c.requires.plain c.in_ok-answer.answer (noted-does c.args.self.now c.perform.new.self c.note.new.self (g.F.Folder.told c.args.f.now) (g.F.Folder.told c.perform.new.f) (g.F.Folder.told c.note.new.f) c.args.moment (request_of c.args.command.now) (note_number (c.args.self.now.notes + 1)) c.in_ok-answer.ensures.stops c.in_ok-answer.answer c.in_ok-answer.ensures.does
+    (same-files (g.F.Folder.told c.perform.new.f) (g.F.Folder.told c.note.new.f) _ c.in_ok-note.ensures.done) c.in_ok-answer.answer (noted-does c.args.self.now c.perform.new.self c.note.new.self (g.F.Folder.told c.args.f.now) (g.F.Folder.told c.perform.new.f) (g.F.Folder.told c.note.new.f) c.args.moment (request_of c.args.command.now) (note_number (c.args.self.now.notes + 1)) c.in_ok-answer.ensures.stops c.in_ok-answer.answer c.in_ok-answer.ensures.does
     (made c.args.self.now.notes c.perform.new.self.notes (g.F.Folder.told c.perform.new.f) (g.F.Folder.told c.note.new.f) c.in_ok-answer.ensures.notes c.in_ok-note.ensures.done) c.in_ok-note.ensures.others)
     c.perform.new.failed c.reply.new.failed (g.K.Sink.written c.args.out.now) (g.K.Sink.written c.perform.new.out) (g.K.Sink.written c.reply.new.out) c.in_ok-answer.ensures.says c.in_ok-reply.ensures.part
 
@@ -140,7 +144,7 @@ returns-else-failed-clause-stepped g c =
 pub returns-else-failed-clause-front : goal.returns-else-failed-clause-front
 returns-else-failed-clause-front g c =
     front-printed c.args.self.now c.note.new.self (g.F.Folder.told c.args.f.now) (g.F.Folder.told c.perform.new.f) (g.F.Folder.told c.note.new.f) c.args.moment (request_of c.args.command.now) c.in_ok-answer.ensures.stops
-    (same-files (g.F.Folder.told c.perform.new.f) (g.F.Folder.told c.note.new.f) _ c.in_ok-note.ensures.done) c.requires.plain c.in_ok-answer.answer (noted-does c.args.self.now c.perform.new.self c.note.new.self (g.F.Folder.told c.args.f.now) (g.F.Folder.told c.perform.new.f) (g.F.Folder.told c.note.new.f) c.args.moment (request_of c.args.command.now) (note_number (c.args.self.now.notes + 1)) c.in_ok-answer.ensures.stops c.in_ok-answer.answer c.in_ok-answer.ensures.does
+    (same-files (g.F.Folder.told c.perform.new.f) (g.F.Folder.told c.note.new.f) _ c.in_ok-note.ensures.done) c.in_ok-answer.answer (noted-does c.args.self.now c.perform.new.self c.note.new.self (g.F.Folder.told c.args.f.now) (g.F.Folder.told c.perform.new.f) (g.F.Folder.told c.note.new.f) c.args.moment (request_of c.args.command.now) (note_number (c.args.self.now.notes + 1)) c.in_ok-answer.ensures.stops c.in_ok-answer.answer c.in_ok-answer.ensures.does
     (made c.args.self.now.notes c.perform.new.self.notes (g.F.Folder.told c.perform.new.f) (g.F.Folder.told c.note.new.f) c.in_ok-answer.ensures.notes c.in_ok-note.ensures.done) c.in_ok-note.ensures.others)
     c.perform.new.failed c.reply.new.failed (g.K.Sink.written c.args.out.now) (g.K.Sink.written c.perform.new.out) (g.K.Sink.written c.reply.new.out) c.in_ok-answer.ensures.says c.in_ok-reply.ensures.part
 
@@ -153,7 +157,7 @@ returns-else-failed-clause-noted g c =
 pub returns-else-failed-clause-printed : goal.returns-else-failed-clause-printed
 returns-else-failed-clause-printed g c =
     whole-printed c.args.self.now c.note.new.self (g.F.Folder.told c.args.f.now) (g.F.Folder.told c.perform.new.f) (g.F.Folder.told c.note.new.f) c.args.moment (request_of c.args.command.now) c.in_ok-answer.ensures.stops
-    (same-files (g.F.Folder.told c.perform.new.f) (g.F.Folder.told c.note.new.f) _ c.in_ok-note.ensures.done) c.requires.plain c.in_ok-answer.answer (noted-does c.args.self.now c.perform.new.self c.note.new.self (g.F.Folder.told c.args.f.now) (g.F.Folder.told c.perform.new.f) (g.F.Folder.told c.note.new.f) c.args.moment (request_of c.args.command.now) (note_number (c.args.self.now.notes + 1)) c.in_ok-answer.ensures.stops c.in_ok-answer.answer c.in_ok-answer.ensures.does
+    (same-files (g.F.Folder.told c.perform.new.f) (g.F.Folder.told c.note.new.f) _ c.in_ok-note.ensures.done) c.in_ok-answer.answer (noted-does c.args.self.now c.perform.new.self c.note.new.self (g.F.Folder.told c.args.f.now) (g.F.Folder.told c.perform.new.f) (g.F.Folder.told c.note.new.f) c.args.moment (request_of c.args.command.now) (note_number (c.args.self.now.notes + 1)) c.in_ok-answer.ensures.stops c.in_ok-answer.answer c.in_ok-answer.ensures.does
     (made c.args.self.now.notes c.perform.new.self.notes (g.F.Folder.told c.perform.new.f) (g.F.Folder.told c.note.new.f) c.in_ok-answer.ensures.notes c.in_ok-note.ensures.done) c.in_ok-note.ensures.others)
     c.perform.new.failed c.reply.new.failed (g.K.Sink.written c.args.out.now) (g.K.Sink.written c.perform.new.out) (g.K.Sink.written c.reply.new.out) c.in_ok-answer.ensures.says c.in_ok-reply.ensures.printed c.if-failed.false
 

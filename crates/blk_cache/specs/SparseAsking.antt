@@ -1,0 +1,92 @@
+-- The live object that a request on sparse data names by a handle, or why there is none.
+use Rattle.std.specs.Prelude.{◌≡◌, ◌≤◌, ◌<◌, ◌+◌, ℕ, Bool, [], ◌∷◌, false, is_none, nat_lt, true}
+use Rattle.std.specs.Int.{cast_unsigned, w64}
+use Rattle.std.specs.Option.{option_map_or}
+use Rattle.std.specs.declared.option.Option.{Option}
+use Rattle.std.specs.declared.option.Option.TheVariants.{None, Some}
+use Rattle.blk_model.specs.Items.{main, plain, sparse}
+use Rattle.blk_model.specs.Refusals.{first_refusal, has_one_stream, is_doomed, names_none, past_end}
+use Rattle.blk_model.specs.Sizes.{largest_offset, part_size, signatures}
+use Rattle.blk_model.specs.State.{Object, State}
+use Rattle.blk_model.specs.declared.Refusal.{Refusal}
+use Rattle.blk_model.specs.declared.Refusal.TheVariants as refusal
+use Rattle.blk_format.specs.SparseIndex.{ParentIndex}
+use Rattle.blk_volume.specs.Entries.{IsParent}
+use Rattle.blk_volume.specs.Layout.{Layout}
+use Rattle.blk_volume.specs.Loads.{Loaded}
+use Rattle.blk_disk.specs.declared.tables.BlockFiles.{BlockFiles}
+use Rattle.blk_disk.specs.Tables.{is_node_among, is_record_among}
+use Rattle.blk_handles.specs.Bindings.{Bindings, binding_of}
+use Rattle.blk_kept.specs.OneCallLaws.{Names}
+use Rattle.blk_sparse.specs.declared.children.Parent.{Parent}
+use Rattle.blk_cache.specs.declared.sparse_asking.AskedSparse.{AskedSparse}
+use Rattle.blk_cache.specs.declared.sparse_asking.AskedSparse.TheVariants as asked
+use Rattle.blk_cache.specs.declared.sparse_asking.PlainObject.{PlainObject}
+
+-- Refusals.
+
+-- why a request on sparse data is refused by what is kept in memory: the names, the range, and whether the object is doomed
+abbrev pub early_sparse_refusal : Bindings → (handle offset count : ℕ) → Option Refusal
+early_sparse_refusal bindings handle offset count =
+    first_refusal ((is_none (binding_of bindings handle), refusal.BadHandle) ∷ (nat_lt part_size count, refusal.TooLarge) ∷ (past_end offset count, refusal.RangeEnd)
+    ∷ (option_map_or (λ object. object.doomed) (binding_of bindings handle) false, refusal.Doomed) ∷ [])
+
+-- why a state has no live object for a handle and a range, the first reason of four
+abbrev pub sparse_refusal : State → (handle offset count : ℕ) → Option Refusal
+sparse_refusal state handle offset count =
+    first_refusal ((names_none state handle, refusal.BadHandle) ∷ (nat_lt part_size count, refusal.TooLarge) ∷ (past_end offset count, refusal.RangeEnd) ∷ (is_doomed state handle, refusal.Doomed) ∷ [])
+
+-- What is found.
+
+-- a live object that a handle names: its main item lies at this node with this record
+pub record IsLiveNamed (state : State) (layout : Layout) (handle node entry : ℕ) : Type 0 where
+  pub number : ℕ
+  pub object : Object
+  pub names : Names state handle number object
+  pub live : object.live ≡ true
+  pub node_is : layout.place (main object.key) ≡ node
+  pub was : Loaded
+  pub lies : layout.at (layout.place (main object.key)) ≡ Some was
+  pub record_is : was.contents ≡ entry
+
+-- it is plain, and this is whether it has one stream alone
+pub record IsPlainNamed (state : State) (layout : Layout) (handle offset count : ℕ) (found : PlainObject) : Type 0 where
+  pub passes : sparse_refusal state handle offset count ≡ None
+  pub its : IsLiveNamed state layout handle found.node found.entry
+  pub is_plain : its.object.shape ≡ plain
+  pub one_stream : found.one_stream ≡ has_one_stream its.object
+
+-- it is sparse, and this is the signature of it and of its index
+pub record IsParentNamed (state : State) (layout : Layout) (handle offset count : ℕ) (parent : Parent) : Type 0 where
+  pub passes : sparse_refusal state handle offset count ≡ None
+  pub its : IsLiveNamed state layout handle parent.node parent.entry
+  pub is_sparse : its.object.shape ≡ sparse (cast_unsigned w64 parent.signature)
+  pub index : ParentIndex
+  pub role : its.was.role ≡ IsParent index
+  pub same : index.signature ≡ cast_unsigned w64 parent.signature
+
+-- the object, plain or sparse, or why there is none
+abbrev pub IsAskedSparse : State → Layout → (handle offset count : ℕ) → AskedSparse → Type 0
+IsAskedSparse state layout handle offset count (asked.Refused why) = sparse_refusal state handle offset count ≡ Some why
+IsAskedSparse state layout handle offset count (asked.Plain found) = IsPlainNamed state layout handle offset count found
+IsAskedSparse state layout handle offset count (asked.Parent parent) = IsParentNamed state layout handle offset count parent
+
+-- On every folder.
+
+-- what is found are a node and a record among the block files, and a signature
+abbrev pub IsAmongFiles : BlockFiles → AskedSparse → Type 0
+IsAmongFiles files (asked.Refused why) = Unit {0}
+IsAmongFiles files (asked.Plain found) = (is_node_among files found.node ≡ true) × (is_record_among files found.entry ≡ true)
+IsAmongFiles files (asked.Parent parent) = (is_node_among files parent.node ≡ true) × ((is_record_among files parent.entry ≡ true) × (cast_unsigned w64 parent.signature < signatures))
+
+-- where an object is found nothing refuses early: so the range lies inside of what sparse data may have
+pub record IsInside (early : Option Refusal) (offset count : ℕ) : Type 0 where
+  pub passes : early ≡ None
+  pub few : count ≤ part_size
+  pub inside : offset + count ≤ largest_offset
+
+-- where an object is found the range is so
+abbrev pub FindsInside : (early : Option Refusal) → (offset count : ℕ) → AskedSparse → Type 0
+FindsInside early offset count (asked.Refused why) = Unit {0}
+FindsInside early offset count (asked.Plain found) = IsInside early offset count
+FindsInside early offset count (asked.Parent parent) = IsInside early offset count

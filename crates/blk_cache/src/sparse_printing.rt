@@ -1,0 +1,61 @@
+// The bytes of a SparseRead are printed.
+ghost use Rattle.std.specs.Prelude.{◌≡◌, ◌≤◌, None, OnOk};
+ghost use Rattle.std.specs.Option.{ForSome};
+ghost use Rattle.blk_image.specs.Told.{Rises, Stays};
+ghost use Rattle.blk_io.specs.Faults.{IfDamaged, IfDevice};
+ghost use Rattle.blk_disk.specs.Open.{IsOpen};
+ghost use Rattle.blk_object.specs.FailedChecks.{IsFailedCheck};
+ghost use Rattle.blk_cache.specs.Listing.{OnlyRoomChanges};
+ghost use Rattle.blk_cache.specs.ReadPrinting.{ForPresent, KeepsPresent};
+ghost use Rattle.blk_items.specs.RoomPrinting.{FailsWhereItRose, Prints, PrintsInPart};
+
+use crate::cache::Cache;
+use crate::sparse_asking::LARGEST_OFFSET;
+use blk_io::{Fault, Folder, Sink};
+use blk_items::{PresentRange, print_present};
+use blk_ranges::PART_SIZE;
+
+impl Cache {
+    /// Prints the line of a SparseRead that was done: the number of bytes that are present from `offset` on, which its
+    /// answer told, and then the bytes.
+    ///
+    /// Nothing is written. Where the handle names no object, or so many bytes end behind where sparse data does, nothing is
+    /// printed. After a fault a front of the line is printed.
+    pub(crate) fn print_sparse<F: Folder, K: Sink>(
+        &mut self,
+        f: &mut F,
+        out: &mut K,
+        failed: &mut bool,
+        handle: u16,
+        offset: u64,
+        number: u64,
+    ) -> Result<(), Fault>
+        requires is_open { ForSome (F.told f.old).files (IsOpen self.old.files) }
+        ensures printed { OnOk result (ForPresent self.old (F.told f.old) handle offset number (Prints failed.old failed.new (K.written out.old) (K.written out.new))) }
+        ensures part { ForPresent self.old (F.told f.old) handle offset number (PrintsInPart failed.old (K.written out.old) (K.written out.new)) }
+        ensures failed { FailsWhereItRose failed.old failed.new (K.faults out.old) (K.faults out.new) }
+        ensures others { OnlyRoomChanges self.old self.new }
+        ensures stays { Stays (F.told f.old) (F.told f.new) }
+
+        // A folder that tells its files gives no damage where the cache keeps a state with so many bytes.
+        ensures damaged { IfDamaged result (IsFailedCheck self.new.files (F.told f.new)) }
+        ensures untold { ForSome (F.told f.old).files (KeepsPresent self.old handle offset number) → IfDamaged result (λ _. (F.told f.old).files ≡ None) }
+        ensures later { F.faults f.old ≤ F.faults f.new }
+        ensures later_out { K.faults out.old ≤ K.faults out.new }
+        ensures device { IfDevice result (Rises (F.faults f.old) (F.faults f.new)) }
+    {
+        let Some(object) = self.handles.object(handle) else {
+            return Ok(());
+        };
+        if number > u64::from(PART_SIZE) || offset > LARGEST_OFFSET - number {
+            return Ok(());
+        }
+        let range = PresentRange {
+            entry: object.entry,
+            node: object.node,
+            offset,
+            count: number,
+        };
+        print_present(f, &self.files, &mut self.name, out, failed, &range)
+    }
+}

@@ -1,0 +1,96 @@
+// The commands SparseRead and SparseRange.
+ghost use Rattle.std.specs.Prelude.{◌≡◌, ◌≤◌, IfOk, IfSome, None, Ok};
+ghost use Rattle.std.specs.Option.{ForSome};
+ghost use Rattle.blk_image.specs.Told.{Rises, Stays};
+ghost use Rattle.blk_io.specs.Faults.{IfDamaged, IfDevice};
+ghost use Rattle.blk_model.specs.declared.Answer.TheVariants as answer;
+ghost use Rattle.blk_disk.specs.Open.{IsOpen};
+ghost use Rattle.blk_kept.specs.Commands.{Does, MayStopAtEach};
+ghost use Rattle.blk_object.specs.FailedChecks.{IsFailedCheck};
+ghost use Rattle.blk_cache.specs.CacheKeeping.{KeepsState};
+ghost use Rattle.blk_cache.specs.CommandClauses.{IsRefused, KeepsAny};
+ghost use Rattle.blk_cache.specs.Listing.{OnlyRoomChanges};
+ghost use Rattle.blk_cache.specs.SparseAsking.{early_sparse_refusal};
+ghost use Rattle.blk_cache.specs.SparseReading.{to_use_sparse, told_of_run};
+
+use crate::cache::Cache;
+use crate::sparse_asking::AskedSparse;
+use blk_io::{Fault, Folder};
+use blk_model::{Answer, Refusal};
+use blk_sparse::use_range;
+
+/// What is told of the sparse data that a command covers.
+#[derive(Clone, Copy, Debug, PartialEq, Eq)]
+pub(crate) enum Wanted {
+    /// How many bytes there are from the offset on, which are printed then: a SparseRead.
+    Bytes,
+    /// The first run of those that there are: a SparseRange.
+    Run,
+}
+
+impl Cache {
+    /// Does all of a SparseRead or a SparseRange that writes: the item of its object is put in front of the use list, and
+    /// then each part that the bytes cover and that there is, in rising number. The answer tells what is wanted of the
+    /// first run of present bytes.
+    ///
+    /// It is refused with `BadHandle` where the name is free, or 4096 or more, `TooLarge` where there are more than 1048576
+    /// bytes, `RangeEnd` where they end behind 68719476736, `Doomed` where the object is doomed, and `NotSparse` where it
+    /// is plain, the first of these. After a fault nothing is promised of the cache but that it may be let go.
+    pub(crate) fn use_sparse<F: Folder>(
+        &mut self,
+        f: &mut F,
+        wanted: Wanted,
+        handle: u16,
+        offset: u64,
+        count: u64,
+        moment: u64,
+    ) -> Result<Answer, Fault>
+        requires is_open { ForSome (F.told f.old).files (IsOpen self.old.files) }
+        ensures does { IfOk result (λ answer. Does (KeepsState self.old) (KeepsState self.new) (F.told f.old) (F.told f.new) moment (to_use_sparse wanted handle offset count) answer) }
+        ensures stops { MayStopAtEach (KeepsState self.old) (F.told f.old) (F.told f.new) moment (to_use_sparse wanted handle offset count) }
+
+        // What the names and the range tell is refused on every folder, and a refusal does nothing.
+        ensures refuses { IfSome (early_sparse_refusal self.old.handles handle offset count) (λ why. result ≡ Ok (answer.Refused why)) }
+        ensures quiet { IfOk result (λ answer. IsRefused answer → Stays (F.told f.old) (F.told f.new)) }
+        ensures unchanged { IfOk result (λ answer. IsRefused answer → self.new ≡ self.old) }
+
+        ensures others { OnlyRoomChanges self.old self.new }
+        ensures is_open { ForSome (F.told f.new).files (IsOpen self.new.files) }
+
+        // A damage is a check that fails on what is read here; nothing is written after it. A folder that tells its files gives none where the cache keeps a state.
+        ensures damaged { IfDamaged result (IsFailedCheck self.new.files (F.told f.new)) }
+        ensures untold { ForSome (F.told f.old).files (KeepsAny self.old) → IfDamaged result (λ _. (F.told f.old).files ≡ None) }
+        ensures silent { (F.told f.old).files ≡ None → (F.told f.new).files ≡ None }
+        ensures later { F.faults f.old ≤ F.faults f.new }
+        ensures device { IfDevice result (Rises (F.faults f.old) (F.faults f.new)) }
+    {
+        let asked = self.ask_sparse(f, handle, offset, count)?;
+        match asked {
+            AskedSparse::Refused(why) => Ok(Answer::Refused(why)),
+            AskedSparse::Plain(_) => Ok(Answer::Refused(Refusal::NotSparse)),
+            AskedSparse::Parent(parent) => {
+                let found = use_range(
+                    f,
+                    &self.files,
+                    &parent,
+                    &mut self.name,
+                    offset,
+                    count,
+                    moment,
+                )?;
+                Ok(told_of_run(wanted, offset, found))
+            }
+        }
+    }
+}
+
+// What is told of the first run of present bytes.
+fn told_of_run(wanted: Wanted, offset: u64, run: (u64, u64)) -> Answer
+    ensures { result ≡ told_of_run wanted offset (run.0, run.1) }
+{
+    let (start, length) = run;
+    match wanted {
+        Wanted::Bytes => Answer::Bytes(if start == offset { length } else { 0 }),
+        Wanted::Run => Answer::Range { start, length },
+    }
+}

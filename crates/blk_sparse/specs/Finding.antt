@@ -1,0 +1,14 @@
+-- The parts of an object that a range covers, as they are found by their names.
+use Rattle.std.specs.Prelude.{◌≡◌, ◌≤◌, ◌<◌, ◌+◌, ◌/◌, ◌%◌, ℕ}
+use Rattle.std.specs.declared.option.Option.TheVariants.{None}
+use Rattle.blk_model.specs.Sizes.{part_size}
+use Rattle.blk_model.specs.State.{Object}
+use Rattle.blk_volume.specs.Layout.{Layout}
+use Rattle.blk_sparse.specs.declared.finding.PartRecords.{PartRecords}
+use Rattle.blk_sparse.specs.Parts.{IsPartFound}
+
+-- the records of the part where a range begins, and of the next one where it goes on there
+pub record ArePartsFound (layout : Layout) (object : Object) (offset count : ℕ) (found : PartRecords) : Type 0 where
+  pub first : IsPartFound layout object (offset / part_size) found.first
+  pub second : part_size < offset % part_size + count → IsPartFound layout object (offset / part_size + 1) found.second
+  pub alone : offset % part_size + count ≤ part_size → found.second ≡ None

@@ -1,0 +1,114 @@
+// The parts of an object that a range covers, found by their names.
+ghost use Rattle.std.specs.Prelude.{◌≡◌, ◌≤◌, ◌<◌, ◌+◌, IfOk, IfSome, IsTrue, None, length};
+ghost use Rattle.std.specs.Int.{cast_unsigned, w64};
+ghost use Rattle.std.specs.Option.{ForSome};
+ghost use Rattle.blk_image.specs.Told.{Rises, Stays};
+ghost use Rattle.blk_model.specs.Sizes.{largest_offset, longest_key, part_size, signatures};
+ghost use Rattle.blk_format.specs.Address.{blocks_256, kind_of};
+ghost use Rattle.blk_format.specs.Names.{longest_name};
+ghost use Rattle.blk_io.specs.Faults.{IfDamaged, IfDevice};
+ghost use Rattle.blk_disk.specs.Open.{IsOpen};
+ghost use Rattle.blk_disk.specs.Tables.{stands_among};
+ghost use Rattle.blk_object.specs.FailedChecks.{IsFailedCheck};
+ghost use Rattle.blk_sparse.specs.Finding.{ArePartsFound};
+ghost use Rattle.blk_sparse.specs.Parts.{ForEachOfKey};
+ghost use Rattle.blk_sparse.specs.SparseObjects.{ForEachKeptParent};
+
+use crate::children::{Parent, read_key};
+use crate::parts::find_part;
+use blk_addr::Addr;
+use blk_disk::BlockFiles;
+use blk_io::{Fault, Folder};
+use blk_ranges::{LONGEST_KEY, PART_SIZE, child_of};
+
+/// The records of the parts that a range covers, two at most: `None` for a part that there isn't.
+#[derive(Clone, Copy, Debug, PartialEq, Eq)]
+pub struct PartRecords {
+    pub first: Option<Addr>,
+    pub second: Option<Addr>,
+}
+
+/// The parts of an object that `count` bytes from an offset on cover, one or two; nothing is changed.
+///
+/// The key is read from the parent's record into the front of `name`, and the names of the parts are made behind the
+/// longest key. For each covered part there are the calls of `find`.
+pub fn find_parts<F: Folder>(
+    f: &mut F,
+    files: &BlockFiles,
+    parent: &Parent,
+    name: &mut [u8],
+    offset: u64,
+    count: u64,
+) -> Result<PartRecords, Fault>
+    requires kind { kind_of parent.now.entry ≡ blocks_256 }
+    requires stands { IsTrue (stands_among files.now parent.now.entry) }
+    requires signature { cast_unsigned w64 parent.now.signature < signatures }
+    requires name { longest_key + longest_name ≤ length name.old }
+    requires some { 1 ≤ count }
+    requires few { count ≤ part_size }
+    requires inside { offset + count ≤ largest_offset }
+    requires is_open { ForSome (F.told f.old).files (IsOpen files.now) }
+
+    // They are those of each object that a kept state has so.
+    ensures parts { IfOk result (λ found. ForSome (F.told f.old).files (λ from. ForEachKeptParent parent.now.node parent.now.entry (cast_unsigned w64 parent.now.signature) from (λ state layout unlinked number object. ArePartsFound layout object offset count found))) }
+
+    // On every folder they stand.
+    ensures first_kind { IfOk result (λ found. IfSome found.first (λ entry. kind_of entry ≡ blocks_256)) }
+    ensures first_stands { IfOk result (λ found. IfSome found.first (λ entry. IsTrue (stands_among files.now entry))) }
+    ensures second_kind { IfOk result (λ found. IfSome found.second (λ entry. kind_of entry ≡ blocks_256)) }
+    ensures second_stands { IfOk result (λ found. IfSome found.second (λ entry. IsTrue (stands_among files.now entry))) }
+
+    ensures stays { Stays (F.told f.old) (F.told f.new) }
+
+    // A damage is a check that fails on what is read here. A folder that tells its files, with such an object, gives none.
+    ensures damaged { IfDamaged result (IsFailedCheck files.now (F.told f.new)) }
+    ensures untold { ForSome (F.told f.old).files (λ from. ForEachKeptParent parent.now.node parent.now.entry (cast_unsigned w64 parent.now.signature) from (λ state layout unlinked number object. IfDamaged result (λ _. (F.told f.old).files ≡ None))) }
+
+    ensures later { F.faults f.old ≤ F.faults f.new }
+    ensures device { IfDevice result (Rises (F.faults f.old) (F.faults f.new)) }
+{
+    let len = read_key(f, files, parent.entry, name)?;
+    let (key, room) = name.split_at_mut(LONGEST_KEY as usize);
+    find_covered(f, files, &key[..len], parent.signature, room, offset, count)
+}
+
+// Finds the parts of an object with a key that a range covers.
+fn find_covered<F: Folder>(
+    f: &mut F,
+    files: &BlockFiles,
+    key: &[u8],
+    signature: i64,
+    room: &mut [u8],
+    offset: u64,
+    count: u64,
+) -> Result<PartRecords, Fault>
+    requires some_key { 1 ≤ length key.now }
+    requires short { length key.now ≤ longest_key }
+    requires signature { cast_unsigned w64 signature < signatures }
+    requires room { longest_name ≤ length room.old }
+    requires some { 1 ≤ count }
+    requires few { count ≤ part_size }
+    requires inside { offset + count ≤ largest_offset }
+    requires is_open { ForSome (F.told f.old).files (IsOpen files.now) }
+    ensures parts { IfOk result (λ found. ForSome (F.told f.old).files (λ from. ForEachOfKey key.now (cast_unsigned w64 signature) from (λ state layout unlinked at object node entry. ArePartsFound layout object offset count found))) }
+    ensures first_kind { IfOk result (λ found. IfSome found.first (λ entry. kind_of entry ≡ blocks_256)) }
+    ensures first_stands { IfOk result (λ found. IfSome found.first (λ entry. IsTrue (stands_among files.now entry))) }
+    ensures second_kind { IfOk result (λ found. IfSome found.second (λ entry. kind_of entry ≡ blocks_256)) }
+    ensures second_stands { IfOk result (λ found. IfSome found.second (λ entry. IsTrue (stands_among files.now entry))) }
+    ensures stays { Stays (F.told f.old) (F.told f.new) }
+    ensures damaged { IfDamaged result (IsFailedCheck files.now (F.told f.new)) }
+    ensures untold { ForSome (F.told f.old).files (λ from. ForEachOfKey key.now (cast_unsigned w64 signature) from (λ state layout unlinked at object node entry. IfDamaged result (λ _. (F.told f.old).files ≡ None))) }
+    ensures later { F.faults f.old ≤ F.faults f.new }
+    ensures device { IfDevice result (Rises (F.faults f.old) (F.faults f.new)) }
+{
+    let (number, place) = child_of(offset);
+    let first = find_part(f, files, key, signature, number, room)?;
+    if count <= u64::from(PART_SIZE - place) {
+        return Ok(PartRecords {
+            first,
+            second: None,
+        });
+    }
+    let second = find_part(f, files, key, signature, number + 1, room)?;
+    Ok(PartRecords { first, second })
+}

@@ -1,0 +1,67 @@
+// An object is used: its main item, and the parts that a range covers.
+ghost use Rattle.std.specs.Prelude.{◌≡◌, ◌≤◌, ◌<◌, ◌+◌, ◌∷◌, IfOk, IsTrue, None, OnOk, length};
+ghost use Rattle.std.specs.Int.{cast_unsigned, w64};
+ghost use Rattle.std.specs.Option.{ForSome};
+ghost use Rattle.blk_image.specs.Told.{Passes, Rises};
+ghost use Rattle.blk_model.specs.Items.{main};
+ghost use Rattle.blk_model.specs.Sizes.{largest_offset, longest_key, part_size, signatures};
+ghost use Rattle.blk_model.specs.Sparse.{present_run};
+ghost use Rattle.blk_format.specs.Address.{blocks_256, kind_of};
+ghost use Rattle.blk_format.specs.Names.{longest_name};
+ghost use Rattle.blk_io.specs.Faults.{IfDamaged, IfDevice};
+ghost use Rattle.blk_disk.specs.Open.{IsOpen};
+ghost use Rattle.blk_disk.specs.Tables.{stands_among};
+ghost use Rattle.blk_object.specs.FailedChecks.{IsFailedCheck};
+ghost use Rattle.blk_sparse.specs.SparseObjects.{FindsUsed, ForEachKeptParent, KeepsParentUsed, parts_used};
+
+use crate::children::Parent;
+use crate::parts::use_entry;
+use crate::reading::range;
+use blk_disk::BlockFiles;
+use blk_io::{Fault, Folder};
+
+/// The first run of present bytes of an object, as `range` finds it. The main item is used first, and then the parts that
+/// the range covers and that there are.
+///
+/// One folder call reads the parent's node, and then there are those of `touch` and of `range`.
+pub fn use_range<F: Folder>(
+    f: &mut F,
+    files: &BlockFiles,
+    parent: &Parent,
+    name: &mut [u8],
+    offset: u64,
+    count: u64,
+    moment: u64,
+) -> Result<(u64, u64), Fault>
+    requires kind { kind_of parent.now.entry ≡ blocks_256 }
+    requires stands { IsTrue (stands_among files.now parent.now.entry) }
+    requires signature { cast_unsigned w64 parent.now.signature < signatures }
+    requires name { longest_key + longest_name ≤ length name.old }
+    requires few { count ≤ part_size }
+    requires inside { offset + count ≤ largest_offset }
+    requires is_open { ForSome (F.told f.old).files (IsOpen files.now) }
+
+    // It is that of each object that a kept state has so.
+    ensures run { IfOk result (λ run. ForSome (F.told f.old).files (λ from. ForEachKeptParent parent.now.node parent.now.entry (cast_unsigned w64 parent.now.signature) from (λ state layout unlinked number object. (run.0, run.1) ≡ present_run object offset count))) }
+
+    // Each state that was kept, with such an object, is kept with these items in front in the end, by the same layout.
+    ensures used { OnOk result (ForSome (F.told f.old).files (λ from. ForEachKeptParent parent.now.node parent.now.entry (cast_unsigned w64 parent.now.signature) from (λ state layout unlinked number object. ForSome (F.told f.new).files (KeepsParentUsed state layout unlinked number object parent.now.node parent.now.entry (cast_unsigned w64 parent.now.signature) (main object.key ∷ parts_used object offset count) from)))) }
+
+    // At each word what is at rest with the first of them in front is found.
+    ensures stops { ForSome (F.told f.old).files (λ from. ForEachKeptParent parent.now.node parent.now.entry (cast_unsigned w64 parent.now.signature) from (λ state layout unlinked number object. Passes (F.told f.old) (F.told f.new) (FindsUsed state (main object.key ∷ parts_used object offset count)))) }
+
+    ensures is_open { ForSome (F.told f.new).files (IsOpen files.now) }
+
+    // A damage is a check that fails on what is read here; nothing is written after it.
+    ensures damaged { IfDamaged result (IsFailedCheck files.now (F.told f.new)) }
+
+    // A folder that tells its files, with such an object, gives no damage.
+    ensures untold { ForSome (F.told f.old).files (λ from. ForEachKeptParent parent.now.node parent.now.entry (cast_unsigned w64 parent.now.signature) from (λ state layout unlinked number object. IfDamaged result (λ _. (F.told f.old).files ≡ None))) }
+
+    ensures silent { (F.told f.old).files ≡ None → (F.told f.new).files ≡ None }
+    ensures later { F.faults f.old ≤ F.faults f.new }
+    ensures device { IfDevice result (Rises (F.faults f.old) (F.faults f.new)) }
+{
+    use_entry(f, files, parent.entry, moment)?;
+    range(f, files, parent, name, offset, count, moment)
+}
