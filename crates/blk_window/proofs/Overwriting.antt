@@ -1,0 +1,36 @@
+-- A page that is written over.
+use Rattle.std.proofs.Common.{◌≡◌, ℕ, zero, suc, ◌+◌, ◌-◌, ◌*◌, Bool, true, false, if◌then◌else◌, List, [], ◌∷◌, length, take, drop, Option, None, Some, option_and_then, refl, sym, ◌∙◌, ap}
+use Rattle.std.specs.Option.{ForSome}
+use Rattle.blk_image.specs.Bytes.{spliced}
+use Rattle.blk_image.specs.Image.{File, same_file}
+use Rattle.blk_window.specs.Held.{Page, reaches, overwritten, written}
+
+-- the first bytes of what is written over
+pub take-spliced : (n i : ℕ) (new old : List ℕ) → take n (spliced i new old) ≡ spliced i new (take n old)
+unfolding spliced
+take-spliced zero i new old = refl
+take-spliced (suc n) i new [] = refl
+take-spliced (suc n) zero [] (x ∷ old) = refl
+take-spliced (suc n) zero (y ∷ new) (x ∷ old) = ap (λ l. y ∷ l) (take-spliced n zero new old)
+take-spliced (suc n) (suc i) new (x ∷ old) = ap (λ l. x ∷ l) (take-spliced n i new old)
+
+-- a slot that holds a page, or nothing
+abbrev pub slot_of : Bool → File → ℕ → List ℕ → Option Page
+slot_of held file number bytes = if held then Some (record { file = file; number = number; bytes = bytes }) else None
+
+pub overwrites : (held : Bool) (of file : File) (number count at : ℕ) (items bytes new : List ℕ) → same_file of file ≡ true → ForSome (slot_of held of number (take count items)) (λ page. true ≡ reaches (at + length bytes) page)
+    → new ≡ spliced (at - 4096 * number) (drop (4096 * number - at) bytes) items → slot_of held of number (take count new) ≡ option_and_then (written file at bytes) (slot_of held of number (take count items))
+overwrites false of file number count at items bytes new same there is = refl
+overwrites true of file number count at items bytes new same there is =
+    let page : Page = record { file = of; number = number; bytes = take count items } in
+    ap (λ l. slot_of true of number l) (ap (take count) is ∙ take-spliced count (at - 4096 * number) (drop (4096 * number - at) bytes) items)
+    ∙ ap (λ b. if b then Some (overwritten at bytes page) else None) (there page refl)
+    ∙ ap (λ b. if b then (if reaches (at + length bytes) page then Some (overwritten at bytes page) else None) else Some page) (sym same)
+
+pub cut_off : (held : Bool) (of file : File) (number at : ℕ) (kept bytes : List ℕ) → same_file of file ≡ true → ForSome (slot_of held of number kept) (λ page. false ≡ reaches (at + length bytes) page)
+    → None ≡ option_and_then (written file at bytes) (slot_of held of number kept)
+cut_off false of file number at kept bytes same there = refl
+cut_off true of file number at kept bytes same there =
+    let page : Page = record { file = of; number = number; bytes = kept } in
+    ap (λ b. if b then Some (overwritten at bytes page) else None) (there page refl)
+    ∙ ap (λ b. if b then (if reaches (at + length bytes) page then Some (overwritten at bytes page) else None) else Some page) (sym same)

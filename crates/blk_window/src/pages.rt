@@ -1,0 +1,142 @@
+// The slots of a window, in the order of their use.
+ghost use Rattle.std.specs.Prelude.{◌≡◌, [], ◌∷◌, ◌+◌, ◌-◌, ◌*◌, ◌<◌, ◌≤◌, ◌%◌, ◌^◌, length, Some, None, IfOk, IfSome, IfNone, is_some, nat_eq, option_and_then};
+ghost use Rattle.std.specs.Option.{ForSome, option_map};
+ghost use Rattle.std.specs.List.{All, IsDistinct, filter_map, find};
+ghost use Rattle.std.specs.Map.{keys_of, lookup};
+ghost use Rattle.blk_io.specs.FileNames.{file_of};
+ghost use Rattle.std.proofs.Props.{props};
+ghost use Rattle.blk_window.specs.Held.{is_held, page_in, page_at, used, dropped, unless_of, written};
+
+use crate::page::{PAGE_SIZE, Page};
+use blk_io::FileId;
+use lru::LruCache;
+use std::alloc::{AllocError, Global};
+use std::mem;
+use std::num::NonZeroUsize;
+
+/// The slots of a window, which are all made at the start. Each has a number, and they are in the order of their use.
+#[derive(Drop)]
+pub struct Pages {
+    slots: LruCache<u16, Page>,
+    ghost some: { 0 < slots.cap },
+    ghost few: { slots.cap < 2 ^ 16 },
+    ghost count: { length slots.entries ≡ slots.cap },
+    ghost distinct: { IsDistinct nat_eq (keys_of slots.entries) } by { Prim.hlevel props },
+    ghost below: { All (λ number. number < slots.cap) (keys_of slots.entries) },
+}
+
+impl Pages {
+    ghost use Rattle.blk_window.specs.Slots.{seen, shows, held_in, giving_way, Copies};
+    ghost use Rattle.blk_window.specs.Pages.{held_of, places_of, IsFree};
+
+    /// So many slots, which hold nothing.
+    pub fn new(alloc: Global, pages: u16) -> Result<Pages, AllocError>
+        requires { 0 < pages }
+        ensures places { IfOk result (λ made. places_of made ≡ pages) }
+        ensures held { IfOk result (λ made. held_of made ≡ []) }
+    {
+        let places = NonZeroUsize::new(usize::from(pages)).unwrap();
+        let mut slots = LruCache::new(alloc, places)?;
+        for slot in 0..pages {
+            slots.put(slot, Page::new(alloc)?)?;
+        }
+        Ok(Pages { slots })
+    }
+
+    /// Whether a page is held.
+    pub fn holds(&self, file: FileId, number: u64) -> bool
+        ensures { result ≡ is_held (file_of file) number (held_of self.now) }
+    {
+        self.find(file, number).is_some()
+    }
+
+    // The first slot that holds a page.
+    fn find(&self, file: FileId, number: u64) -> Option<u16>
+        ensures { result ≡ option_map (λ slot. slot.0) (find (λ slot. shows (file_of file) number slot.1) self.now.slots.entries) }
+    {
+        for (slot, page) in self.slots.iter() {
+            if page.shows(file, number) {
+                return Some(*slot);
+            }
+        }
+        None
+    }
+
+    // The slot whose page gives way to another: the first that holds nothing, or the one that was used longest ago.
+    fn giving_way(&self) -> u16
+        ensures { result ≡ giving_way 0 self.now.slots.entries }
+    {
+        let mut last = 0;
+        for (slot, page) in self.slots.iter() {
+            if !page.is_held() {
+                return *slot;
+            }
+            last = *slot;
+        }
+        last
+    }
+
+    /// Moves bytes of a page from a place of the file on into the front of `out`, as many as there are, if the page is held. It is in front then.
+    pub fn read(&mut self, file: FileId, at: u64, out: &mut [u8]) -> Option<usize>
+        requires { at % 4096 + length out.old ≤ 4096 }
+        ensures within { IfSome result (λ n. n ≤ length out.old) }
+        ensures exact { is_some result ≡ is_held (file_of file) (page_at at) (held_of self.old) }
+        ensures used { IfSome result (λ n. ForSome (page_in (file_of file) (page_at at) (held_of self.old)) (λ page. held_of self.new ≡ used (places_of self.old) page (held_of self.old))) }
+        ensures copies { IfSome result (λ n. ForSome (page_in (file_of file) (page_at at) (held_of self.old)) (λ page. Copies page (at % 4096) out.old out.new n)) }
+        ensures places { places_of self.new ≡ places_of self.old }
+        ensures none { IfNone result (held_of self.new ≡ held_of self.old) }
+        ensures unfilled { IfNone result (out.new ≡ out.old) }
+    {
+        let slot = self.find(file, at / PAGE_SIZE as u64)?;
+        let page = self.slots.get_mut(&slot)?;
+        Some(page.copy((at % PAGE_SIZE as u64) as usize, out))
+    }
+
+    /// Drops the page that gives way to another where all slots hold one, and says which slot is free.
+    pub fn make_room(&mut self) -> u16
+        ensures held { held_of self.new ≡ dropped (places_of self.old) (held_of self.old) }
+        ensures free { IsFree self.new result }
+        ensures places { places_of self.new ≡ places_of self.old }
+    {
+        let slot = self.giving_way();
+        if let Some(page) = self.slots.peek_mut(&slot) {
+            page.clear();
+        }
+        slot
+    }
+
+    /// Changes the page with a slot that is free. What it holds is in front then.
+    pub fn put(&mut self, slot: u16, page: &mut Page)
+        requires free { IsFree self.old slot }
+        ensures held { ForSome (seen page.old) (λ new. held_of self.new ≡ new ∷ held_of self.old) }
+        ensures places { places_of self.new ≡ places_of self.old }
+    {
+        if let Some(place) = self.slots.get_mut(&slot) {
+            mem::swap(place, page);
+        }
+    }
+
+    /// Drops all pages of a file.
+    pub fn forget(&mut self, file: FileId)
+        ensures held { held_of self.new ≡ filter_map (unless_of (file_of file)) (held_of self.old) }
+        ensures places { places_of self.new ≡ places_of self.old }
+    {
+        for slot in 0..self.slots.cap().get() as u16 {
+            if let Some(page) = self.slots.peek_mut(&slot) {
+                page.forget(file);
+            }
+        }
+    }
+
+    /// Writes over bytes of the pages of a file.
+    pub fn write(&mut self, file: FileId, at: u64, bytes: &[u8])
+        ensures held { held_of self.new ≡ filter_map (written (file_of file) at bytes.now) (held_of self.old) }
+        ensures places { places_of self.new ≡ places_of self.old }
+    {
+        for slot in 0..self.slots.cap().get() as u16 {
+            if let Some(page) = self.slots.peek_mut(&slot) {
+                page.write(file, at, bytes);
+            }
+        }
+    }
+}
