@@ -8,7 +8,7 @@ use Rattle.blk_model.specs.declared.Refusal.{Refusal}
 use Rattle.blk_model.specs.declared.Refusal.TheVariants as refusal
 use Rattle.blk_model.specs.State.{State}
 use Rattle.blk_model.specs.Room.{total, items}
-use Rattle.blk_model.specs.Request.{Request, to_create, to_open, to_read, to_write, to_sparse_write, to_sparse_read, to_sparse_range, to_doom_key, to_close, to_list, to_trim}
+use Rattle.blk_model.specs.Request.{Request, to_create, to_open, to_read, to_write, to_sparse_write, to_doom_key, to_close, to_list, to_trim}
 use Rattle.blk_model.specs.Reply.{answer_of}
 use Rattle.blk_model.specs.Step.{Outcome}
 use Rattle.blk_script.specs.declared.fault.LineFault.{LineFault}
@@ -18,7 +18,7 @@ use Rattle.blk_script.specs.Spelling.{line, number_text}
 
 -- Lines that are no command.
 
--- why a line of a session is no command: a fault of the line, or it asks for sparse data, which isn't built yet
+-- why a line of a session is no command: a fault of the line, or it writes sparse data, which isn't built yet
 pub data LineError : Type 0 where
   faulty_text : LineFault → LineError
   not_built : LineError
@@ -28,11 +28,9 @@ abbrev pub error_text : ℕ → LineError → List ℕ
 error_text number (faulty_text why) = line_fault_text number why
 error_text number not_built = line (codes "fault" ∷ number_text number ∷ number_text 8 ∷ codes "NotBuilt" ∷ [])
 
--- whether a command is built: all are but the three on sparse data
+-- whether a command is built: all are but the one that writes sparse data
 abbrev pub is_built : Request → Bool
 is_built (to_sparse_write handle offset bytes) = false
-is_built (to_sparse_read handle offset count) = false
-is_built (to_sparse_range handle offset count) = false
 is_built _ = true
 
 -- a command, where it is built

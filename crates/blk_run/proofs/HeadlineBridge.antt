@@ -24,7 +24,7 @@ use Rattle.blk_repair.specs.Counters.{crash_place, is_in_crash_word, writes_cras
 use Rattle.blk_cache.specs.declared.cache.Cache.{Cache}
 use Rattle.blk_cache.specs.CacheKeeping.{IsBoundAs, KeepsState}
 use Rattle.blk_cache.specs.Opening as opening
-use Rattle.blk_cache.specs.Stepping.{IsPlain}
+use Rattle.blk_cache.specs.Stepping.{IsBuilt}
 use Rattle.blk_headline.specs.Opening.{FailsToOpen, HoldsStill, Opens, has_opened, marks_open, open_mark}
 use Rattle.blk_headline.specs.Run.{bound_names}
 use Rattle.blk_headline.specs.Laws.{IsLeastBound}
@@ -117,19 +117,19 @@ no_name cache state image kept none =
 
 -- Commands.
 
--- a command that is built is none on sparse data
-pub built_plain : (request : Request) → is_built request ≡ true → IsPlain request
-built_plain (to_create handle key) built = tt
-built_plain (to_open handle key) built = tt
-built_plain (to_read handle stream offset count) built = tt
-built_plain (to_write handle stream offset cut bytes) built = tt
-built_plain (to_size handle stream) built = tt
-built_plain (to_sparse_write handle offset bytes) built = let c : false ≡ true = built in cc
-built_plain (to_sparse_read handle offset count) built = let c : false ≡ true = built in cc
-built_plain (to_sparse_range handle offset count) built = let c : false ≡ true = built in cc
-built_plain (to_doom handle) built = tt
-built_plain (to_doom_key key) built = tt
-built_plain (to_close handle) built = tt
-built_plain to_list built = tt
-built_plain (to_trim bytes) built = tt
-built_plain to_total built = tt
+-- a command that is built may be done
+pub may_be_done : (request : Request) → is_built request ≡ true → IsBuilt request
+may_be_done (to_create handle key) built = tt
+may_be_done (to_open handle key) built = tt
+may_be_done (to_read handle stream offset count) built = tt
+may_be_done (to_write handle stream offset cut bytes) built = tt
+may_be_done (to_size handle stream) built = tt
+may_be_done (to_sparse_write handle offset bytes) built = let c : false ≡ true = built in cc
+may_be_done (to_sparse_read handle offset count) built = tt
+may_be_done (to_sparse_range handle offset count) built = tt
+may_be_done (to_doom handle) built = tt
+may_be_done (to_doom_key key) built = tt
+may_be_done (to_close handle) built = tt
+may_be_done to_list built = tt
+may_be_done (to_trim bytes) built = tt
+may_be_done to_total built = tt

@@ -27,7 +27,7 @@ use blk_script::{Field, LineFault, print_fields, read_line};
 pub(crate) enum LineError {
     // The line has a fault.
     Text(LineFault),
-    // It asks for sparse data, which isn't built yet.
+    // It writes sparse data, which isn't built yet.
     NotBuilt,
 }
 
@@ -80,18 +80,18 @@ fn print_error<K: Sink>(out: &mut K, number: u64, why: LineError) -> Result<(), 
     )
 }
 
-// Whether a command is built: the three on sparse data aren't yet.
+// Whether a command is built: the one that writes sparse data isn't yet.
 fn is_built_yet(command: &Command) -> bool
     ensures { result ≡ is_built (request_of command.now) }
 {
     match *command {
-        Command::SparseWrite { .. } | Command::SparseRead { .. } | Command::SparseRange { .. } =>
-            false,
+        Command::SparseWrite { .. } => false,
         Command::Create { .. }
         | Command::Open { .. }
         | Command::Read { .. }
         | Command::Write { .. }
         | Command::Size { .. } => true,
+        Command::SparseRead { .. } | Command::SparseRange { .. } => true,
         Command::Doom { .. }
         | Command::DoomKey { .. }
         | Command::Close { .. }

@@ -1,5 +1,5 @@
 // Sessions over a folder in memory that tells nothing, by the lines of a script.
-ghost use Rattle.blk_cache.specs.Stepping.{IsPlain};
+ghost use Rattle.blk_cache.specs.Stepping.{IsBuilt};
 ghost use Rattle.blk_model.specs.Request.{request_of};
 ghost use Rattle.std.specs.Prelude.{◌≡◌, true};
 
@@ -63,7 +63,7 @@ impl Session {
 
     // Does a command. Gives its answer and the number of its folder calls.
     pub(crate) fn step(&mut self, command: &Command) -> Result<(Answer, u64), StepFault>
-        requires { IsPlain (request_of command.now) }
+        requires { IsBuilt (request_of command.now) }
     {
         let start = self.f.calls();
         let answer = self
@@ -79,7 +79,7 @@ impl Session {
             return Err(StepFault::Device);
         }
         match read_line(line, &mut room) {
-            Ok(command) if is_plain(&command) => {
+            Ok(command) if is_built(&command) => {
                 let (_, calls) = self.step(&command)?;
                 Ok(calls)
             }
@@ -117,14 +117,12 @@ impl Session {
     }
 }
 
-// Whether a command is none of the three on sparse data.
-fn is_plain(command: &Command) -> bool
-    ensures { result ≡ true → IsPlain (request_of command.now) }
+// Whether a command is no SparseWrite, which isn't built yet.
+fn is_built(command: &Command) -> bool
+    ensures { result ≡ true → IsBuilt (request_of command.now) }
 {
     match command {
-        Command::SparseWrite { .. } | Command::SparseRead { .. } | Command::SparseRange { .. } => {
-            false
-        }
+        Command::SparseWrite { .. } => false,
         _ => true,
     }
 }
