@@ -306,7 +306,7 @@ wants-one state moment handle key =
     ap₂ (λ (b m : ℕ). room state [] b m) (let e : total (created handle key state) - total state ≡ length key = omega (arith, bytes) in e) (let e : items (created handle key state) - items state ≡ 1 = omega (arith, more) in e)
 
 -- a Create that isn't refused finds room
-finds-room : (state : State) (moment handle : ℕ) (key : List ℕ) → refused moment (to_create handle key) state ≡ None → is_full (room_for moment (to_create handle key) state) ≡ false
+pub finds-room : (state : State) (moment handle : ℕ) (key : List ℕ) → refused moment (to_create handle key) state ≡ None → is_full (room_for moment (to_create handle key) state) ≡ false
 unfolding refusals
 finds-room state moment handle key passes = let p = none_comes (refusals moment (to_create handle key) state) passes in p.1.1.1.1.0
 

@@ -11,29 +11,30 @@ use Rattle.blk_io.specs.Streams.{Appends}
 use Rattle.blk_io.specs.declared.fault.Damage.{Damage}
 use Rattle.blk_io.specs.declared.fault.Fault.{Fault}
 use Rattle.blk_io.specs.declared.fault.Fault.TheVariants as fault
-use Rattle.blk_model.specs.Holding.{rest}
 use Rattle.blk_model.specs.Refusals.{evicted, evicted_for, is_full, no_room, refused}
 use Rattle.blk_model.specs.Request.{to_create}
-use Rattle.blk_model.specs.Room.{Group, Room, after as makes, full, room, without}
+use Rattle.blk_model.specs.Room.{Group, room, without}
 use Rattle.blk_model.specs.State.{State}
 use Rattle.blk_model.specs.Step.{outcome, step}
 use Rattle.blk_model.specs.declared.Answer.{Answer}
 use Rattle.blk_model.specs.declared.Answer.TheVariants as answer
 use Rattle.blk_model.specs.declared.Refusal.{Refusal}
 use Rattle.blk_model.specs.declared.Refusal.TheVariants as refusal
-use Rattle.blk_kept.specs.Changes.{Finds}
 use Rattle.blk_kept.specs.Commands.{Does, ForKept, IsDone, MayStop, MayStopAtEach}
-use Rattle.blk_kept.proofs.Stopping.{stop-before, stop-evicted}
+use Rattle.blk_kept.proofs.Stopping.{stop-evicted}
 use Rattle.blk_script.specs.Reply.{evicted_text}
 use Rattle.blk_cache.specs.declared.cache.Cache.{Cache}
+use Rattle.blk_cache.specs.declared.covered.Covered.{Covered}
 use Rattle.blk_cache.specs.CacheKeeping.{KeepsState}
 use Rattle.blk_cache.specs.CommandClauses.{IsRefused, KeepsAny}
-use Rattle.blk_cache.specs.Creating.{IsReadyForSome, IsReadyToCreate, create_refusal}
+use Rattle.blk_cache.specs.Covering.{no_parts}
+use Rattle.blk_cache.specs.Creating.{IsNotRefused, IsReadyForSome, IsReadyToCreate, WantsRoomAlone, create_refusal}
 use Rattle.blk_cache.specs.Evicting.{IsEvicting}
+use Rattle.blk_cache.specs.MakingRoom.{ForRoom}
 use Rattle.blk_items.specs.RoomPrinting.{Prints}
 use Rattle.blk_cache.specs.Stepping.{SaysEvicted, SaysFront}
-use Rattle.blk_cache.proofs.CreateRoom.{wants-one}
-use Rattle.blk_items.proofs.RoomGroups.{without-none}
+use Rattle.blk_cache.proofs.CoveredParts.{for-none}
+use Rattle.blk_cache.proofs.CreateRoom.{finds-room, wants-one}
 use Rattle.blk_items.proofs.RoomTexts.{none-behind, none-printed}
 
 -- ---- answers
@@ -58,10 +59,10 @@ module _ (moment handle : ℕ) (key : List ℕ) where
   unfolding evicted
   evicted-is state = ap evicted_for (wants-one state moment handle key)
 
-  pub refused-full : (state : State) → refused moment (to_create handle key) state ≡ create_refusal None (no_room moment (to_create handle key) state) → is_full (room state [] (length key) 1) ≡ true → refused moment (to_create handle key) state ≡ Some refusal.Full
+  refused-full : (state : State) → refused moment (to_create handle key) state ≡ create_refusal None (no_room moment (to_create handle key) state) → is_full (room state [] (length key) 1) ≡ true → refused moment (to_create handle key) state ≡ Some refusal.Full
   refused-full state is over = is ∙ ap (create_refusal None) (room-is state ∙ over)
 
-  pub not-refused : (state : State) → refused moment (to_create handle key) state ≡ create_refusal None (no_room moment (to_create handle key) state) → is_full (room state [] (length key) 1) ≡ false → refused moment (to_create handle key) state ≡ None
+  not-refused : (state : State) → refused moment (to_create handle key) state ≡ create_refusal None (no_room moment (to_create handle key) state) → is_full (room state [] (length key) 1) ≡ false → refused moment (to_create handle key) state ≡ None
   not-refused state is free = is ∙ ap (create_refusal None) (room-is state ∙ free)
 
   refused-groups : (state : State) (why : Refusal) → refused moment (to_create handle key) state ≡ Some why → (step state moment (to_create handle key)).groups ≡ []
@@ -72,11 +73,12 @@ module _ (moment handle : ℕ) (key : List ℕ) where
   unfolding step outcome
   passed-groups state is = ap (λ (o : Option Refusal). (outcome moment (to_create handle key) state o).groups) is
 
-  groups-made : (state : State) → refused moment (to_create handle key) state ≡ create_refusal None (no_room moment (to_create handle key) state) → (step state moment (to_create handle key)).groups ≡ evicted_for (room state [] (length key) 1)
-  groups-made state is = by (room state [] (length key) 1) refl where
-    by : (r : Room) → room state [] (length key) 1 ≡ r → (step state moment (to_create handle key)).groups ≡ evicted_for (room state [] (length key) 1)
-    by full e = refused-groups state refusal.Full (refused-full state is (ap is_full e)) ∙ sym (ap evicted_for e)
-    by (makes groups) e = passed-groups state (not-refused state is (ap is_full e)) ∙ evicted-is state
+  -- a Create that isn't refused finds room
+  pub has-room : (state : State) → refused moment (to_create handle key) state ≡ None → is_full (room state [] (length key) 1) ≡ false
+  has-room state passes = sym (room-is state) ∙ finds-room state moment handle key passes
+
+  groups-made : (state : State) → refused moment (to_create handle key) state ≡ None → (step state moment (to_create handle key)).groups ≡ evicted_for (room state [] (length key) 1)
+  groups-made state passes = passed-groups state passes ∙ evicted-is state
 
   -- ---- texts
 
@@ -89,12 +91,30 @@ module _ (moment handle : ℕ) (key : List ℕ) where
     pub front-before : SaysFront cache told moment (to_create handle key) old old
     front-before image there state k = record { front = []; rest = evicted_text (step state moment (to_create handle key)).groups; split = refl; written = none-behind old }
 
-    module _ (is : ForKept (KeepsState cache) told (λ state. refused moment (to_create handle key) state ≡ create_refusal None (no_room moment (to_create handle key) state))) where
+    module _ (passes : IsNotRefused cache told moment handle key) where
       pub made-says : ForKept (KeepsState cache) told (λ state. Prints failed_before failed old new (evicted_text (evicted_for (room state [] (length key) 1)))) → SaysEvicted cache told moment (to_create handle key) failed_before failed old new
-      made-says prints image there state k = subst (λ (groups : List Group). Prints failed_before failed old new (evicted_text groups)) (sym (groups-made state (is image there state k))) (prints image there state k)
+      made-says prints image there state k = subst (λ (groups : List Group). Prints failed_before failed old new (evicted_text groups)) (sym (groups-made state (passes image there state k))) (prints image there state k)
 
       pub made-front : ForKept (KeepsState cache) told (λ state. Appends old new (evicted_text (evicted_for (room state [] (length key) 1)))) → SaysFront cache told moment (to_create handle key) old new
-      made-front front image there state k = subst (λ (groups : List Group). Appends old new (evicted_text groups)) (sym (groups-made state (is image there state k))) (front image there state k)
+      made-front front image there state k = subst (λ (groups : List Group). Appends old new (evicted_text groups)) (sym (groups-made state (passes image there state k))) (front image there state k)
+
+-- ---- want of room
+
+module _ (cache : Cache) (told : Told) (moment handle : ℕ) (key : List ℕ) (alone : WantsRoomAlone cache told moment handle key) where
+  -- where nothing else is wanted, it is refused where there is no room
+  pub full-refused : ForKept (KeepsState cache) told (λ state. is_full (room state [] (length key) 1) ≡ true) → ForKept (KeepsState cache) told (λ state. refused moment (to_create handle key) state ≡ Some refusal.Full)
+  full-refused over image there state k = refused-full moment handle key state (alone image there state k) (over image there state k)
+
+  -- and not where there is
+  pub free-passes : ForKept (KeepsState cache) told (λ state. is_full (room state [] (length key) 1) ≡ false) → IsNotRefused cache told moment handle key
+  free-passes free image there state k = not-refused moment handle key state (alone image there state k) (free image there state k)
+
+-- what is evicted where there is room is evicted for a Create that isn't refused
+pub room-groups : (cache : Cache) (told : Told) (moment handle : ℕ) (key : List ℕ) (parts : Covered) (P : State → List Group → Type 0) → parts ≡ no_parts → IsNotRefused cache told moment handle key
+    → ForRoom cache parts told (length key) 1 P → ForKept (KeepsState cache) told (λ state. P state (evicted_for (room state [] (length key) 1)))
+room-groups cache told moment handle key parts P none passes holds image there state k =
+    for-none cache parts told (λ state covered. is_full (room state covered (length key) 1) ≡ false → P state (evicted_for (room state covered (length key) 1))) none holds image there state k
+    (has-room moment handle key state (passes image there state k))
 
 -- ---- steps
 
@@ -102,37 +122,24 @@ module _ (moment handle : ℕ) (key : List ℕ) where
 pub there-after : (told mid : Told) (P : Image → Type 0) → Passes told mid P → (image : Image) → told.files ≡ Some image → (from : Image) × (mid.files ≡ Some from)
 there-after told mid P p image there = (after p.steps image, p.applies.files ∙ ap (option_map (after p.steps)) there)
 
-full-none : (r : Room) → is_full r ≡ true → evicted_for r ≡ []
-full-none full e = refl
-full-none (makes groups) e = absurd (let z : false ≡ true = e in cc)
-
-first-none : (first others : List Group) → [] ≡ first ++ others → first ≡ []
-first-none [] others e = refl
-first-none (group ∷ first) others e = cc
-
 module _ (cache : Cache) (told mid : Told) (moment handle : ℕ) (key : List ℕ)
-    (is : ForKept (KeepsState cache) told (λ state. refused moment (to_create handle key) state ≡ create_refusal None (no_room moment (to_create handle key) state)))
+    (passes : IsNotRefused cache told moment handle key)
     (evicting : ForKept (KeepsState cache) told (λ state. Passes told mid (IsEvicting (evicted_for (room state [] (length key) 1)) state))) where
   -- at a word at which room is made it may be stopped
   room-stop : (image i : Image) (state : State) → told.files ≡ Some image → KeepsState cache state image → IsEvicting (evicted_for (room state [] (length key) 1)) state i → MayStop state moment (to_create handle key) i
-  room-stop image i state there k e = by (is_full (room state [] (length key) 1)) refl where
-    by : (over : Bool) → is_full (room state [] (length key) 1) ≡ over → MayStop state moment (to_create handle key) i
-    by true over =
-        let none : e.first ≡ [] = first-none e.first e.others (sym (full-none (room state [] (length key) 1) over) ∙ e.split) in
-        stop-before state moment (to_create handle key) i k.kept.entries.valid (subst (λ (s : State). Finds (rest s) i) (ap (λ (groups : List Group). without groups state) none ∙ without-none state) e.finds)
-    by false free = stop-evicted state moment (to_create handle key) e.first e.others i k.kept.entries.valid (record { passes = not-refused moment handle key state (is image there state k) free; groups = evicted-is moment handle key state ∙ e.split }) e.finds
+  room-stop image i state there k e = stop-evicted state moment (to_create handle key) e.first e.others i k.kept.entries.valid (record { passes = passes image there state k; groups = evicted-is moment handle key state ∙ e.split }) e.finds
 
   pub room-stops : MayStopAtEach (KeepsState cache) told mid moment (to_create handle key)
   room-stops image there state k =
       let may : (i : Image) → IsEvicting (evicted_for (room state [] (length key) 1)) state i → MayStop state moment (to_create handle key) i = λ i e. room-stop image i state there k e in
       passes_weaker (evicting image there state k) may may
 
-  module _ (free : ForKept (KeepsState cache) told (λ state. is_full (room state [] (length key) 1) ≡ false)) (new : Cache) (made : ForKept (KeepsState cache) told (λ state. ForSome mid.files (KeepsState new (without (evicted_for (room state [] (length key) 1)) state)))) where
+  module _ (new : Cache) (made : ForKept (KeepsState cache) told (λ state. ForSome mid.files (KeepsState new (without (evicted_for (room state [] (length key) 1)) state)))) where
     -- then the object is to be made
     pub ready : (image from : Image) (state : State) → told.files ≡ Some image → mid.files ≡ Some from → KeepsState cache state image → IsReadyToCreate new state moment handle key from
     ready image from state there here k = record {
       valid = k.kept.entries.valid;
-      passes = not-refused moment handle key state (is image there state k) (free image there state k);
+      passes = passes image there state k;
       kept = subst (λ (groups : List Group). KeepsState new (without groups state) from) (sym (evicted-is moment handle key state)) (made image there state k from here);
     }
 

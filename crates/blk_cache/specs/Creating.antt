@@ -3,12 +3,14 @@ use Rattle.std.specs.Prelude.{◌≡◌, ℕ, ◌+◌, ◌-◌, ◌^◌, ◌≤�
 use Rattle.std.specs.declared.option.Option.{Option}
 use Rattle.std.specs.declared.option.Option.TheVariants.{None, Some}
 use Rattle.blk_image.specs.Image.{Image}
+use Rattle.blk_image.specs.Told.{Told}
 use Rattle.blk_model.specs.Room.{total}
-use Rattle.blk_model.specs.Refusals.{refused}
+use Rattle.blk_model.specs.Refusals.{no_room, refused}
 use Rattle.blk_model.specs.Request.{to_create}
 use Rattle.blk_model.specs.State.{State, IsValidState}
 use Rattle.blk_model.specs.declared.Refusal.{Refusal}
 use Rattle.blk_model.specs.declared.Refusal.TheVariants as refusal
+use Rattle.blk_kept.specs.Commands.{ForKept}
 use Rattle.blk_kept.specs.CommandStates.{with_room}
 use Rattle.blk_object.specs.Making.{CanHaveNew}
 use Rattle.blk_cache.specs.declared.cache.Cache.{Cache}
@@ -20,6 +22,14 @@ use Rattle.blk_cache.specs.CacheKeeping.{KeepsState}
 abbrev pub create_refusal : (early : Option Refusal) → (no_room : Bool) → Option Refusal
 create_refusal (Some why) no_room = Some why
 create_refusal None no_room = if no_room then Some refusal.Full else None
+
+-- whatever state a cache keeps, a Create is refused for nothing but want of room
+abbrev pub WantsRoomAlone : Cache → Told → (moment handle : ℕ) → List ℕ → Type 0
+WantsRoomAlone cache told moment handle key = ForKept (KeepsState cache) told (λ state. refused moment (to_create handle key) state ≡ create_refusal None (no_room moment (to_create handle key) state))
+
+-- and it isn't refused
+abbrev pub IsNotRefused : Cache → Told → (moment handle : ℕ) → List ℕ → Type 0
+IsNotRefused cache told moment handle key = ForKept (KeepsState cache) told (λ state. refused moment (to_create handle key) state ≡ None)
 
 -- The new object.
 

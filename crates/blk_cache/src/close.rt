@@ -1,21 +1,24 @@
 // The command Close.
-ghost use Rattle.std.specs.Prelude.{◌≡◌, ◌≤◌, IfOk, IfSome, IsSome, None, Ok, OnOk, if◌then◌else◌, slice_set, ℕ};
+ghost use Rattle.std.specs.Prelude.{◌≡◌, ◌≤◌, IfOk, IfSome, IsSome, IsTrue, None, Ok, OnOk, false, if◌then◌else◌, slice_set, true, ℕ};
 ghost use Rattle.std.specs.Option.{ForSome};
 ghost use Rattle.blk_image.specs.Told.{Rises, Stays};
 ghost use Rattle.blk_io.specs.Faults.{IfDamaged, IfDevice};
 ghost use Rattle.blk_model.specs.Request.{to_close};
+ghost use Rattle.blk_format.specs.Address.{blocks_256, is_address, kind_of};
 ghost use Rattle.blk_disk.specs.Open.{IsOpen};
+ghost use Rattle.blk_disk.specs.Tables.{is_node_among, stands_among};
 ghost use Rattle.blk_model.specs.declared.Answer.TheVariants as answer;
 ghost use Rattle.blk_model.specs.declared.Refusal.TheVariants as refusal;
 ghost use Rattle.blk_handles.specs.Bindings.{AreShared, binding_of, is_open, open_object};
 ghost use Rattle.blk_kept.specs.Commands.{Does, MayStopAtEach};
+ghost use Rattle.blk_object.specs.Ending.{Cleans, FreesAll, MayEnd};
 ghost use Rattle.blk_object.specs.FailedChecks.{IsFailedCheck};
 ghost use Rattle.blk_cache.specs.CacheKeeping.{KeepsState};
 ghost use Rattle.blk_cache.specs.Closing.{CountsClosed};
 ghost use Rattle.blk_cache.specs.CommandClauses.{IsRefused, KeepsAny, OnlyNamesChange};
 
 use crate::cache::Cache;
-use blk_handles::Released;
+use blk_handles::{OpenObject, Released};
 use blk_io::{Fault, Folder};
 use blk_items::read_charge;
 use blk_model::{Answer, Refusal};
@@ -62,8 +65,7 @@ impl Cache {
             Released::More => Ok(Answer::Done),
             Released::Last(object) => {
                 let charge = read_charge(f, &self.files, object.entry)?;
-                end_object(f, &self.files, &object)?;
-                self.count_closed(object.doomed, charge);
+                self.end_last(f, &object, charge)?;
                 Ok(Answer::Done)
             }
         }
@@ -79,6 +81,35 @@ impl Cache {
         ensures shared { AreShared self.new.handles }
     {
         self.handles.release(handle)
+    }
+
+    // Ends an object whose last name was freed, and counts it with its charge as closed.
+    //
+    // The clean word is the last that is written to one that isn't doomed: from it on the object is settled as it lies
+    // there.
+    fn end_last<F: Folder>(
+        &mut self,
+        f: &mut F,
+        object: &OpenObject,
+        charge: u64,
+    ) -> Result<(), Fault>
+        requires address { IsTrue (is_address object.now.entry) }
+        requires kind { kind_of object.now.entry ≡ blocks_256 }
+        requires record_stands { IsTrue (stands_among self.old.files object.now.entry) }
+        requires stands { IsTrue (is_node_among self.old.files object.now.node) }
+        requires is_open { ForSome (F.told f.old).files (IsOpen self.old.files) }
+        ensures cleans { object.now.doomed ≡ false → Cleans self.new.files (F.told f.old) (F.told f.new) object.now result }
+        ensures frees { object.now.doomed ≡ true → FreesAll (F.told f.old) (F.told f.new) object.now.entry result }
+        ensures counts { CountsClosed self.old self.new object.now.doomed charge }
+        ensures is_open { ForSome (F.told f.new).files (IsOpen self.new.files) }
+        ensures damaged { IfDamaged result (IsFailedCheck self.new.files (F.told f.new)) }
+        ensures untold { ForSome (F.told f.old).files (MayEnd object.now.doomed object.now.entry object.now.node) → IfDamaged result (λ _. (F.told f.old).files ≡ None) }
+        ensures silent { (F.told f.old).files ≡ None → (F.told f.new).files ≡ None }
+        ensures later { F.faults f.old ≤ F.faults f.new }
+        ensures device { IfDevice result (Rises (F.faults f.old) (F.faults f.new)) }
+    {
+        self.count_closed(object.doomed, charge);
+        end_object(f, &self.files, object)
     }
 
     // Counts a closed object with its charge as open no longer, and a doomed one as no item.

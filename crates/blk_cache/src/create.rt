@@ -1,7 +1,7 @@
 // A new object in a cache.
-ghost use Rattle.std.specs.Prelude.{◌≡◌, ◌≤◌, ◌<◌, ℕ, IfOk, IfSome, IsTrue, None, Ok, OnOk, Some, length, slice_set, true};
+ghost use Rattle.std.specs.Prelude.{◌≡◌, ◌≤◌, ◌<◌, ℕ, Bool, IfOk, IfSome, IsTrue, List, None, Ok, OnOk, Option, Some, false, length, slice_set, true};
 ghost use Rattle.std.specs.Option.{ForSome};
-ghost use Rattle.blk_image.specs.Told.{Passes, Rises, Stays};
+ghost use Rattle.blk_image.specs.Told.{Passes, Rises, Stays, Told};
 ghost use Rattle.blk_io.specs.Faults.{IfDamaged, IfDevice};
 ghost use Rattle.blk_model.specs.Effects.{created};
 ghost use Rattle.blk_model.specs.Holding.{rest};
@@ -10,6 +10,7 @@ ghost use Rattle.blk_model.specs.Request.{to_create};
 ghost use Rattle.blk_model.specs.Sizes.{handle_names, longest_key};
 ghost use Rattle.blk_model.specs.State.{State};
 ghost use Rattle.blk_model.specs.declared.Answer.TheVariants as answer;
+ghost use Rattle.blk_model.specs.declared.Refusal.TheVariants as refusal;
 ghost use Rattle.blk_disk.specs.Open.{IsOpen};
 ghost use Rattle.blk_disk.specs.Tables.{is_node_among, is_record_among};
 ghost use Rattle.blk_handles.specs.Bindings.{AreShared, binding_for, binding_of, open_with};
@@ -19,13 +20,13 @@ ghost use Rattle.blk_object.specs.FailedChecks.{IsFailedCheck};
 ghost use Rattle.blk_object.specs.Making.{CanHaveNew};
 ghost use Rattle.blk_cache.specs.CacheKeeping.{KeepsState};
 ghost use Rattle.blk_cache.specs.CommandClauses.{IsRefused, KeepsAny, open_refusal};
-ghost use Rattle.blk_cache.specs.Creating.{CountsOneMore, HasRoomFor, IsReadyForSome, IsReadyToCreate, KeepsWithRoom, create_refusal};
+ghost use Rattle.blk_cache.specs.Creating.{CountsOneMore, HasRoomFor, IsNotRefused, IsReadyForSome, IsReadyToCreate, KeepsWithRoom, WantsRoomAlone, create_refusal};
 ghost use Rattle.blk_items.specs.Looking.{IsLookDamage};
 ghost use Rattle.blk_items.specs.RoomPrinting.{FailsWhereItRose};
 ghost use Rattle.blk_cache.specs.Stepping.{SaysEvicted, SaysFront};
 
 use crate::cache::Cache;
-use crate::making_room::Room;
+use crate::covered::Covered;
 use blk_addr::Addr;
 use blk_io::{Fault, Folder, Sink};
 use blk_items::{Live, find_live};
@@ -80,10 +81,111 @@ impl Cache {
         if let Some(why) = self.refuses_create(f, handle, key)? {
             return Ok(Answer::Refused(why));
         }
-        match self.make_room(f, out, failed, key.len() as u64, 1)? {
-            Room::Full => Ok(Answer::Refused(Refusal::Full)),
-            Room::Made => self.end_create(f, handle, key, moment),
+        self.create_where_room(f, out, failed, handle, key, moment)
+    }
+
+    // Makes a new object where there is room for it, by a Create that is refused for nothing else.
+    //
+    // It is known whether there is room before anything is evicted, made or bound.
+    fn create_where_room<F: Folder, K: Sink>(
+        &mut self,
+        f: &mut F,
+        out: &mut K,
+        failed: &mut bool,
+        handle: u16,
+        key: &[u8],
+        moment: u64,
+    ) -> Result<Answer, Fault>
+        requires some { 1 ≤ length key.now }
+        requires most { length key.now ≤ longest_key }
+        requires known { handle < handle_names }
+        requires free { binding_of self.old.handles handle ≡ None }
+        requires is_open { ForSome (F.told f.old).files (IsOpen self.old.files) }
+
+        // It is the map's Create, and may be stopped at each word.
+        ensures does { WantsRoomAlone self.old (F.told f.old) moment handle key.now → IfOk result (λ answer. Does (KeepsState self.old) (KeepsState self.new) (F.told f.old) (F.told f.new) moment (to_create handle key.now) answer) }
+        ensures stops { WantsRoomAlone self.old (F.told f.old) moment handle key.now → MayStopAtEach (KeepsState self.old) (F.told f.old) (F.told f.new) moment (to_create handle key.now) }
+
+        // What it evicts is printed, and on any answer a front of that.
+        ensures says { WantsRoomAlone self.old (F.told f.old) moment handle key.now → OnOk result (SaysEvicted self.old (F.told f.old) moment (to_create handle key.now) failed.old failed.new (K.written out.old) (K.written out.new)) }
+        ensures front { WantsRoomAlone self.old (F.told f.old) moment handle key.now → SaysFront self.old (F.told f.old) moment (to_create handle key.now) (K.written out.old) (K.written out.new) }
+        ensures fails { FailsWhereItRose failed.old failed.new (K.faults out.old) (K.faults out.new) }
+
+        // A refusal does nothing.
+        ensures quiet { IfOk result (λ answer. IsRefused answer → Stays (F.told f.old) (F.told f.new)) }
+        ensures unchanged { IfOk result (λ answer. IsRefused answer → self.new ≡ self.old) }
+
+        ensures is_open { OnOk result (ForSome (F.told f.new).files (IsOpen self.new.files)) }
+        ensures notes { self.new.notes ≡ self.old.notes }
+        ensures mark { self.new.mark ≡ self.old.mark }
+        ensures damaged { IfDamaged result (IsFailedCheck self.new.files (F.told f.new)) }
+        ensures untold { WantsRoomAlone self.old (F.told f.old) moment handle key.now → ForSome (F.told f.old).files (KeepsAny self.old) → IfDamaged result (λ _. (F.told f.old).files ≡ None) }
+        ensures silent { (F.told f.old).files ≡ None → (F.told f.new).files ≡ None }
+        ensures later { F.faults f.old ≤ F.faults f.new }
+        ensures sink_later { K.faults out.old ≤ K.faults out.new }
+        ensures device { IfDevice result (Rises (F.faults f.old) (F.faults f.new)) }
+    {
+        if self.has_no_room(key) {
+            return Ok(Answer::Refused(Refusal::Full));
         }
+        self.create_with_room(f, out, failed, handle, key, moment)
+    }
+
+    // Whether there is no room for a new object with a key, by what is kept in memory.
+    fn has_no_room(&self, key: &[u8]) -> bool
+        // Where a Create wants nothing but room it is refused then, and a refusal does and prints nothing.
+        ensures does { result ≡ true → (told : Told) (moment handle : ℕ) → WantsRoomAlone self.now told moment handle key.now → Does (KeepsState self.now) (KeepsState self.now) told told moment (to_create handle key.now) (answer.Refused refusal.Full) }
+        ensures says { result ≡ true → (told : Told) (moment handle : ℕ) → WantsRoomAlone self.now told moment handle key.now → (failed : Bool) (written : Option (List ℕ)) → SaysEvicted self.now told moment (to_create handle key.now) failed failed written written }
+        ensures stops { (told : Told) (moment handle : ℕ) → MayStopAtEach (KeepsState self.now) told told moment (to_create handle key.now) }
+        ensures front { (told : Told) (moment handle : ℕ) (written : Option (List ℕ)) → SaysFront self.now told moment (to_create handle key.now) written written }
+
+        // Else it isn't refused.
+        ensures passes { result ≡ false → (told : Told) (moment handle : ℕ) → WantsRoomAlone self.now told moment handle key.now → IsNotRefused self.now told moment handle key.now }
+    {
+        self.is_full(key.len() as u64, 1, &Covered::none())
+    }
+
+    // Makes a new object by a Create that isn't refused, once all that has to go for it is evicted.
+    fn create_with_room<F: Folder, K: Sink>(
+        &mut self,
+        f: &mut F,
+        out: &mut K,
+        failed: &mut bool,
+        handle: u16,
+        key: &[u8],
+        moment: u64,
+    ) -> Result<Answer, Fault>
+        requires some { 1 ≤ length key.now }
+        requires most { length key.now ≤ longest_key }
+        requires known { handle < handle_names }
+        requires free { binding_of self.old.handles handle ≡ None }
+        requires is_open { ForSome (F.told f.old).files (IsOpen self.old.files) }
+
+        // It is done, and may be stopped at each word.
+        ensures does { IsNotRefused self.old (F.told f.old) moment handle key.now → IfOk result (λ answer. Does (KeepsState self.old) (KeepsState self.new) (F.told f.old) (F.told f.new) moment (to_create handle key.now) answer) }
+        ensures stops { IsNotRefused self.old (F.told f.old) moment handle key.now → MayStopAtEach (KeepsState self.old) (F.told f.old) (F.told f.new) moment (to_create handle key.now) }
+
+        // What it evicts is printed, and on any answer a front of that.
+        ensures says { IsNotRefused self.old (F.told f.old) moment handle key.now → OnOk result (SaysEvicted self.old (F.told f.old) moment (to_create handle key.now) failed.old failed.new (K.written out.old) (K.written out.new)) }
+        ensures front { IsNotRefused self.old (F.told f.old) moment handle key.now → SaysFront self.old (F.told f.old) moment (to_create handle key.now) (K.written out.old) (K.written out.new) }
+        ensures fails { FailsWhereItRose failed.old failed.new (K.faults out.old) (K.faults out.new) }
+
+        // No refusal is left, and so none does anything.
+        ensures quiet { IfOk result (λ answer. IsRefused answer → Stays (F.told f.old) (F.told f.new)) }
+        ensures unchanged { IfOk result (λ answer. IsRefused answer → self.new ≡ self.old) }
+
+        ensures is_open { OnOk result (ForSome (F.told f.new).files (IsOpen self.new.files)) }
+        ensures notes { self.new.notes ≡ self.old.notes }
+        ensures mark { self.new.mark ≡ self.old.mark }
+        ensures damaged { IfDamaged result (IsFailedCheck self.new.files (F.told f.new)) }
+        ensures untold { IsNotRefused self.old (F.told f.old) moment handle key.now → ForSome (F.told f.old).files (KeepsAny self.old) → IfDamaged result (λ _. (F.told f.old).files ≡ None) }
+        ensures silent { (F.told f.old).files ≡ None → (F.told f.new).files ≡ None }
+        ensures later { F.faults f.old ≤ F.faults f.new }
+        ensures sink_later { K.faults out.old ≤ K.faults out.new }
+        ensures device { IfDevice result (Rises (F.faults f.old) (F.faults f.new)) }
+    {
+        self.evict_for(f, out, failed, key.len() as u64, 1, &Covered::none())?;
+        self.end_create(f, handle, key, moment)
     }
 
     // Ends a Create that isn't refused, once all that it evicts is out: its object is made, with a free handle name

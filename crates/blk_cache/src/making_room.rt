@@ -16,7 +16,7 @@ ghost use Rattle.blk_cache.specs.CacheKeeping.{KeepsState};
 ghost use Rattle.blk_cache.specs.CommandClauses.{KeepsAny};
 ghost use Rattle.blk_cache.specs.Covering.{ForCovered, KeepsCovered};
 ghost use Rattle.blk_cache.specs.Evicting.{IsEvicting, OnlyItemsChange};
-ghost use Rattle.blk_cache.specs.MakingRoom.{says_full};
+ghost use Rattle.blk_cache.specs.MakingRoom.{ForRoom, says_full};
 ghost use Rattle.blk_items.specs.RoomPrinting.{FailsWhereItRose, Prints};
 
 use crate::cache::Cache;
@@ -130,11 +130,55 @@ impl Cache {
         if self.is_full(bytes, items, parts) {
             return Ok(Room::Full);
         }
+        self.evict_for(f, out, failed, bytes, items, parts)?;
+        Ok(Room::Made)
+    }
+
+    /// Evicts what has to go for so many more bytes and items, where there can be room for them, and prints it. The
+    /// covered parts stay.
+    ///
+    /// Nothing is evicted where they fit, or nothing is asked for. After a fault nothing is promised of the cache but that
+    /// it may be let go.
+    pub(crate) fn evict_for<F: Folder, K: Sink>(
+        &mut self,
+        f: &mut F,
+        out: &mut K,
+        failed: &mut bool,
+        bytes: u64,
+        items: u64,
+        parts: &Covered,
+    ) -> Result<(), Fault>
+        requires is_open { ForSome (F.told f.old).files (IsOpen self.old.files) }
+
+        // Each state that was kept, and has room, is kept without what is evicted for it, and that is printed.
+        ensures evicted { OnOk result (ForRoom self.old parts.now (F.told f.old) bytes items (λ state groups. ForSome (F.told f.new).files (KeepsState self.new (without groups state)))) }
+        ensures prints { OnOk result (ForRoom self.old parts.now (F.told f.old) bytes items (λ state groups. Prints failed.old failed.new (K.written out.old) (K.written out.new) (evicted_text groups))) }
+
+        // At each word the first of that are out; on any answer a front of its text was printed.
+        ensures stops { ForRoom self.old parts.now (F.told f.old) bytes items (λ state groups. Passes (F.told f.old) (F.told f.new) (IsEvicting groups state)) }
+        ensures front { ForRoom self.old parts.now (F.told f.old) bytes items (λ state groups. Appends (K.written out.old) (K.written out.new) (evicted_text groups)) }
+
+        // Where the sink failed before nothing is printed.
+        ensures quiet { failed.old ≡ true → (failed.new ≡ true) × (K.written out.new ≡ K.written out.old) }
+        ensures fails { FailsWhereItRose failed.old failed.new (K.faults out.old) (K.faults out.new) }
+        ensures others { OnlyItemsChange self.old self.new }
+        ensures is_open { ForSome (F.told f.new).files (IsOpen self.new.files) }
+
+        // A damage is a check that fails on what is read here; nothing is written after it.
+        ensures damaged { IfDamaged result (IsFailedCheck self.new.files (F.told f.new)) }
+
+        // A folder that tells its files gives no damage where the cache keeps a state, in which these parts are covered.
+        ensures untold { ForSome (F.told f.old).files (KeepsCovered self.old parts.now) → IfDamaged result (λ _. (F.told f.old).files ≡ None) }
+        ensures silent { (F.told f.old).files ≡ None → (F.told f.new).files ≡ None }
+        ensures later { F.faults f.old ≤ F.faults f.new }
+        ensures sink_later { K.faults out.old ≤ K.faults out.new }
+        ensures device { IfDevice result (Rises (F.faults f.old) (F.faults f.new)) }
+    {
         if self.wants_none(bytes, items) {
-            return Ok(Room::Made);
+            return Ok(());
         }
         self.evict_until(f, out, failed, &Goal::Room { bytes, items }, parts)?;
-        Ok(Room::Made)
+        Ok(())
     }
 
     // Whether nothing is evicted for so many more bytes and items: nothing is asked for, or they fit.

@@ -1,8 +1,5 @@
-// The folder calls of an audit of many entries, of a repair, and of an eviction.
-use crate::folders::{Entry, Mem, add, give_blocks, put_index, put_words};
-use crate::parts::sparse_folder;
+// The folder calls of an audit of many entries, and of a repair.
 use crate::repairs::mend;
-use crate::sessions::{LIMITS, Session, empty};
 use blk_audit::ScanFault;
 use blk_disk::BlockFiles;
 use blk_index::make;
@@ -10,6 +7,7 @@ use blk_io::{Fault, FileId, Folder, MemFolder, SilentFolder};
 use blk_record::IndexHead;
 use blk_repair::repair;
 use blk_scan::{scan_files, scan_folder};
+use blk_test_folders::folders::{Entry, Mem, add, give_blocks, put_index, put_words};
 use std::alloc::Global;
 use std::test::Fail;
 
@@ -240,24 +238,5 @@ fn a_repair_of_what_is_repaired_takes_few_calls(rt: HostRuntime) -> Result<(), F
 fn the_table_is_read_in_pieces(rt: HostRuntime) -> Result<(), Fail> {
     let calls = table_calls(rt.alloc())?;
     assert!(rt; calls <= 60 + 4, "{calls} calls");
-    Ok(())
-}
-
-// An object without an index, and one with an index and two parts.
-#[test]
-fn an_eviction_reads_a_charge_once(rt: HostRuntime) -> Result<(), Fail> {
-    let mut session = Session::over(rt.alloc(), empty(rt.alloc()), LIMITS)?;
-    session.run(&[b"create 0 a", b"write 0 0 0 6162", b"close 0"])?;
-    let calls = session.line(b"trim 0")?;
-    assert_eq!(rt;
-        session.out.written(),
-        b"ok\nok 2\nok\nevicted a\nok 1\n".as_slice()
-    );
-    assert_eq!(rt; calls, 50);
-    let mut session = Session::over(rt.alloc(), sparse_folder(rt.alloc())?, LIMITS)?;
-    let calls = session.line(b"trim 0")?;
-    let printed = b"evicted v\nevicted v part 1\nevicted v part 0\nok 3\n";
-    assert_eq!(rt; session.out.written(), printed.as_slice());
-    assert_eq!(rt; calls, 175);
     Ok(())
 }

@@ -1,14 +1,14 @@
 // Changes to the folder of all kinds of entries, with what the audit tells then.
-use crate::folders::Change::{Bucket, Gone, Index, Length, Word};
-use crate::folders::{
-    ADDRS, BACK, CONTENTS, Change, DIRTY, FLAGS, HEAD, KEY, KEY_LEN, LONG_KEY, NEXT, NODE_NEXT,
-    NODE_SEAL, OPERATION, PREV, SEAL, SIZES, STATE, TAIL, TRANSACTION,
-};
 use crate::worked::{
     BLOCKS, IEV, JIO, LNIW, MAGIC, N, NAB, OF_LONGER, OF_STREAMS, OF_THREE, OF_TWO, OTHER_INDEX,
     OUTSIDE, PARENT, PARENT_INDEX, PART, PART_DATA, PART_INDEX, STREAMS, TWIN, TWO, UNOWNED, ZRTI,
 };
 use blk_io::FileId;
+use blk_test_folders::folders::Change::{Bucket, Gone, Index, Length, Word};
+use blk_test_folders::folders::{
+    ADDRS, BACK, CONTENTS, Change, DIRTY, FLAGS, HEAD, KEY, KEY_LEN, LONG_KEY, NEXT, NODE_NEXT,
+    NODE_SEAL, OPERATION, PREV, SEAL, SIZES, STATE, TAIL, TRANSACTION,
+};
 
 // Changes to the folder, how many are kept then, and the word of each node and record that is dropped, with its reason's number.
 pub(crate) type Case = (&'static [Change], u64, &'static [(u32, u32)]);

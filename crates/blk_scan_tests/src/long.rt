@@ -1,7 +1,7 @@
 // The longest lists and chains, over several block files.
-use crate::folders::{HEAD, Mem, NODE_NEXT, audited, dropped_at, put_words};
 use blk_index::make;
 use blk_io::{Failed, FileId, Folder, MemFolder, SilentFolder};
+use blk_test_folders::folders::{HEAD, Mem, NODE_NEXT, audited, dropped_at, put_words};
 use std::alloc::Global;
 use std::test::Fail;
 

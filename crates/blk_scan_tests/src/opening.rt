@@ -1,14 +1,15 @@
 // The opening and the end of a cache: on an empty folder, on one of many entries, and on damaged ones where it is stopped.
 use crate::calls::{ENTRIES, Sort, many};
 use crate::cases::STOPPED;
-use crate::folders::{Change, audited};
-use crate::found::found;
-use crate::repairs::{Mem, again, changed};
+use crate::repairs::changed;
 use blk_audit::ScanFault;
 use blk_cache::{Cache, OpenFault};
 use blk_io::{FileId, Folder, MemFolder, SilentFolder, read_word};
 use blk_model::{Limits, MOST_BYTES, MOST_ITEMS};
 use blk_record::IndexHead;
+use blk_test_folders::folders::{Change, audited};
+use blk_test_folders::found::found;
+use blk_test_folders::stopping::{Mem, again};
 use std::alloc::Global;
 use std::test::Fail;
 

@@ -1,21 +1,20 @@
 // The repair of the same folders, and a stop at each of its words.
 use crate::cases::{Case, STOPPED, TABLES};
-use crate::folders::Change::{Index, Length, Word};
-use crate::folders::{
-    Change, NEXT, OPERATION, SEAL, TRANSACTION, audited, change_all, dropped_at, place_of,
-};
-use crate::found::found;
 use crate::worked::{IEV, NAB, make_all};
 use blk_audit::ScanFault;
 use blk_disk::BlockFiles;
 use blk_index::make;
-use blk_io::{Damage, Fault, FileId, Folder, MemFolder, SilentFolder, StopFolder, read_word};
+use blk_io::{Damage, Fault, FileId, Folder, SilentFolder, read_word};
 use blk_repair::repair;
 use blk_scan::{Scan, scan_files};
+use blk_test_folders::folders::Change::{Index, Length, Word};
+use blk_test_folders::folders::{
+    Change, NEXT, OPERATION, SEAL, TRANSACTION, audited, change_all, dropped_at, place_of,
+};
+use blk_test_folders::found::found;
+use blk_test_folders::stopping::{Mem, again, empty};
 use std::alloc::Global;
 use std::test::Fail;
-
-pub(crate) type Mem = SilentFolder<StopFolder>;
 
 // The words of the index that are written where nothing is to be mended: this_id and crash.
 const INDEX_WORDS: u64 = 2;
@@ -25,16 +24,6 @@ const MOST_STEPS: u64 = 1000;
 
 // A repair that follows on a stopped one is stopped within so many steps.
 const NEXT_STEPS: u64 = 23;
-
-// A folder in which no step is made yet and all may be made.
-fn empty(alloc: Global) -> Mem {
-    SilentFolder::new(StopFolder::new(MemFolder::without_trail(alloc), u64::MAX))
-}
-
-// The folder with what was written, where so many more steps pass.
-pub(crate) fn again(f: Mem, steps: u64) -> Mem {
-    SilentFolder::new(StopFolder::new(f.into_inner().into_inner(), steps))
-}
 
 // The folder of all kinds of entries: as it is made, where every seal is 0, or repaired once, where each is sealed.
 fn whole(alloc: Global, sealed: bool) -> Result<Mem, Fail> {

@@ -1,7 +1,7 @@
 // A folder of all kinds of entries.
-use crate::folders::{Entry, add, give_blocks, put_index};
 use blk_index::make;
 use blk_io::{FileId, Folder, SilentFolder};
+use blk_test_folders::folders::{Entry, add, give_blocks, put_index};
 use std::alloc::Global;
 use std::test::Fail;
 

@@ -14,6 +14,7 @@ use Rattle.blk_cache.proofs.CloseSteps.{bound-there, free-refused, free-there, l
 use Rattle.blk_cache.proofs.CloseGone.{closed-done, closed-may, closed-stops}
 use Rattle.blk_cache.proofs.Refusing.{says-kept}
 use Rattle.blk_chain.proofs.Heads.{names-parts}
+use Rattle.blk_object.specs.Ending.{Cleans}
 use Rattle.blk_object.proofs.DamageChecks.{handed, head-checked, moved}
 use Rattle.blk_cache.proofs.cache.Cache.close.Goals as goal
 
@@ -74,65 +75,74 @@ returns-in_err-charge-in-Last-clause-untold g c any =
 
 -- Its end.
 
-pub end_object-requires-clause-is_open : goal.end_object-requires-clause-is_open
-end_object-requires-clause-is_open g c image now =
+pub end_last-requires-clause-is_open : goal.end_last-requires-clause-is_open
+end_last-requires-clause-is_open g c image now =
     subst (λ (files : BlockFiles). IsOpen files image) (sym c.release.ensures.others.files) (c.requires.is_open image (ap (λ (t : Told). t.files) (sym c.in_ok-charge-in-Last.ensures.stays) ∙ now))
 
-pub end_object-requires-clause-names : goal.end_object-requires-clause-names
-end_object-requires-clause-names g c =
+pub end_last-requires-clause-address : goal.end_last-requires-clause-address
+end_last-requires-clause-address g c =
     let b = bound-there c.args.self.now.handles c.args.handle c.object.result c.object.ensures.object (c.is_none.ensures ∙ ap not c.if-is_none.false) in
     let w = was-last c.args.self.now.handles c.release.new.self.handles c.args.handle b.0 b.1 c.release.result c.in-Last.object c.in-Last.is c.release.ensures.answer in
-    last-named c.args.self.now.files c.release.new.self.files c.args.self.now.handles c.release.new.self.handles c.args.self.now.stand c.release.ensures.others.files c.args.handle b.0 b.1 c.in-Last.object w
+    (names-parts c.release.new.self.files c.in-Last.object.entry (last-named c.args.self.now.files c.release.new.self.files c.args.self.now.handles c.release.new.self.handles c.args.self.now.stand c.release.ensures.others.files c.args.handle b.0 b.1 c.in-Last.object w)).0
 
-pub end_object-requires-clause-stands : goal.end_object-requires-clause-stands
-end_object-requires-clause-stands g c =
+pub end_last-requires-clause-kind : goal.end_last-requires-clause-kind
+end_last-requires-clause-kind g c =
+    let b = bound-there c.args.self.now.handles c.args.handle c.object.result c.object.ensures.object (c.is_none.ensures ∙ ap not c.if-is_none.false) in
+    let w = was-last c.args.self.now.handles c.release.new.self.handles c.args.handle b.0 b.1 c.release.result c.in-Last.object c.in-Last.is c.release.ensures.answer in
+    (names-parts c.release.new.self.files c.in-Last.object.entry (last-named c.args.self.now.files c.release.new.self.files c.args.self.now.handles c.release.new.self.handles c.args.self.now.stand c.release.ensures.others.files c.args.handle b.0 b.1 c.in-Last.object w)).1.0
+
+pub end_last-requires-clause-record_stands : goal.end_last-requires-clause-record_stands
+end_last-requires-clause-record_stands g c =
+    let b = bound-there c.args.self.now.handles c.args.handle c.object.result c.object.ensures.object (c.is_none.ensures ∙ ap not c.if-is_none.false) in
+    let w = was-last c.args.self.now.handles c.release.new.self.handles c.args.handle b.0 b.1 c.release.result c.in-Last.object c.in-Last.is c.release.ensures.answer in
+    (names-parts c.release.new.self.files c.in-Last.object.entry (last-named c.args.self.now.files c.release.new.self.files c.args.self.now.handles c.release.new.self.handles c.args.self.now.stand c.release.ensures.others.files c.args.handle b.0 b.1 c.in-Last.object w)).1.1
+
+pub end_last-requires-clause-stands : goal.end_last-requires-clause-stands
+end_last-requires-clause-stands g c =
     let b = bound-there c.args.self.now.handles c.args.handle c.object.result c.object.ensures.object (c.is_none.ensures ∙ ap not c.if-is_none.false) in
     let w = was-last c.args.self.now.handles c.release.new.self.handles c.args.handle b.0 b.1 c.release.result c.in-Last.object c.in-Last.is c.release.ensures.answer in
     last-stands c.args.self.now.files c.release.new.self.files c.args.self.now.handles c.release.new.self.handles c.args.self.now.stand c.release.ensures.others.files c.args.handle b.0 b.1 c.in-Last.object w
 
-pub returns-in_err-end_object-in-Last-clause-stops : goal.returns-in_err-end_object-in-Last-clause-stops
-returns-in_err-end_object-in-Last-clause-stops g c moment =
+pub returns-in_err-end_last-in-Last-clause-stops : goal.returns-in_err-end_last-in-Last-clause-stops
+returns-in_err-end_last-in-Last-clause-stops g c moment =
     let b = bound-there c.args.self.now.handles c.args.handle c.object.result c.object.ensures.object (c.is_none.ensures ∙ ap not c.if-is_none.false) in
     let w = was-last c.args.self.now.handles c.release.new.self.handles c.args.handle b.0 b.1 c.release.result c.in-Last.object c.in-Last.is c.release.ensures.answer in
-    closed-stops c.args.self.now (g.F.Folder.told c.args.f.now) (g.F.Folder.told c.read_charge.new.f) (g.F.Folder.told c.end_object.new.f) c.in_ok-charge-in-Last.ensures.stays c.args.handle (omega (arith, c.ranges.handle.fits)) b.0 b.1 c.release.new.self c.release.ensures.frees c.release.ensures.others c.in-Last.object w
+    closed-stops c.args.self.now (g.F.Folder.told c.args.f.now) (g.F.Folder.told c.read_charge.new.f) (g.F.Folder.told c.end_last.new.f) c.in_ok-charge-in-Last.ensures.stays c.args.handle (omega (arith, c.ranges.handle.fits)) b.0 b.1 c.release.new.self c.release.ensures.frees c.release.ensures.others c.in-Last.object w
     (g.met.F.Folder.are_bytes c.read_charge.new.f)
     (last-stands c.args.self.now.files c.args.self.now.files c.args.self.now.handles c.release.new.self.handles c.args.self.now.stand refl c.args.handle b.0 b.1 c.in-Last.object w)
-    c.end_object.result c.end_object.ensures.cleans c.end_object.ensures.frees moment
+    c.end_last.result (λ e. subst (λ (fs : BlockFiles). Cleans fs (g.F.Folder.told c.read_charge.new.f) (g.F.Folder.told c.end_last.new.f) c.in-Last.object c.end_last.result) c.end_last.ensures.counts.files (c.end_last.ensures.cleans e)) c.end_last.ensures.frees moment
 
-pub returns-in_ok-end_object-in-Last-clause-stops : goal.returns-in_ok-end_object-in-Last-clause-stops
-returns-in_ok-end_object-in-Last-clause-stops g c moment =
+pub returns-in_ok-end_last-in-Last-clause-stops : goal.returns-in_ok-end_last-in-Last-clause-stops
+returns-in_ok-end_last-in-Last-clause-stops g c moment =
     let b = bound-there c.args.self.now.handles c.args.handle c.object.result c.object.ensures.object (c.is_none.ensures ∙ ap not c.if-is_none.false) in
     let w = was-last c.args.self.now.handles c.release.new.self.handles c.args.handle b.0 b.1 c.release.result c.in-Last.object c.in-Last.is c.release.ensures.answer in
-    closed-stops c.args.self.now (g.F.Folder.told c.args.f.now) (g.F.Folder.told c.read_charge.new.f) (g.F.Folder.told c.end_object.new.f) c.in_ok-charge-in-Last.ensures.stays c.args.handle (omega (arith, c.ranges.handle.fits)) b.0 b.1 c.release.new.self c.release.ensures.frees c.release.ensures.others c.in-Last.object w
+    closed-stops c.args.self.now (g.F.Folder.told c.args.f.now) (g.F.Folder.told c.read_charge.new.f) (g.F.Folder.told c.end_last.new.f) c.in_ok-charge-in-Last.ensures.stays c.args.handle (omega (arith, c.ranges.handle.fits)) b.0 b.1 c.release.new.self c.release.ensures.frees c.release.ensures.others c.in-Last.object w
     (g.met.F.Folder.are_bytes c.read_charge.new.f)
     (last-stands c.args.self.now.files c.args.self.now.files c.args.self.now.handles c.release.new.self.handles c.args.self.now.stand refl c.args.handle b.0 b.1 c.in-Last.object w)
-    c.end_object.result c.end_object.ensures.cleans c.end_object.ensures.frees moment
+    c.end_last.result (λ e. subst (λ (fs : BlockFiles). Cleans fs (g.F.Folder.told c.read_charge.new.f) (g.F.Folder.told c.end_last.new.f) c.in-Last.object c.end_last.result) c.end_last.ensures.counts.files (c.end_last.ensures.cleans e)) c.end_last.ensures.frees moment
 
-pub returns-in_err-end_object-in-Last-clause-untold : goal.returns-in_err-end_object-in-Last-clause-untold
-returns-in_err-end_object-in-Last-clause-untold g c any =
+pub returns-in_err-end_last-in-Last-clause-untold : goal.returns-in_err-end_last-in-Last-clause-untold
+returns-in_err-end_last-in-Last-clause-untold g c any =
     let old : Told = g.F.Folder.told c.args.f.now in
     let mid : Told = g.F.Folder.told c.read_charge.new.f in
     let b = bound-there c.args.self.now.handles c.args.handle c.object.result c.object.ensures.object (c.is_none.ensures ∙ ap not c.if-is_none.false) in
     let w = was-last c.args.self.now.handles c.release.new.self.handles c.args.handle b.0 b.1 c.release.result c.in-Last.object c.in-Last.is c.release.ensures.answer in
     let same : mid.files ≡ old.files = ap (λ (t : Told). t.files) c.in_ok-charge-in-Last.ensures.stays in
-    carried c.end_object.result c.from_residual-in_err-end_object-in-Last.result c.in_err-end_object-in-Last.field-0.0 (λ _. old.files ≡ None) c.in_err-end_object-in-Last.was c.from_residual-in_err-end_object-in-Last.ensures.1
-    (if_damaged_weaker c.end_object.result (λ _. mid.files ≡ None) (λ _. old.files ≡ None) (λ damage none. sym same ∙ none)
-    (c.end_object.ensures.untold
+    carried c.end_last.result c.from_residual-in_err-end_last-in-Last.result c.in_err-end_last-in-Last.field-0.0 (λ _. old.files ≡ None) c.in_err-end_last-in-Last.was c.from_residual-in_err-end_last-in-Last.ensures.1
+    (if_damaged_weaker c.end_last.result (λ _. mid.files ≡ None) (λ _. old.files ≡ None) (λ damage none. sym same ∙ none)
+    (c.end_last.ensures.untold
     (closed-may c.args.self.now old mid mid c.in_ok-charge-in-Last.ensures.stays c.args.handle (omega (arith, c.ranges.handle.fits)) b.0 b.1 c.release.new.self c.release.ensures.frees c.release.ensures.others c.in-Last.object w (g.met.F.Folder.are_bytes c.read_charge.new.f)
     (last-stands c.args.self.now.files c.args.self.now.files c.args.self.now.handles c.release.new.self.handles c.args.self.now.stand refl c.args.handle b.0 b.1 c.in-Last.object w) any)))
 
-pub returns-in_ok-end_object-in-Last-clause-does : goal.returns-in_ok-end_object-in-Last-clause-does
-returns-in_ok-end_object-in-Last-clause-does g c moment =
+pub returns-in_ok-end_last-in-Last-clause-does : goal.returns-in_ok-end_last-in-Last-clause-does
+returns-in_ok-end_last-in-Last-clause-does g c moment =
     let b = bound-there c.args.self.now.handles c.args.handle c.object.result c.object.ensures.object (c.is_none.ensures ∙ ap not c.if-is_none.false) in
     let w = was-last c.args.self.now.handles c.release.new.self.handles c.args.handle b.0 b.1 c.release.result c.in-Last.object c.in-Last.is c.release.ensures.answer in
-    closed-done c.args.self.now (g.F.Folder.told c.args.f.now) (g.F.Folder.told c.read_charge.new.f) (g.F.Folder.told c.end_object.new.f) c.in_ok-charge-in-Last.ensures.stays c.args.handle (omega (arith, c.ranges.handle.fits)) b.0 b.1 c.release.new.self c.release.ensures.frees c.release.ensures.others c.in-Last.object w
+    closed-done c.args.self.now (g.F.Folder.told c.args.f.now) (g.F.Folder.told c.read_charge.new.f) (g.F.Folder.told c.end_last.new.f) c.in_ok-charge-in-Last.ensures.stays c.args.handle (omega (arith, c.ranges.handle.fits)) b.0 b.1 c.release.new.self c.release.ensures.frees c.release.ensures.others c.in-Last.object w
     (g.met.F.Folder.are_bytes c.read_charge.new.f)
     (last-stands c.args.self.now.files c.args.self.now.files c.args.self.now.handles c.release.new.self.handles c.args.self.now.stand refl c.args.handle b.0 b.1 c.in-Last.object w)
-    (Ok c.in_ok-end_object-in-Last.field-0) c.in_ok-end_object-in-Last.ensures.cleans c.in_ok-end_object-in-Last.ensures.frees moment
-    (λ P p. p) c.count_closed.new.self c.in_ok-end_object-in-Last.ensures.is_open c.in_ok-charge-in-Last.charge c.count_closed.ensures.counts c.release.ensures.charged c.in_ok-charge-in-Last.ensures.charge
-
-pub returns-in_ok-end_object-in-Last-clause-is_open : goal.returns-in_ok-end_object-in-Last-clause-is_open
-returns-in_ok-end_object-in-Last-clause-is_open g c image now = subst (λ (files : BlockFiles). IsOpen files image) (sym c.count_closed.ensures.counts.files) (c.in_ok-end_object-in-Last.ensures.is_open image now)
+    (Ok c.in_ok-end_last-in-Last.field-0) (λ e. subst (λ (fs : BlockFiles). Cleans fs (g.F.Folder.told c.read_charge.new.f) (g.F.Folder.told c.end_last.new.f) c.in-Last.object (Ok c.in_ok-end_last-in-Last.field-0)) c.end_last.ensures.counts.files (c.in_ok-end_last-in-Last.ensures.cleans e)) c.in_ok-end_last-in-Last.ensures.frees moment
+    (λ P p. p) c.end_last.new.self (λ image now. subst (λ (fs : BlockFiles). IsOpen fs image) c.end_last.ensures.counts.files (c.in_ok-end_last-in-Last.ensures.is_open image now)) c.in_ok-charge-in-Last.charge c.end_last.ensures.counts c.release.ensures.charged c.in_ok-charge-in-Last.ensures.charge
 
 pub returns-in_err-charge-in-Last-clause-damaged : goal.returns-in_err-charge-in-Last-clause-damaged
 returns-in_err-charge-in-Last-clause-damaged g c =

@@ -42,54 +42,20 @@ returns-then-is_full-clause-front g c image there state k covered are =
     let none = full-none state covered c.args.bytes c.args.items full in
     (none-printed-of (evicted_for (room state covered c.args.bytes c.args.items)) c.args.failed.now (g.K.Sink.written c.args.out.now) none).front
 
-pub returns-then-wants_none-clause-full : goal.returns-then-wants_none-clause-full
-returns-then-wants_none-clause-full g c image there state k covered are =
+pub returns-in_err-evict_for-clause-stops : goal.returns-in_err-evict_for-clause-stops
+returns-in_err-evict_for-clause-stops g c image there state k covered are =
     let passes : is_full (room state covered c.args.bytes c.args.items) ≡ false = sym (c.is_full.ensures.full state image k covered are) ∙ (let e : c.is_full.result ≡ false = search rules in e) in
-    sym passes
+    c.in_err-evict_for.ensures.stops image there state k covered are passes
 
-pub returns-then-wants_none-clause-made : goal.returns-then-wants_none-clause-made
-returns-then-wants_none-clause-made g c image there state k covered are now then_there =
+pub returns-in_err-evict_for-clause-front : goal.returns-in_err-evict_for-clause-front
+returns-in_err-evict_for-clause-front g c image there state k covered are =
     let passes : is_full (room state covered c.args.bytes c.args.items) ≡ false = sym (c.is_full.ensures.full state image k covered are) ∙ (let e : c.is_full.result ≡ false = search rules in e) in
-    let wanted : ((c.args.bytes == 0 && c.args.items == 0) || fits state.limits.max_bytes c.args.bytes c.args.items state) ≡ true = sym (c.wants_none.ensures.none state image k) ∙ (let e : c.wants_none.result ≡ true = search rules in e) in
-    let none = none-goes state covered c.args.bytes c.args.items passes wanted in
-    none-kept c.args.self.now state (evicted_for (room state covered c.args.bytes c.args.items)) now none (subst (KeepsState c.args.self.now state) (some_inj (sym there ∙ then_there)) k)
+    c.in_err-evict_for.ensures.front image there state k covered are passes
 
-pub returns-then-wants_none-clause-prints : goal.returns-then-wants_none-clause-prints
-returns-then-wants_none-clause-prints g c image there state k covered are =
-    let passes : is_full (room state covered c.args.bytes c.args.items) ≡ false = sym (c.is_full.ensures.full state image k covered are) ∙ (let e : c.is_full.result ≡ false = search rules in e) in
-    let wanted : ((c.args.bytes == 0 && c.args.items == 0) || fits state.limits.max_bytes c.args.bytes c.args.items state) ≡ true = sym (c.wants_none.ensures.none state image k) ∙ (let e : c.wants_none.result ≡ true = search rules in e) in
-    let none = none-goes state covered c.args.bytes c.args.items passes wanted in
-    none-printed-of (evicted_for (room state covered c.args.bytes c.args.items)) c.args.failed.now (g.K.Sink.written c.args.out.now) none
-
-pub returns-then-wants_none-clause-stops : goal.returns-then-wants_none-clause-stops
-returns-then-wants_none-clause-stops g c image there state k covered are =
-    none-stops (g.F.Folder.told c.args.f.now) c.args.self.now state (evicted_for (room state covered c.args.bytes c.args.items)) image there k
-
-pub returns-then-wants_none-clause-front : goal.returns-then-wants_none-clause-front
-returns-then-wants_none-clause-front g c image there state k covered are =
-    let passes : is_full (room state covered c.args.bytes c.args.items) ≡ false = sym (c.is_full.ensures.full state image k covered are) ∙ (let e : c.is_full.result ≡ false = search rules in e) in
-    let wanted : ((c.args.bytes == 0 && c.args.items == 0) || fits state.limits.max_bytes c.args.bytes c.args.items state) ≡ true = sym (c.wants_none.ensures.none state image k) ∙ (let e : c.wants_none.result ≡ true = search rules in e) in
-    let none = none-goes state covered c.args.bytes c.args.items passes wanted in
-    (none-printed-of (evicted_for (room state covered c.args.bytes c.args.items)) c.args.failed.now (g.K.Sink.written c.args.out.now) none).front
-
-pub returns-in_err-evict_until-clause-stops : goal.returns-in_err-evict_until-clause-stops
-returns-in_err-evict_until-clause-stops g c image there state k covered are =
-    let passes : is_full (room state covered c.args.bytes c.args.items) ≡ false = sym (c.is_full.ensures.full state image k covered are) ∙ (let e : c.is_full.result ≡ false = search rules in e) in
-    let wanted : ((c.args.bytes == 0 && c.args.items == 0) || fits state.limits.max_bytes c.args.bytes c.args.items state) ≡ false = sym (c.wants_none.ensures.none state image k) ∙ (let e : c.wants_none.result ≡ false = search rules in e) in
-    let goes = wanted-goes state covered c.args.bytes c.args.items passes wanted in
-    subst (λ (gs : List Group). Passes (g.F.Folder.told c.args.f.now) (g.F.Folder.told c.evict_until.new.f) (IsEvicting gs state)) goes (c.in_err-evict_until.ensures.stops image there state k covered are)
-
-pub returns-in_err-evict_until-clause-front : goal.returns-in_err-evict_until-clause-front
-returns-in_err-evict_until-clause-front g c image there state k covered are =
-    let passes : is_full (room state covered c.args.bytes c.args.items) ≡ false = sym (c.is_full.ensures.full state image k covered are) ∙ (let e : c.is_full.result ≡ false = search rules in e) in
-    let wanted : ((c.args.bytes == 0 && c.args.items == 0) || fits state.limits.max_bytes c.args.bytes c.args.items state) ≡ false = sym (c.wants_none.ensures.none state image k) ∙ (let e : c.wants_none.result ≡ false = search rules in e) in
-    let goes = wanted-goes state covered c.args.bytes c.args.items passes wanted in
-    subst (λ (gs : List Group). Appends (g.K.Sink.written c.args.out.now) (g.K.Sink.written c.evict_until.new.out) (evicted_text gs)) goes (c.in_err-evict_until.ensures.front image there state k covered are)
-
-pub returns-in_err-evict_until-clause-untold : goal.returns-in_err-evict_until-clause-untold
-returns-in_err-evict_until-clause-untold g c any =
-    carried c.evict_until.result c.from_residual.result c.in_err-evict_until.field-0.0 (λ _. (g.F.Folder.told c.args.f.now).files ≡ None) c.in_err-evict_until.was c.from_residual.ensures.1
-    (c.evict_until.ensures.untold any)
+pub returns-in_err-evict_for-clause-untold : goal.returns-in_err-evict_for-clause-untold
+returns-in_err-evict_for-clause-untold g c any =
+    carried c.evict_for.result c.from_residual.result c.in_err-evict_for.field-0.0 (λ _. (g.F.Folder.told c.args.f.now).files ≡ None) c.in_err-evict_for.was c.from_residual.ensures.1
+    (c.evict_for.ensures.untold any)
 
 pub returns-clause-full : goal.returns-clause-full
 returns-clause-full g c image there state k covered are =
@@ -99,27 +65,19 @@ returns-clause-full g c image there state k covered are =
 pub returns-clause-made : goal.returns-clause-made
 returns-clause-made g c image there state k covered are =
     let passes : is_full (room state covered c.args.bytes c.args.items) ≡ false = sym (c.is_full.ensures.full state image k covered are) ∙ (let e : c.is_full.result ≡ false = search rules in e) in
-    let wanted : ((c.args.bytes == 0 && c.args.items == 0) || fits state.limits.max_bytes c.args.bytes c.args.items state) ≡ false = sym (c.wants_none.ensures.none state image k) ∙ (let e : c.wants_none.result ≡ false = search rules in e) in
-    let goes = wanted-goes state covered c.args.bytes c.args.items passes wanted in
-    subst (λ (gs : List Group). ForSome (g.F.Folder.told c.evict_until.new.f).files (KeepsState c.evict_until.new.self (without gs state))) goes (c.in_ok-evict_until.ensures.evicted image there state k covered are)
+    c.in_ok-evict_for.ensures.evicted image there state k covered are passes
 
 pub returns-clause-prints : goal.returns-clause-prints
 returns-clause-prints g c image there state k covered are =
     let passes : is_full (room state covered c.args.bytes c.args.items) ≡ false = sym (c.is_full.ensures.full state image k covered are) ∙ (let e : c.is_full.result ≡ false = search rules in e) in
-    let wanted : ((c.args.bytes == 0 && c.args.items == 0) || fits state.limits.max_bytes c.args.bytes c.args.items state) ≡ false = sym (c.wants_none.ensures.none state image k) ∙ (let e : c.wants_none.result ≡ false = search rules in e) in
-    let goes = wanted-goes state covered c.args.bytes c.args.items passes wanted in
-    subst (λ (gs : List Group). Prints c.args.failed.now c.evict_until.new.failed (g.K.Sink.written c.args.out.now) (g.K.Sink.written c.evict_until.new.out) (evicted_text gs)) goes (c.in_ok-evict_until.ensures.prints image there state k covered are)
+    c.in_ok-evict_for.ensures.prints image there state k covered are passes
 
 pub returns-clause-stops : goal.returns-clause-stops
 returns-clause-stops g c image there state k covered are =
     let passes : is_full (room state covered c.args.bytes c.args.items) ≡ false = sym (c.is_full.ensures.full state image k covered are) ∙ (let e : c.is_full.result ≡ false = search rules in e) in
-    let wanted : ((c.args.bytes == 0 && c.args.items == 0) || fits state.limits.max_bytes c.args.bytes c.args.items state) ≡ false = sym (c.wants_none.ensures.none state image k) ∙ (let e : c.wants_none.result ≡ false = search rules in e) in
-    let goes = wanted-goes state covered c.args.bytes c.args.items passes wanted in
-    subst (λ (gs : List Group). Passes (g.F.Folder.told c.args.f.now) (g.F.Folder.told c.evict_until.new.f) (IsEvicting gs state)) goes (c.in_ok-evict_until.ensures.stops image there state k covered are)
+    c.in_ok-evict_for.ensures.stops image there state k covered are passes
 
 pub returns-clause-front : goal.returns-clause-front
 returns-clause-front g c image there state k covered are =
     let passes : is_full (room state covered c.args.bytes c.args.items) ≡ false = sym (c.is_full.ensures.full state image k covered are) ∙ (let e : c.is_full.result ≡ false = search rules in e) in
-    let wanted : ((c.args.bytes == 0 && c.args.items == 0) || fits state.limits.max_bytes c.args.bytes c.args.items state) ≡ false = sym (c.wants_none.ensures.none state image k) ∙ (let e : c.wants_none.result ≡ false = search rules in e) in
-    let goes = wanted-goes state covered c.args.bytes c.args.items passes wanted in
-    subst (λ (gs : List Group). Appends (g.K.Sink.written c.args.out.now) (g.K.Sink.written c.evict_until.new.out) (evicted_text gs)) goes (c.in_ok-evict_until.ensures.front image there state k covered are)
+    c.in_ok-evict_for.ensures.front image there state k covered are passes

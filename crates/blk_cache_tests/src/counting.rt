@@ -1,15 +1,15 @@
 // The word `count` on an empty folder, on folders of three entries that are hostile or damaged, and where a call fails.
-use crate::folders::Change::{Gone, Index, Length, Word};
-use crate::folders::{
-    ADDRS, Change, Entry, Mem, NEXT, OPERATION, PREV, SIZES, TRANSACTION, add, change_all,
-    give_blocks,
-};
 use blk_index::make;
 use blk_io::{
     Failed, FileId, Folder, ListClock, MemFolder, MemSink, MemSource, SilentFolder, read_word,
 };
 use blk_record::IndexHead;
 use blk_run::{Status, run};
+use blk_test_folders::folders::Change::{Gone, Index, Length, Word};
+use blk_test_folders::folders::{
+    ADDRS, Change, Entry, Mem, NEXT, OPERATION, PREV, SIZES, TRANSACTION, add, change_all,
+    give_blocks,
+};
 use std::alloc::Global;
 use std::test::Fail;
 

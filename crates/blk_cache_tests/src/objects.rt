@@ -1,11 +1,11 @@
 // Objects that are made and removed, in a folder in memory that tells nothing.
-use crate::folders::{HEAD, Mem, give_blocks};
 use blk_chain::find;
 use blk_disk::BlockFiles;
 use blk_entry::node_of;
 use blk_index::make;
 use blk_io::{Fault, FileId, Folder, MemFolder, SilentFolder, read_word};
 use blk_object::{Made, make_entry, remove_item};
+use blk_test_folders::folders::{HEAD, Mem, give_blocks};
 use std::alloc::Global;
 use std::test::Fail;
 

@@ -6,68 +6,68 @@ use blk_record::super_fast_hash;
 use blk_scan::{Scan, scan_files};
 use std::alloc::Global;
 
-pub(crate) type Mem = SilentFolder<MemFolder>;
+pub type Mem = SilentFolder<MemFolder>;
 
-// The fields of the index.
-pub(crate) const HEAD: u64 = 288;
+/// The fields of the index.
+pub const HEAD: u64 = 288;
 
-pub(crate) const TAIL: u64 = 308;
+pub const TAIL: u64 = 308;
 
-pub(crate) const TRANSACTION: u64 = 328;
+pub const TRANSACTION: u64 = 328;
 
-pub(crate) const OPERATION: u64 = 332;
+pub const OPERATION: u64 = 332;
 
-// The fields of a node.
-pub(crate) const NODE_NEXT: u64 = 16;
+/// The fields of a node.
+pub const NODE_NEXT: u64 = 16;
 
-pub(crate) const PREV: u64 = 20;
+pub const PREV: u64 = 20;
 
-pub(crate) const CONTENTS: u64 = 24;
+pub const CONTENTS: u64 = 24;
 
-pub(crate) const DIRTY: u64 = 28;
+pub const DIRTY: u64 = 28;
 
-pub(crate) const NODE_SEAL: u64 = 32;
+pub const NODE_SEAL: u64 = 32;
 
-// The fields of a record: those of its four streams stand side by side, and its next is behind its hash.
-pub(crate) const NEXT: u64 = 4;
+/// The fields of a record: those of its four streams stand side by side, and its next is behind its hash.
+pub const NEXT: u64 = 4;
 
-pub(crate) const BACK: u64 = 8;
+pub const BACK: u64 = 8;
 
-pub(crate) const STATE: u64 = 20;
+pub const STATE: u64 = 20;
 
-pub(crate) const KEY_LEN: u64 = 32;
+pub const KEY_LEN: u64 = 32;
 
-pub(crate) const LONG_KEY: u64 = 36;
+pub const LONG_KEY: u64 = 36;
 
-pub(crate) const SIZES: u64 = 40;
+pub const SIZES: u64 = 40;
 
-pub(crate) const ADDRS: u64 = 56;
+pub const ADDRS: u64 = 56;
 
-pub(crate) const FLAGS: u64 = 72;
+pub const FLAGS: u64 = 72;
 
-pub(crate) const SEAL: u64 = 92;
+pub const SEAL: u64 = 92;
 
-pub(crate) const KEY: u64 = 96;
+pub const KEY: u64 = 96;
 
-// The word of node 0, and the bytes of a header.
-pub(crate) const NODES: u32 = 0x9000_0000;
+/// The word of node 0, and the bytes of a header.
+pub const NODES: u32 = 0x9000_0000;
 
 const HEADER: u64 = 8192;
 
-// An entry: its record's address word, its key with the word of its place where it is long, its flags, and the size and address of
-// each of its streams.
+/// An entry: its record's address word, its key with the word of its place where it is long, its flags, and the size and address of
+/// each of its streams.
 #[derive(Clone, Copy)]
-pub(crate) struct Entry<'a> {
-    pub(crate) record: u32,
-    pub(crate) key: &'a [u8],
-    pub(crate) long_key: u32,
-    pub(crate) flags: u32,
-    pub(crate) sizes: [u32; 4],
-    pub(crate) addrs: [u32; 4],
+pub struct Entry<'a> {
+    pub record: u32,
+    pub key: &'a [u8],
+    pub long_key: u32,
+    pub flags: u32,
+    pub sizes: [u32; 4],
+    pub addrs: [u32; 4],
 }
 
-// The file and the place of the first block of an address in one of the first four block files, or of an external file.
-pub(crate) fn place_of(word: u32) -> (FileId, u64) {
+/// The file and the place of the first block of an address in one of the first four block files, or of an external file.
+pub fn place_of(word: u32) -> (FileId, u64) {
     let start = u64::from(word & 0xFFFF);
     match word & 0x7003_0000 {
         0x1000_0000 => (FileId::Block(0), HEADER + 36 * start),
@@ -78,8 +78,8 @@ pub(crate) fn place_of(word: u32) -> (FileId, u64) {
     }
 }
 
-// Writes neighbouring words from a place on.
-pub(crate) fn put_words<F: Folder>(
+/// Writes neighbouring words from a place on.
+pub fn put_words<F: Folder>(
     f: &mut SilentFolder<F>,
     file: FileId,
     place: u64,
@@ -93,8 +93,8 @@ pub(crate) fn put_words<F: Folder>(
     Ok(())
 }
 
-// Gives the first four block files this many blocks, with bytes for so many.
-pub(crate) fn give_blocks<F: Folder>(
+/// Gives the first four block files this many blocks, with bytes for so many.
+pub fn give_blocks<F: Folder>(
     f: &mut SilentFolder<F>,
     max_entries: u32,
     blocks: [u64; 4],
@@ -154,9 +154,9 @@ fn put_key<F: Folder>(f: &mut SilentFolder<F>, entry: &Entry<'_>) -> Result<(), 
     f.write_at(file, place.wrapping_add(at), entry.key)
 }
 
-// Adds an entry with a node of this number at the end of the list, and in front of the chain of its bucket. The numbers are
-// given in their order.
-pub(crate) fn add<F: Folder>(
+/// Adds an entry with a node of this number at the end of the list, and in front of the chain of its bucket. The numbers are
+/// given in their order.
+pub fn add<F: Folder>(
     f: &mut SilentFolder<F>,
     number: u32,
     entry: &Entry<'_>,
@@ -181,9 +181,9 @@ pub(crate) fn add<F: Folder>(
     Ok(())
 }
 
-// A change to a folder.
+/// A change to a folder.
 #[derive(Clone, Copy)]
-pub(crate) enum Change {
+pub enum Change {
     // A word of the index at a place.
     Index(u64, u32),
     // The word of a bucket.
@@ -215,19 +215,16 @@ fn make_change<F: Folder>(f: &mut SilentFolder<F>, change: Change) -> Result<(),
     }
 }
 
-// Makes some changes.
-pub(crate) fn change_all<F: Folder>(
-    f: &mut SilentFolder<F>,
-    changes: &[Change],
-) -> Result<(), Failed> {
+/// Makes some changes.
+pub fn change_all<F: Folder>(f: &mut SilentFolder<F>, changes: &[Change]) -> Result<(), Failed> {
     for one in changes {
         make_change(f, *one)?;
     }
     Ok(())
 }
 
-// Writes a sparse index of the signature 1 and of a key of so many bytes, with the bit of its first part or block.
-pub(crate) fn put_index<F: Folder>(
+/// Writes a sparse index of the signature 1 and of a key of so many bytes, with the bit of its first part or block.
+pub fn put_index<F: Folder>(
     f: &mut SilentFolder<F>,
     index: u32,
     key_len: u32,
@@ -237,17 +234,14 @@ pub(crate) fn put_index<F: Folder>(
     put_words(f, file, place.wrapping_add(64), &[1])
 }
 
-// What the audit tells.
-pub(crate) fn audited<F: Folder>(
-    alloc: Global,
-    f: &mut SilentFolder<F>,
-) -> Result<Scan, ScanFault> {
+/// What the audit tells.
+pub fn audited<F: Folder>(alloc: Global, f: &mut SilentFolder<F>) -> Result<Scan, ScanFault> {
     let files = BlockFiles::load(f)?;
     scan_files(alloc, f, &files)
 }
 
-// The word and the reason's number of one that is dropped, or zeros.
-pub(crate) fn dropped_at(scan: &Scan, i: usize) -> (u32, u32) {
+/// The word and the reason's number of one that is dropped, or zeros.
+pub fn dropped_at(scan: &Scan, i: usize) -> (u32, u32) {
     match scan.dropped_at(i) {
         Some(one) => (one.place.word(), one.reason.number()),
         None => (0, 0),

@@ -3,14 +3,14 @@ ghost use Rattle.blk_cache.specs.Stepping.{IsBuilt};
 ghost use Rattle.blk_model.specs.Request.{request_of};
 ghost use Rattle.std.specs.Prelude.{◌≡◌, true};
 
-use crate::folders::audited;
-use crate::found::found;
-use crate::repairs::{Mem, again};
 use blk_audit::ScanFault;
 use blk_cache::{Cache, StepFault};
-use blk_io::{Folder, MemFolder, MemSink, SilentFolder, Sink, StopFolder};
+use blk_io::{Folder, MemSink, Sink};
 use blk_model::{Answer, Command, Limits};
 use blk_script::read_line;
+use blk_test_folders::folders::audited;
+use blk_test_folders::found::found;
+use blk_test_folders::stopping::{Mem, again};
 use std::alloc::Global;
 use std::test::Fail;
 
@@ -32,11 +32,6 @@ pub(crate) struct Session {
     pub(crate) f: Mem,
     pub(crate) cache: Cache,
     pub(crate) out: MemSink,
-}
-
-// A folder in which nothing was made yet.
-pub(crate) fn empty(alloc: Global) -> Mem {
-    SilentFolder::new(StopFolder::new(MemFolder::without_trail(alloc), u64::MAX))
 }
 
 impl Session {

@@ -50,8 +50,8 @@ fn with_bytes<F: Folder>(
     Ok(all)
 }
 
-// The same hash with bytes that are at hand.
-pub(crate) fn with_these(bytes: &[u8], hash: u64) -> u64 {
+/// The same hash with bytes that are at hand.
+pub fn with_these(bytes: &[u8], hash: u64) -> u64 {
     let mut all = mixed(hash, (bytes.len() & 0xFFFF_FFFF) as u32);
     for piece in bytes.chunks(PIECE as usize) {
         all = mixed(all, super_fast_hash(piece));
@@ -79,9 +79,9 @@ fn with_entry<F: Folder>(f: &mut SilentFolder<F>, record: u32, hash: u64) -> Res
     Ok(all)
 }
 
-// A hash of all that is found in a folder of which this was told: of each entry that is kept, in the order of the list, its key
-// and the bytes of its streams.
-pub(crate) fn found<F: Folder>(f: &mut SilentFolder<F>, scan: &Scan) -> Result<u64, Fault> {
+/// A hash of all that is found in a folder of which this was told: of each entry that is kept, in the order of the list, its key
+/// and the bytes of its streams.
+pub fn found<F: Folder>(f: &mut SilentFolder<F>, scan: &Scan) -> Result<u64, Fault> {
     let mut all = 0;
     for node in scan.kept_nodes() {
         let (file, place) = place_of(node.word());

@@ -1,11 +1,11 @@
 // Commands that are stopped at each of their words.
-use crate::folders::{DIRTY, TRANSACTION, audited, place_of};
 use crate::parts::sparse_folder;
-use crate::repairs::again;
-use crate::sessions::{Held, LIMITS, Session, empty, held};
+use crate::sessions::{Held, LIMITS, Session, held};
 use blk_audit::ScanFault;
 use blk_io::{FileId, MemSink, read_word};
 use blk_model::Limits;
+use blk_test_folders::folders::{DIRTY, TRANSACTION, audited, place_of};
+use blk_test_folders::stopping::{again, empty};
 use std::alloc::Global;
 use std::test::Fail;
 

@@ -1,7 +1,5 @@
 // An object with two parts, in a folder that is written by the format alone.
-use crate::folders::{Entry, add, give_blocks, place_of, put_index, put_words};
-use crate::repairs::Mem;
-use crate::sessions::{LIMITS, Session, empty, held};
+use crate::sessions::{LIMITS, Session, held};
 use blk_chain::find;
 use blk_disk::BlockFiles;
 use blk_entry::node_of;
@@ -12,6 +10,8 @@ use blk_sparse::{
     Gone, Parent, doom_parent, drop_children, drop_children_with, drop_parts_with,
     remove_parent_with,
 };
+use blk_test_folders::folders::{Entry, add, give_blocks, place_of, put_index, put_words};
+use blk_test_folders::stopping::{Mem, empty};
 use std::alloc::Global;
 use std::test::Fail;
 

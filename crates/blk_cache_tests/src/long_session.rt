@@ -1,10 +1,10 @@
 // A session of four hundred entries by eight handles, whose last Close fails.
-use crate::found::with_these;
-use crate::repairs::again;
-use crate::sessions::{LIMITS, Session, empty, held};
+use crate::sessions::{LIMITS, Session, held};
 use blk_cache::StepFault;
 use blk_io::{MemSink, SilentFolder, StopFolder};
 use blk_model::{Answer, Command};
+use blk_test_folders::found::with_these;
+use blk_test_folders::stopping::{again, empty};
 use itoa::Buffer;
 use std::alloc::Global;
 use std::test::Fail;
