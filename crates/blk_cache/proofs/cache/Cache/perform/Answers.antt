@@ -170,14 +170,14 @@ returns-in-SparseRead-clause-front g c = subst (λ (cmd : Command). SaysFront c.
     (front-nothing c.args.self.now (g.F.Folder.told c.args.f.now) c.args.moment (to_sparse_read c.in-SparseRead.handle c.in-SparseRead.offset c.in-SparseRead.count) tt c.args.failed.now (g.K.Sink.written c.args.out.now))
 
 pub returns-in-SparseRange-clause-does : goal.returns-in-SparseRange-clause-does
-returns-in-SparseRange-clause-does g c = subst (λ (cmd : Command). IfOk c.use_sparse.result (λ given. Does (KeepsState c.args.self.now) (KeepsState c.use_sparse.new.self) (g.F.Folder.told c.args.f.now) (g.F.Folder.told c.use_sparse.new.f) c.args.moment (request_of cmd) given)) (sym c.in-SparseRange.is) c.use_sparse.ensures.does
+returns-in-SparseRange-clause-does g c = subst (λ (cmd : Command). IfOk c.use_sparse-in-SparseRange.result (λ given. Does (KeepsState c.args.self.now) (KeepsState c.use_sparse-in-SparseRange.new.self) (g.F.Folder.told c.args.f.now) (g.F.Folder.told c.use_sparse-in-SparseRange.new.f) c.args.moment (request_of cmd) given)) (sym c.in-SparseRange.is) c.use_sparse-in-SparseRange.ensures.does
 
 pub returns-in-SparseRange-clause-stops : goal.returns-in-SparseRange-clause-stops
-returns-in-SparseRange-clause-stops g c = subst (λ (cmd : Command). MayStopAtEach (KeepsState c.args.self.now) (g.F.Folder.told c.args.f.now) (g.F.Folder.told c.use_sparse.new.f) c.args.moment (request_of cmd)) (sym c.in-SparseRange.is) c.use_sparse.ensures.stops
+returns-in-SparseRange-clause-stops g c = subst (λ (cmd : Command). MayStopAtEach (KeepsState c.args.self.now) (g.F.Folder.told c.args.f.now) (g.F.Folder.told c.use_sparse-in-SparseRange.new.f) c.args.moment (request_of cmd)) (sym c.in-SparseRange.is) c.use_sparse-in-SparseRange.ensures.stops
 
 pub returns-in-SparseRange-clause-says : goal.returns-in-SparseRange-clause-says
-returns-in-SparseRange-clause-says g c = subst (λ (cmd : Command). OnOk c.use_sparse.result (SaysEvicted c.args.self.now (g.F.Folder.told c.args.f.now) c.args.moment (request_of cmd) c.args.failed.now c.args.failed.now (g.K.Sink.written c.args.out.now) (g.K.Sink.written c.args.out.now))) (sym c.in-SparseRange.is)
-    (on-ok c.use_sparse.result (SaysEvicted c.args.self.now (g.F.Folder.told c.args.f.now) c.args.moment (to_sparse_range c.in-SparseRange.handle c.in-SparseRange.offset c.in-SparseRange.count) c.args.failed.now c.args.failed.now (g.K.Sink.written c.args.out.now) (g.K.Sink.written c.args.out.now))
+returns-in-SparseRange-clause-says g c = subst (λ (cmd : Command). OnOk c.use_sparse-in-SparseRange.result (SaysEvicted c.args.self.now (g.F.Folder.told c.args.f.now) c.args.moment (request_of cmd) c.args.failed.now c.args.failed.now (g.K.Sink.written c.args.out.now) (g.K.Sink.written c.args.out.now))) (sym c.in-SparseRange.is)
+    (on-ok c.use_sparse-in-SparseRange.result (SaysEvicted c.args.self.now (g.F.Folder.told c.args.f.now) c.args.moment (to_sparse_range c.in-SparseRange.handle c.in-SparseRange.offset c.in-SparseRange.count) c.args.failed.now c.args.failed.now (g.K.Sink.written c.args.out.now) (g.K.Sink.written c.args.out.now))
     (says-nothing c.args.self.now (g.F.Folder.told c.args.f.now) c.args.moment (to_sparse_range c.in-SparseRange.handle c.in-SparseRange.offset c.in-SparseRange.count) tt c.args.failed.now (g.K.Sink.written c.args.out.now)))
 
 pub returns-in-SparseRange-clause-front : goal.returns-in-SparseRange-clause-front

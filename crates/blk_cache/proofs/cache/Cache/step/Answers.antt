@@ -50,8 +50,9 @@ made old mid told now same note = subst (λ (n : ℕ). Applies told now (Note (n
 -- The folder fails in the reply.
 
 pub reply-requires : goal.reply-requires
-reply-requires g c =
-    open-on c.perform.new.self c.note.new.self (g.F.Folder.told c.perform.new.f) (g.F.Folder.told c.note.new.f) (same-files (g.F.Folder.told c.perform.new.f) (g.F.Folder.told c.note.new.f) _ c.in_ok-note.ensures.done) c.in_ok-note.ensures.others c.in_ok-answer.ensures.is_open
+reply-requires g c = record {
+  is_open = open-on c.perform.new.self c.note.new.self (g.F.Folder.told c.perform.new.f) (g.F.Folder.told c.note.new.f) (same-files (g.F.Folder.told c.perform.new.f) (g.F.Folder.told c.note.new.f) _ c.in_ok-note.ensures.done) c.in_ok-note.ensures.others c.in_ok-answer.ensures.is_open;
+}
 
 pub returns-in_err-reply-clause-stepped : goal.returns-in_err-reply-clause-stepped
 returns-in_err-reply-clause-stepped g c =
