@@ -75,7 +75,7 @@ count_none = refl
 
 -- a session: a line that is no word, one on sparse data, and a Create whose handle is closed in the end; then the entry is at rest
 abbrev session : Run
-session = run (session_script 1 (lines (codes "fly 1\nswrite 0 0 61\ncreate 0 a\n")))
+session = run (session_script 1 (lines (codes "fly 1\nswrite 0 0 -\ncreate 0 a\n")))
 
 session_text : text_of session.turns ≡ codes "fault 1 2 UnknownWord\nfault 2 8 NotBuilt\nok\n"
 unfolding computing percent_decode line_fields number_field data_field key_field reading command_words read_text key_text data_text reply_text session_script turns with_bytes
