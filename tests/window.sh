@@ -43,9 +43,9 @@ reads_of "$room/many" session
 is 'a thousand reads: the status and the replies' '0 1000' "$status $(grep -c '^data 3 616263$' "$room/said")"
 is 'a thousand reads make no call more than one' "$once" "$reads"
 
-# Each read asks for a page, or for the rest of one of which a part was given.
-strace -f -e trace=pread64 -o "$room/calls" "$program" "$folder" count >"$room/said" 2>"$room/complained"
-sed -n 's/.*, \([0-9]*\), \([0-9]*\)) *= [0-9]*$/\1 \2/p' "$room/calls" >"$room/asked"
+# Each read of a file of the folder asks for a page, or for the rest of one of which a part was given. The loader of the program reads too.
+strace -f -y -e trace=pread64 -o "$room/calls" "$program" "$folder" count >"$room/said" 2>"$room/complained"
+sed -n '/\/window\//s/.*, \([0-9]*\), \([0-9]*\)) *= [0-9]*$/\1 \2/p' "$room/calls" >"$room/asked"
 is 'the reads of a count end where a page does' 'some, none elsewhere' \
     "$(awk '{ n++; if ($1 > 4096 || ($1 + $2) % 4096) bad++ } END { print (n ? "some" : "none") ", " (bad ? bad : "none") " elsewhere" }' "$room/asked")"
 finish
