@@ -129,7 +129,8 @@ slots-stay [] = refl
 slots-stay (None ∷ slots) = ap (λ (l : List (Option Object)). None ∷ l) (slots-stay slots)
 slots-stay (Some o ∷ slots) = ap₂ (λ (s : Option Object) (l : List (Option Object)). s ∷ l) (none-left o) (slots-stay slots)
 
-objects-without : (state : State) (groups : List Group) → (without groups state).objects ≡ map (option_and_then (left_of groups)) state.objects
+-- the objects of a state without groups
+pub objects-without : (state : State) (groups : List Group) → (without groups state).objects ≡ map (option_and_then (left_of groups)) state.objects
 unfolding without
 objects-without state [] = sym (slots-stay state.objects)
 objects-without state (group ∷ groups) = refl

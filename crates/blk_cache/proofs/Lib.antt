@@ -64,3 +64,9 @@ pub mod WriteUses
 pub mod WriteEnds
 pub mod WriteWhole
 pub mod Writes
+pub mod EvictionEnds
+pub mod SparseRoom
+pub mod SparseLeft
+pub mod SparseEmpty
+pub mod SparseNamed
+pub mod SparseWhole

@@ -220,7 +220,7 @@ rows-and-end before between failed w0 w1 w2 given state rows_are end_is = printe
 
 -- ---- what a cache keeps doesn't hang on its room for names
 
-pub kept-still : (old new : Cache) (state : State) (image : Image) → OnlyRoomChanges old new → KeepsState old state image → KeepsState new state image
+unfoldable pub kept-still : (old new : Cache) (state : State) (image : Image) → OnlyRoomChanges old new → KeepsState old state image → KeepsState new state image
 kept-still old new state image same k = record {
   layout = k.layout;
   kept = k.kept;

@@ -22,7 +22,8 @@ use Rattle.blk_sparse.specs.Measuring.{IsMeasured, charge_there, charge_up_to, e
 use Rattle.blk_sparse.specs.SparseObjects.{missing_parts, value_or_empty, with_bytes, with_signature}
 use Rattle.blk_sparse.specs.SparseWrites.{object_written, signature_to}
 use Rattle.blk_sparse.proofs.PartCharges.{IsMore, more-written}
-use Rattle.blk_cache.specs.SparseWriting.{IsTargetOf, SparseWritesRaiseAsMeasured, index_charge}
+use Rattle.blk_kept.specs.OneCallLaws.{Names}
+use Rattle.blk_cache.specs.SparseWriting.{IsRaisedBy, IsSignedBy, IsTargetOf, SparseWritesRaiseAsMeasured, index_charge}
 use Rattle.blk_cache.proofs.ChangedObjects.{sum-changed}
 use Rattle.blk_cache.proofs.SparseEnds.{after-is, effect-same, sparse-written-is}
 use Rattle.blk_cache.proofs.SparseStored.{own-more}
@@ -90,7 +91,8 @@ same-sum f g (n ∷ ns) all =
     let head = all.0 in
     omega (arith, one, two, more, head)
 
-each-of : (P Q : ℕ → Type 0) (ns : List ℕ) → ((n : ℕ) → P n → Q n) → AllByRecursion P ns → AllByRecursion Q ns
+-- from one fact of each number to another
+pub each-of : (P Q : ℕ → Type 0) (ns : List ℕ) → ((n : ℕ) → P n → Q n) → AllByRecursion P ns → AllByRecursion Q ns
 each-of P Q [] f all = tt
 each-of P Q (n ∷ ns) f all = (f n all.0, each-of P Q ns f all.1)
 
@@ -139,18 +141,39 @@ loose-written : (object : Object) (s offset : ℕ) (bytes : List ℕ) → charge
 unfolding charge
 loose-written object s offset bytes = refl
 
+module _ (state : State) (moment handle number : ℕ) (object : Object) (target : Target) (offset : ℕ) (bytes : List ℕ) (more_bytes more_items : ℕ) (names : Names state handle number object) (is : IsTargetOf object target) (signed : IsSignedBy moment target) (some : 1 ≤ length bytes) where
+  abbrev after : Object
+  after = object_written (record object { settled = false }) (signature_to target) offset bytes
+
+  objects-are : (effect moment (to_sparse_write handle offset bytes) state).objects ≡ set state.objects number (Some after)
+  objects-are = ap (λ (s : State). s.objects) (effect-same moment handle offset bytes state ∙ sparse-written-is moment handle offset bytes state number object names) ∙ ap (λ (o : Object). set state.objects number (Some o)) (after-is moment object target offset bytes some is signed)
+
+  -- the state is raised by what the object is, and by nothing else
+  pub raised-by : Raises object target offset bytes more_bytes more_items → IsRaisedBy state moment handle offset bytes more_bytes more_items
+  raised-by r =
+      let sum = sum-changed charge state.objects number object after names.here in
+      let count = sum-changed item_count state.objects number object after names.here in
+      let slots : total (effect moment (to_sparse_write handle offset bytes) state) ≡ sum_by (of_slot charge) (set state.objects number (Some after)) = ap (sum_by (of_slot charge)) objects-are in
+      let counted_slots : items (effect moment (to_sparse_write handle offset bytes) state) ≡ sum_by (of_slot item_count) (set state.objects number (Some after)) = ap (sum_by (of_slot item_count)) objects-are in
+      let charged = r.charged in
+      let counted = r.counted in
+      let same = loose-written object (signature_to target) offset bytes in
+      let long : item_count after ≡ item_count (object_written object (signature_to target) offset bytes) = refl in
+      record { total_more = omega (arith, sum, slots, charged, same); items_more = omega (arith, count, counted_slots, counted, long) }
+
+  pub raises-of : IsRaisedBy state moment handle offset bytes more_bytes more_items → Raises object target offset bytes more_bytes more_items
+  raises-of r =
+      let sum = sum-changed charge state.objects number object after names.here in
+      let count = sum-changed item_count state.objects number object after names.here in
+      let slots : total (effect moment (to_sparse_write handle offset bytes) state) ≡ sum_by (of_slot charge) (set state.objects number (Some after)) = ap (sum_by (of_slot charge)) objects-are in
+      let counted_slots : items (effect moment (to_sparse_write handle offset bytes) state) ≡ sum_by (of_slot item_count) (set state.objects number (Some after)) = ap (sum_by (of_slot item_count)) objects-are in
+      let more_total = r.total_more in
+      let more_count = r.items_more in
+      let same = loose-written object (signature_to target) offset bytes in
+      let long : item_count after ≡ item_count (object_written object (signature_to target) offset bytes) = refl in
+      record { charged = omega (arith, sum, slots, more_total, same); counted = omega (arith, count, counted_slots, more_count, long) }
+
 pub raises-as-measured : SparseWritesRaiseAsMeasured
 raises-as-measured state moment handle number object target offset bytes layout found valid names is signed some few m =
-    let r = raises-measured object target offset bytes some few (subst (λ (o : Option Object). IfSome o IsObject) names.here (valid.objects number)) is layout found m in
-    let after : Object = object_written (record object { settled = false }) (signature_to target) offset bytes in
-    let objects : (effect moment (to_sparse_write handle offset bytes) state).objects ≡ set state.objects number (Some after) =
-    ap (λ (s : State). s.objects) (effect-same moment handle offset bytes state ∙ sparse-written-is moment handle offset bytes state number object names) ∙ ap (λ (o : Object). set state.objects number (Some o)) (after-is moment object target offset bytes some is signed) in
-    let sum = sum-changed charge state.objects number object after names.here in
-    let count = sum-changed item_count state.objects number object after names.here in
-    let slots : total (effect moment (to_sparse_write handle offset bytes) state) ≡ sum_by (of_slot charge) (set state.objects number (Some after)) = ap (sum_by (of_slot charge)) objects in
-    let counted_slots : items (effect moment (to_sparse_write handle offset bytes) state) ≡ sum_by (of_slot item_count) (set state.objects number (Some after)) = ap (sum_by (of_slot item_count)) objects in
-    let charged = r.charged in
-    let counted = r.counted in
-    let same = loose-written object (signature_to target) offset bytes in
-    let long : item_count after ≡ item_count (object_written object (signature_to target) offset bytes) = refl in
-    record { total_more = omega (arith, sum, slots, charged, same); items_more = omega (arith, count, counted_slots, counted, long) }
+    raised-by state moment handle number object target offset bytes (found.bytes + index_charge target) found.items names is signed some
+    (raises-measured object target offset bytes some few (subst (λ (o : Option Object). IfSome o IsObject) names.here (valid.objects number)) is layout found m)

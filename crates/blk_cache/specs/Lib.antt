@@ -25,4 +25,5 @@ pub mod Listing
 pub mod Replying
 pub mod SparseAsking
 pub mod SparseReading
+pub mod SparseTargets
 pub mod RoomTold

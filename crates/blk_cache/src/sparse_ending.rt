@@ -23,8 +23,8 @@ use blk_io::{Fault, Folder};
 use blk_model::Answer;
 use blk_sparse::{Parent, Target, store_sparse};
 
-// What a sparse object is charged for the index of its parts.
-const PARTS_INDEX: u64 = 8256;
+/// What a sparse object is charged for the index of its parts.
+pub(crate) const PARTS_INDEX: u64 = 8256;
 
 impl Cache {
     /// Ends a SparseWrite of some bytes that isn't refused, once all that it evicts is out: its object is unsettled, and

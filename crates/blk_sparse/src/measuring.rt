@@ -73,6 +73,7 @@ pub fn measure<F: Folder>(
     requires inside { offset + count ≤ largest_offset }
     requires is_open { ForSome (F.told f.old).files (IsOpen files.now) }
     ensures measured { IfOk result (λ found. ForSome (F.told f.old).files (λ from. ForEachParentMeasured parent.now.node parent.now.entry (cast_unsigned w64 parent.now.signature) from (λ layout object. IsMeasured layout object (cast_unsigned w64 parent.now.signature) offset count found))) }
+    ensures light { IfOk result (λ found. found.bytes < 2 ^ 36) }
     ensures stays { Stays (F.told f.old) (F.told f.new) }
 
     // A damage is a check that fails on what is read here. A folder that tells its files, with such an object, gives none.
@@ -106,6 +107,7 @@ fn measure_covered<F: Folder>(
     requires inside { offset + count ≤ largest_offset }
     requires is_open { ForSome (F.told f.old).files (IsOpen files.now) }
     ensures measured { IfOk result (λ found. ForSome (F.told f.old).files (λ from. ForEachOfKey key.now (cast_unsigned w64 signature) from (λ state layout unlinked at object node entry. IsMeasured layout object (cast_unsigned w64 signature) offset count found))) }
+    ensures light { IfOk result (λ found. found.bytes < 2 ^ 36) }
     ensures room { length room.new ≡ length room.old }
     ensures stays { Stays (F.told f.old) (F.told f.new) }
     ensures damaged { IfDamaged result (IsFailedCheck files.now (F.told f.new)) }
@@ -266,6 +268,7 @@ pub fn measure_plain<F: Folder>(
     requires inside { offset + count ≤ largest_offset }
     requires is_open { ForSome (F.told f.old).files (IsOpen files.now) }
     ensures measured { IfOk result (λ found. ForSome (F.told f.old).files (λ from. ForEachPlainMeasured entry from (λ layout object. IsMeasured layout (with_signature object (cast_unsigned w64 signature)) (cast_unsigned w64 signature) offset count found))) }
+    ensures light { IfOk result (λ found. found.bytes < 2 ^ 36) }
     ensures stays { Stays (F.told f.old) (F.told f.new) }
 
     // A damage is a check that fails on what is read here. A folder that tells its files, with such an object, gives none.
@@ -290,6 +293,7 @@ fn measure_made(key: &[u8], signature: i64, room: &mut [u8], offset: u64, count:
     requires few { count ≤ part_size }
     requires inside { offset + count ≤ largest_offset }
     ensures measured { (layout : Layout) (object : Object) → object.key ≡ key.now → object.parts ≡ [] → IsMeasured layout object (cast_unsigned w64 signature) offset count result }
+    ensures light { result.bytes < 2 ^ 36 }
     ensures room { length room.new ≡ length room.old }
 {
     let (number, place) = child_of(offset);

@@ -1,0 +1,125 @@
+// What a SparseWrite adds, measured before room is made for it.
+ghost use Rattle.std.specs.Prelude.{◌≡◌, ◌≤◌, ◌<◌, ◌+◌, ◌^◌, ℕ, IfOk, IsTrue, List, None, length};
+ghost use Rattle.std.specs.Option.{ForSome};
+ghost use Rattle.blk_image.specs.Told.{Rises, Stays};
+ghost use Rattle.blk_io.specs.Faults.{IfDamaged, IfDevice};
+ghost use Rattle.blk_model.specs.Sizes.{largest_offset, part_size, signatures};
+ghost use Rattle.blk_model.specs.State.{State};
+ghost use Rattle.blk_disk.specs.Open.{IsOpen};
+ghost use Rattle.blk_disk.specs.Tables.{is_record_among};
+ghost use Rattle.blk_object.specs.FailedChecks.{IsFailedCheck};
+ghost use Rattle.blk_sparse.specs.Measuring.{IsMeasured};
+ghost use Rattle.blk_sparse.specs.SparseObjects.{with_signature};
+ghost use Rattle.blk_sparse.specs.SparseWrites.{signature_to};
+ghost use Rattle.blk_cache.specs.CacheKeeping.{KeepsState};
+ghost use Rattle.blk_cache.specs.Listing.{OnlyRoomChanges};
+ghost use Rattle.blk_cache.specs.SparseTargets.{IsRise, IsTargetNamed, rise_of};
+
+use crate::cache::Cache;
+use crate::covered::Covered;
+use crate::sparse_ending::PARTS_INDEX;
+use blk_io::{Fault, Folder};
+use blk_sparse::{Measured, Target, measure, measure_plain};
+
+/// What a SparseWrite adds: by how many bytes and items there is more then, beside the covered parts that there are.
+#[derive(Clone, Copy, Debug)]
+pub(crate) struct Rise {
+    pub(crate) parts: Covered,
+    pub(crate) bytes: u64,
+    pub(crate) items: u64,
+}
+
+impl Cache {
+    /// Measures what so many bytes of sparse data from an offset on add to an object. Nothing is written.
+    ///
+    /// Each covered part is searched, and two folder calls read one that there is.
+    pub(crate) fn measure_rise<F: Folder>(
+        &mut self,
+        f: &mut F,
+        target: &Target,
+        offset: u64,
+        count: u64,
+    ) -> Result<Rise, Fault>
+        requires names { IsTrue (is_record_among self.old.files target.now.parent.entry) }
+        requires signature { signature_to target.now < signatures }
+        requires some { 1 ≤ count }
+        requires few { count ≤ part_size }
+        requires inside { offset + count ≤ largest_offset }
+        requires is_open { ForSome (F.told f.old).files (IsOpen self.old.files) }
+
+        // In each state that is kept, where a handle names the object, it is what the bytes raise.
+        ensures rises { IfOk result (λ rise. ForSome (F.told f.old).files (λ image. (state : State) (k : KeepsState self.old state image) (moment handle : ℕ) (bytes : List ℕ) → length bytes ≡ count → IsTargetNamed state k.layout moment handle offset count target.now → IsRise state k.layout moment handle offset bytes rise)) }
+        ensures stays { Stays (F.told f.old) (F.told f.new) }
+        ensures others { OnlyRoomChanges self.old self.new }
+
+        // A damage is a check that fails on what is read here. A folder that tells its files gives none where the cache keeps such a state.
+        ensures damaged { IfDamaged result (IsFailedCheck self.new.files (F.told f.new)) }
+        ensures untold { ForSome (F.told f.old).files (λ image. (state : State) (k : KeepsState self.old state image) (moment handle : ℕ) → IsTargetNamed state k.layout moment handle offset count target.now → IfDamaged result (λ _. (F.told f.old).files ≡ None)) }
+        ensures later { F.faults f.old ≤ F.faults f.new }
+        ensures device { IfDevice result (Rises (F.faults f.old) (F.faults f.new)) }
+    {
+        let found = self.measure_parts(f, target, offset, count)?;
+        Ok(rise_of(target, &found))
+    }
+
+    // Measures the parts that so many bytes cover, of an object as one that is sparse.
+    fn measure_parts<F: Folder>(
+        &mut self,
+        f: &mut F,
+        target: &Target,
+        offset: u64,
+        count: u64,
+    ) -> Result<Measured, Fault>
+        requires names { IsTrue (is_record_among self.old.files target.now.parent.entry) }
+        requires signature { signature_to target.now < signatures }
+        requires some { 1 ≤ count }
+        requires few { count ≤ part_size }
+        requires inside { offset + count ≤ largest_offset }
+        requires is_open { ForSome (F.told f.old).files (IsOpen self.old.files) }
+        ensures measured { IfOk result (λ found. ForSome (F.told f.old).files (λ image. (state : State) (k : KeepsState self.old state image) (moment handle : ℕ) → (is : IsTargetNamed state k.layout moment handle offset count target.now) → IsMeasured k.layout (with_signature is.its.object (signature_to target.now)) (signature_to target.now) offset count found)) }
+        ensures light { IfOk result (λ found. found.bytes < 2 ^ 36) }
+        ensures stays { Stays (F.told f.old) (F.told f.new) }
+        ensures others { OnlyRoomChanges self.old self.new }
+        ensures damaged { IfDamaged result (IsFailedCheck self.new.files (F.told f.new)) }
+        ensures untold { ForSome (F.told f.old).files (λ image. (state : State) (k : KeepsState self.old state image) (moment handle : ℕ) → IsTargetNamed state k.layout moment handle offset count target.now → IfDamaged result (λ _. (F.told f.old).files ≡ None)) }
+        ensures later { F.faults f.old ≤ F.faults f.new }
+        ensures device { IfDevice result (Rises (F.faults f.old) (F.faults f.new)) }
+    {
+        if target.plain {
+            return measure_plain(
+                f,
+                &self.files,
+                target.parent.entry,
+                target.parent.signature,
+                &mut self.name,
+                offset,
+                count,
+            );
+        }
+        measure(
+            f,
+            &self.files,
+            &target.parent,
+            &mut self.name,
+            offset,
+            count,
+        )
+    }
+}
+
+// The covered parts as they are measured, with the index of an object that is plain.
+fn rise_of(target: &Target, found: &Measured) -> Rise
+    requires light { found.now.bytes < 2 ^ 36 }
+    ensures { result ≡ rise_of target.now found.now }
+{
+    let index = if target.plain { PARTS_INDEX } else { 0 };
+    Rise {
+        parts: Covered {
+            first: found.first,
+            second: found.second,
+            bytes: found.charged,
+        },
+        bytes: found.bytes + index,
+        items: found.items,
+    }
+}

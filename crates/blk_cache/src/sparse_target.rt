@@ -1,0 +1,90 @@
+// The object that gets sparse data.
+ghost use Rattle.std.specs.Prelude.{◌≡◌, ◌≤◌, IfOk, IfSome, None, Ok, length};
+ghost use Rattle.std.specs.Option.{ForSome};
+ghost use Rattle.blk_image.specs.Told.{Rises, Stays};
+ghost use Rattle.blk_io.specs.Faults.{IfDamaged, IfDevice};
+ghost use Rattle.blk_model.specs.State.{State};
+ghost use Rattle.blk_object.specs.FailedChecks.{IsFailedCheck};
+ghost use Rattle.blk_cache.specs.declared.sparse_target.AskedTarget.TheVariants as target;
+ghost use Rattle.blk_cache.specs.CacheKeeping.{KeepsState};
+ghost use Rattle.blk_cache.specs.CommandClauses.{KeepsAny};
+ghost use Rattle.blk_cache.specs.SparseAsking.{early_sparse_refusal};
+ghost use Rattle.blk_cache.specs.SparseTargets.{FindsTarget, IsAskedTarget, asked_plain, asked_target};
+
+use crate::cache::Cache;
+use crate::sparse_asking::{AskedSparse, PlainObject};
+use blk_io::{Fault, Folder};
+use blk_model::Refusal;
+use blk_sparse::{Parent, Target};
+
+// A signature is a moment below this.
+const SIGNATURES: u64 = 1 << 63;
+
+/// The object that a SparseWrite names, or why it is refused, but for want of room.
+#[derive(Clone, Copy, Debug)]
+pub(crate) enum AskedTarget {
+    Refused(Refusal),
+    Found(Target),
+}
+
+impl Cache {
+    /// The object that a handle names, for some bytes of sparse data from an offset on; a plain one gets the moment as its
+    /// signature. Nothing is written.
+    ///
+    /// It is refused as `ask_sparse` tells, and then with `NotSparse` where it is plain and has more than one stream.
+    pub(crate) fn ask_target<F: Folder>(
+        &self,
+        f: &mut F,
+        handle: u16,
+        offset: u64,
+        bytes: &[u8],
+        moment: u64,
+    ) -> Result<AskedTarget, Fault>
+        ensures asked { IfOk result (λ answer. ForSome (F.told f.old).files (λ image. (state : State) → (k : KeepsState self.now state image) → IsAskedTarget state k.layout moment handle offset bytes.now answer)) }
+        ensures early { IfSome (early_sparse_refusal self.now.handles handle offset (length bytes.now)) (λ why. result ≡ Ok (target.Refused why)) }
+
+        // On every folder.
+        ensures finds { IfOk result (FindsTarget self.now.files (early_sparse_refusal self.now.handles handle offset (length bytes.now)) offset (length bytes.now)) }
+        ensures stays { Stays (F.told f.old) (F.told f.new) }
+
+        // A damage is a check that fails on what is read here. A folder that tells its files gives none where the cache keeps a state.
+        ensures damaged { IfDamaged result (IsFailedCheck self.now.files (F.told f.new)) }
+        ensures untold { ForSome (F.told f.old).files (KeepsAny self.now) → IfDamaged result (λ _. (F.told f.old).files ≡ None) }
+        ensures later { F.faults f.old ≤ F.faults f.new }
+        ensures device { IfDevice result (Rises (F.faults f.old) (F.faults f.new)) }
+    {
+        let asked = self.ask_sparse(f, handle, offset, bytes.len() as u64)?;
+        Ok(asked_target(asked, moment))
+    }
+}
+
+// What gets sparse data, or why nothing does.
+fn asked_target(asked: AskedSparse, moment: u64) -> AskedTarget
+    ensures { result ≡ asked_target moment asked }
+{
+    match asked {
+        AskedSparse::Refused(why) => AskedTarget::Refused(why),
+        AskedSparse::Plain(found) => asked_plain(&found, moment),
+        AskedSparse::Parent(parent) => AskedTarget::Found(Target {
+            parent,
+            plain: false,
+        }),
+    }
+}
+
+// A plain object gets sparse data where it has one stream alone.
+fn asked_plain(found: &PlainObject, moment: u64) -> AskedTarget
+    ensures { result ≡ asked_plain moment found.now }
+{
+    if !found.one_stream {
+        return AskedTarget::Refused(Refusal::NotSparse);
+    }
+    AskedTarget::Found(Target {
+        parent: Parent {
+            entry: found.entry,
+            node: found.node,
+            signature: (moment % SIGNATURES).cast_signed(),
+        },
+        plain: true,
+    })
+}

@@ -1,0 +1,321 @@
+// The command SparseWrite.
+ghost use Rattle.std.specs.Prelude.{◌≡◌, ◌≤◌, ◌<◌, ◌+◌, ◌^◌, ℕ, [], IfOk, IfSome, IsSome, IsTrue, None, Ok, OnOk, length};
+ghost use Rattle.std.specs.Option.{ForSome};
+ghost use Rattle.blk_image.specs.Told.{Rises, Stays};
+ghost use Rattle.blk_io.specs.Faults.{IfDamaged, IfDevice};
+ghost use Rattle.blk_model.specs.Request.{to_sparse_write};
+ghost use Rattle.blk_model.specs.Sizes.{largest_offset, part_size, signatures};
+ghost use Rattle.blk_model.specs.declared.Answer.TheVariants as answer;
+ghost use Rattle.blk_disk.specs.Open.{IsOpen};
+ghost use Rattle.blk_disk.specs.Tables.{is_node_among, is_record_among};
+ghost use Rattle.blk_handles.specs.Bindings.{binding_of};
+ghost use Rattle.blk_kept.specs.Commands.{Does, MayStopAtEach};
+ghost use Rattle.blk_object.specs.FailedChecks.{IsFailedCheck};
+ghost use Rattle.blk_sparse.specs.SparseWrites.{signature_to};
+ghost use Rattle.blk_cache.specs.CacheKeeping.{KeepsState};
+ghost use Rattle.blk_cache.specs.CommandClauses.{IsRefused, KeepsAny};
+ghost use Rattle.blk_cache.specs.Listing.{OnlyRoomChanges};
+ghost use Rattle.blk_cache.specs.SparseAsking.{early_sparse_refusal};
+ghost use Rattle.blk_cache.specs.SparseTargets.{AsksToStore, HasRoomToStore, NamesTarget};
+ghost use Rattle.blk_items.specs.RoomPrinting.{FailsWhereItRose};
+ghost use Rattle.blk_cache.specs.Stepping.{SaysEvicted, SaysFront};
+
+use crate::cache::Cache;
+use crate::sparse_rise::Rise;
+use crate::sparse_target::AskedTarget;
+use blk_io::{Fault, Folder, Sink};
+use blk_lru::touch;
+use blk_model::{Answer, Refusal};
+use blk_sparse::Target;
+
+impl Cache {
+    /// Writes some bytes of sparse data to the object that a handle names, from an offset on. Room for what is added is
+    /// made first, beside the parts that the bytes cover; what is evicted for that is printed as it goes. Then the object
+    /// is unsettled; it becomes sparse where it is plain, with the moment as its signature; its item is put in front of the
+    /// use list, and each covered part, made where there is none, gets its bytes and is put in front. Where there are no
+    /// bytes the item is put in front, and nothing else is done.
+    ///
+    /// It is refused with `BadHandle` where the name is free, or 4096 or more, `TooLarge` where there are more than 1048576
+    /// bytes, `RangeEnd` where they end behind 68719476736, `Doomed` where the object is doomed, `NotSparse` where it is
+    /// plain and has bytes in its second or third stream, and `Full` where the open objects, the covered parts and what is
+    /// added exceed a limit, the first of these. After a fault nothing is promised of the cache but that it may be let go.
+    pub(crate) fn sparse_write<F: Folder, K: Sink>(
+        &mut self,
+        f: &mut F,
+        out: &mut K,
+        failed: &mut bool,
+        handle: u16,
+        offset: u64,
+        bytes: &[u8],
+        moment: u64,
+    ) -> Result<Answer, Fault>
+        requires is_open { ForSome (F.told f.old).files (IsOpen self.old.files) }
+        ensures does { IfOk result (λ answer. Does (KeepsState self.old) (KeepsState self.new) (F.told f.old) (F.told f.new) moment (to_sparse_write handle offset bytes.now) answer) }
+        ensures stops { MayStopAtEach (KeepsState self.old) (F.told f.old) (F.told f.new) moment (to_sparse_write handle offset bytes.now) }
+
+        // What it evicts is printed, and on any answer a front of that.
+        ensures says { OnOk result (SaysEvicted self.old (F.told f.old) moment (to_sparse_write handle offset bytes.now) failed.old failed.new (K.written out.old) (K.written out.new)) }
+        ensures front { SaysFront self.old (F.told f.old) moment (to_sparse_write handle offset bytes.now) (K.written out.old) (K.written out.new) }
+        ensures fails { FailsWhereItRose failed.old failed.new (K.faults out.old) (K.faults out.new) }
+
+        // What the names and the range tell is refused on every folder, and a refusal does nothing, but to the room for names.
+        ensures refuses { IfSome (early_sparse_refusal self.old.handles handle offset (length bytes.now)) (λ why. result ≡ Ok (answer.Refused why)) }
+        ensures quiet { IfOk result (λ answer. IsRefused answer → Stays (F.told f.old) (F.told f.new)) }
+        ensures unchanged { IfOk result (λ answer. IsRefused answer → OnlyRoomChanges self.old self.new) }
+
+        ensures is_open { OnOk result (ForSome (F.told f.new).files (IsOpen self.new.files)) }
+        ensures notes { self.new.notes ≡ self.old.notes }
+        ensures mark { self.new.mark ≡ self.old.mark }
+
+        // A damage is a check that fails on what is read here; nothing is written after it. A folder that tells its files gives none where the cache keeps a state.
+        ensures damaged { IfDamaged result (IsFailedCheck self.new.files (F.told f.new)) }
+        ensures untold { ForSome (F.told f.old).files (KeepsAny self.old) → IfDamaged result (λ _. (F.told f.old).files ≡ None) }
+        ensures silent { (F.told f.old).files ≡ None → (F.told f.new).files ≡ None }
+        ensures later { F.faults f.old ≤ F.faults f.new }
+        ensures sink_later { K.faults out.old ≤ K.faults out.new }
+        ensures device { IfDevice result (Rises (F.faults f.old) (F.faults f.new)) }
+    {
+        let asked = self.ask_target(f, handle, offset, bytes, moment)?;
+        match asked {
+            AskedTarget::Refused(why) => Ok(Answer::Refused(why)),
+            AskedTarget::Found(target) => self.write_target(
+                f, out, failed, handle, &target, offset, bytes, moment,
+            ),
+        }
+    }
+
+    // Writes some bytes of sparse data, or none, to an object that may get them.
+    fn write_target<F: Folder, K: Sink>(
+        &mut self,
+        f: &mut F,
+        out: &mut K,
+        failed: &mut bool,
+        handle: u16,
+        target: &Target,
+        offset: u64,
+        bytes: &[u8],
+        moment: u64,
+    ) -> Result<Answer, Fault>
+        requires bound { IsSome (binding_of self.old.handles handle) }
+        requires stands { IsTrue (is_node_among self.old.files target.now.parent.node) }
+        requires names { IsTrue (is_record_among self.old.files target.now.parent.entry) }
+        requires signature { signature_to target.now < signatures }
+        requires few { length bytes.now ≤ part_size }
+        requires inside { offset + length bytes.now ≤ largest_offset }
+        requires is_open { ForSome (F.told f.old).files (IsOpen self.old.files) }
+
+        // It is the map's SparseWrite, and may be stopped at each word.
+        ensures does { NamesTarget self.old (F.told f.old) moment handle offset (length bytes.now) target.now → IfOk result (λ answer. Does (KeepsState self.old) (KeepsState self.new) (F.told f.old) (F.told f.new) moment (to_sparse_write handle offset bytes.now) answer) }
+        ensures stops { NamesTarget self.old (F.told f.old) moment handle offset (length bytes.now) target.now → MayStopAtEach (KeepsState self.old) (F.told f.old) (F.told f.new) moment (to_sparse_write handle offset bytes.now) }
+
+        // What it evicts is printed, and on any answer a front of that.
+        ensures says { NamesTarget self.old (F.told f.old) moment handle offset (length bytes.now) target.now → OnOk result (SaysEvicted self.old (F.told f.old) moment (to_sparse_write handle offset bytes.now) failed.old failed.new (K.written out.old) (K.written out.new)) }
+        ensures front { NamesTarget self.old (F.told f.old) moment handle offset (length bytes.now) target.now → SaysFront self.old (F.told f.old) moment (to_sparse_write handle offset bytes.now) (K.written out.old) (K.written out.new) }
+        ensures fails { FailsWhereItRose failed.old failed.new (K.faults out.old) (K.faults out.new) }
+
+        // A refusal does nothing, but to the room for names.
+        ensures quiet { IfOk result (λ answer. IsRefused answer → Stays (F.told f.old) (F.told f.new)) }
+        ensures unchanged { IfOk result (λ answer. IsRefused answer → OnlyRoomChanges self.old self.new) }
+
+        ensures is_open { OnOk result (ForSome (F.told f.new).files (IsOpen self.new.files)) }
+        ensures notes { self.new.notes ≡ self.old.notes }
+        ensures mark { self.new.mark ≡ self.old.mark }
+        ensures damaged { IfDamaged result (IsFailedCheck self.new.files (F.told f.new)) }
+        ensures untold { NamesTarget self.old (F.told f.old) moment handle offset (length bytes.now) target.now → ForSome (F.told f.old).files (KeepsAny self.old) → IfDamaged result (λ _. (F.told f.old).files ≡ None) }
+        ensures silent { (F.told f.old).files ≡ None → (F.told f.new).files ≡ None }
+        ensures later { F.faults f.old ≤ F.faults f.new }
+        ensures sink_later { K.faults out.old ≤ K.faults out.new }
+        ensures device { IfDevice result (Rises (F.faults f.old) (F.faults f.new)) }
+    {
+        if bytes.is_empty() {
+            return self.use_target(f, target, moment);
+        }
+        self.write_some(f, out, failed, handle, target, offset, bytes, moment)
+    }
+
+    // Writes some bytes of sparse data to an object that may get them.
+    fn write_some<F: Folder, K: Sink>(
+        &mut self,
+        f: &mut F,
+        out: &mut K,
+        failed: &mut bool,
+        handle: u16,
+        target: &Target,
+        offset: u64,
+        bytes: &[u8],
+        moment: u64,
+    ) -> Result<Answer, Fault>
+        requires bound { IsSome (binding_of self.old.handles handle) }
+        requires stands { IsTrue (is_node_among self.old.files target.now.parent.node) }
+        requires names { IsTrue (is_record_among self.old.files target.now.parent.entry) }
+        requires signature { signature_to target.now < signatures }
+        requires some { 1 ≤ length bytes.now }
+        requires few { length bytes.now ≤ part_size }
+        requires inside { offset + length bytes.now ≤ largest_offset }
+        requires is_open { ForSome (F.told f.old).files (IsOpen self.old.files) }
+
+        // It is the map's SparseWrite, and may be stopped at each word.
+        ensures does { NamesTarget self.old (F.told f.old) moment handle offset (length bytes.now) target.now → IfOk result (λ answer. Does (KeepsState self.old) (KeepsState self.new) (F.told f.old) (F.told f.new) moment (to_sparse_write handle offset bytes.now) answer) }
+        ensures stops { NamesTarget self.old (F.told f.old) moment handle offset (length bytes.now) target.now → MayStopAtEach (KeepsState self.old) (F.told f.old) (F.told f.new) moment (to_sparse_write handle offset bytes.now) }
+
+        // What it evicts is printed, and on any answer a front of that.
+        ensures says { NamesTarget self.old (F.told f.old) moment handle offset (length bytes.now) target.now → OnOk result (SaysEvicted self.old (F.told f.old) moment (to_sparse_write handle offset bytes.now) failed.old failed.new (K.written out.old) (K.written out.new)) }
+        ensures front { NamesTarget self.old (F.told f.old) moment handle offset (length bytes.now) target.now → SaysFront self.old (F.told f.old) moment (to_sparse_write handle offset bytes.now) (K.written out.old) (K.written out.new) }
+        ensures fails { FailsWhereItRose failed.old failed.new (K.faults out.old) (K.faults out.new) }
+
+        // A refusal does nothing, but to the room for names.
+        ensures quiet { IfOk result (λ answer. IsRefused answer → Stays (F.told f.old) (F.told f.new)) }
+        ensures unchanged { IfOk result (λ answer. IsRefused answer → OnlyRoomChanges self.old self.new) }
+
+        ensures is_open { OnOk result (ForSome (F.told f.new).files (IsOpen self.new.files)) }
+        ensures notes { self.new.notes ≡ self.old.notes }
+        ensures mark { self.new.mark ≡ self.old.mark }
+        ensures damaged { IfDamaged result (IsFailedCheck self.new.files (F.told f.new)) }
+        ensures untold { NamesTarget self.old (F.told f.old) moment handle offset (length bytes.now) target.now → ForSome (F.told f.old).files (KeepsAny self.old) → IfDamaged result (λ _. (F.told f.old).files ≡ None) }
+        ensures silent { (F.told f.old).files ≡ None → (F.told f.new).files ≡ None }
+        ensures later { F.faults f.old ≤ F.faults f.new }
+        ensures sink_later { K.faults out.old ≤ K.faults out.new }
+        ensures device { IfDevice result (Rises (F.faults f.old) (F.faults f.new)) }
+    {
+        let rise = self.measure_rise(f, target, offset, bytes.len() as u64)?;
+        self.write_where_room(
+            f, out, failed, handle, target, &rise, offset, bytes, moment,
+        )
+    }
+
+    // Writes them where there is room for what they add, which is known before anything is evicted or written.
+    fn write_where_room<F: Folder, K: Sink>(
+        &mut self,
+        f: &mut F,
+        out: &mut K,
+        failed: &mut bool,
+        handle: u16,
+        target: &Target,
+        rise: &Rise,
+        offset: u64,
+        bytes: &[u8],
+        moment: u64,
+    ) -> Result<Answer, Fault>
+        requires bound { IsSome (binding_of self.old.handles handle) }
+        requires stands { IsTrue (is_node_among self.old.files target.now.parent.node) }
+        requires names { IsTrue (is_record_among self.old.files target.now.parent.entry) }
+        requires signature { signature_to target.now < signatures }
+        requires some { 1 ≤ length bytes.now }
+        requires few { length bytes.now ≤ part_size }
+        requires inside { offset + length bytes.now ≤ largest_offset }
+        requires is_open { ForSome (F.told f.old).files (IsOpen self.old.files) }
+
+        // It is the map's SparseWrite, and may be stopped at each word.
+        ensures does { AsksToStore self.old (F.told f.old) moment handle offset bytes.now target.now rise.now → IfOk result (λ answer. Does (KeepsState self.old) (KeepsState self.new) (F.told f.old) (F.told f.new) moment (to_sparse_write handle offset bytes.now) answer) }
+        ensures stops { AsksToStore self.old (F.told f.old) moment handle offset bytes.now target.now rise.now → MayStopAtEach (KeepsState self.old) (F.told f.old) (F.told f.new) moment (to_sparse_write handle offset bytes.now) }
+
+        // What it evicts is printed, and on any answer a front of that.
+        ensures says { AsksToStore self.old (F.told f.old) moment handle offset bytes.now target.now rise.now → OnOk result (SaysEvicted self.old (F.told f.old) moment (to_sparse_write handle offset bytes.now) failed.old failed.new (K.written out.old) (K.written out.new)) }
+        ensures front { AsksToStore self.old (F.told f.old) moment handle offset bytes.now target.now rise.now → SaysFront self.old (F.told f.old) moment (to_sparse_write handle offset bytes.now) (K.written out.old) (K.written out.new) }
+        ensures fails { FailsWhereItRose failed.old failed.new (K.faults out.old) (K.faults out.new) }
+
+        // A refusal does nothing, but to the room for names.
+        ensures quiet { IfOk result (λ answer. IsRefused answer → Stays (F.told f.old) (F.told f.new)) }
+        ensures unchanged { IfOk result (λ answer. IsRefused answer → OnlyRoomChanges self.old self.new) }
+
+        ensures is_open { OnOk result (ForSome (F.told f.new).files (IsOpen self.new.files)) }
+        ensures notes { self.new.notes ≡ self.old.notes }
+        ensures mark { self.new.mark ≡ self.old.mark }
+        ensures damaged { IfDamaged result (IsFailedCheck self.new.files (F.told f.new)) }
+        ensures untold { AsksToStore self.old (F.told f.old) moment handle offset bytes.now target.now rise.now → ForSome (F.told f.old).files (KeepsAny self.old) → IfDamaged result (λ _. (F.told f.old).files ≡ None) }
+        ensures silent { (F.told f.old).files ≡ None → (F.told f.new).files ≡ None }
+        ensures later { F.faults f.old ≤ F.faults f.new }
+        ensures sink_later { K.faults out.old ≤ K.faults out.new }
+        ensures device { IfDevice result (Rises (F.faults f.old) (F.faults f.new)) }
+    {
+        if self.is_full(rise.bytes, rise.items, &rise.parts) {
+            return Ok(Answer::Refused(Refusal::Full));
+        }
+        self.write_with_room(
+            f, out, failed, handle, target, rise, offset, bytes, moment,
+        )
+    }
+
+    // Writes them once all that has to go for them is evicted, where nothing refuses it.
+    fn write_with_room<F: Folder, K: Sink>(
+        &mut self,
+        f: &mut F,
+        out: &mut K,
+        failed: &mut bool,
+        handle: u16,
+        target: &Target,
+        rise: &Rise,
+        offset: u64,
+        bytes: &[u8],
+        moment: u64,
+    ) -> Result<Answer, Fault>
+        requires bound { IsSome (binding_of self.old.handles handle) }
+        requires stands { IsTrue (is_node_among self.old.files target.now.parent.node) }
+        requires names { IsTrue (is_record_among self.old.files target.now.parent.entry) }
+        requires signature { signature_to target.now < signatures }
+        requires some { 1 ≤ length bytes.now }
+        requires few { length bytes.now ≤ part_size }
+        requires inside { offset + length bytes.now ≤ largest_offset }
+        requires is_open { ForSome (F.told f.old).files (IsOpen self.old.files) }
+
+        // It is the map's SparseWrite, and may be stopped at each word.
+        ensures does { HasRoomToStore self.old (F.told f.old) moment handle offset bytes.now target.now rise.now → IfOk result (λ answer. Does (KeepsState self.old) (KeepsState self.new) (F.told f.old) (F.told f.new) moment (to_sparse_write handle offset bytes.now) answer) }
+        ensures stops { HasRoomToStore self.old (F.told f.old) moment handle offset bytes.now target.now rise.now → MayStopAtEach (KeepsState self.old) (F.told f.old) (F.told f.new) moment (to_sparse_write handle offset bytes.now) }
+
+        // What it evicts is printed, and on any answer a front of that.
+        ensures says { HasRoomToStore self.old (F.told f.old) moment handle offset bytes.now target.now rise.now → OnOk result (SaysEvicted self.old (F.told f.old) moment (to_sparse_write handle offset bytes.now) failed.old failed.new (K.written out.old) (K.written out.new)) }
+        ensures front { HasRoomToStore self.old (F.told f.old) moment handle offset bytes.now target.now rise.now → SaysFront self.old (F.told f.old) moment (to_sparse_write handle offset bytes.now) (K.written out.old) (K.written out.new) }
+        ensures fails { FailsWhereItRose failed.old failed.new (K.faults out.old) (K.faults out.new) }
+
+        // A refusal does nothing, but to the room for names.
+        ensures quiet { IfOk result (λ answer. IsRefused answer → Stays (F.told f.old) (F.told f.new)) }
+        ensures unchanged { IfOk result (λ answer. IsRefused answer → OnlyRoomChanges self.old self.new) }
+
+        ensures is_open { OnOk result (ForSome (F.told f.new).files (IsOpen self.new.files)) }
+        ensures notes { self.new.notes ≡ self.old.notes }
+        ensures mark { self.new.mark ≡ self.old.mark }
+        ensures damaged { IfDamaged result (IsFailedCheck self.new.files (F.told f.new)) }
+        ensures untold { HasRoomToStore self.old (F.told f.old) moment handle offset bytes.now target.now rise.now → ForSome (F.told f.old).files (KeepsAny self.old) → IfDamaged result (λ _. (F.told f.old).files ≡ None) }
+        ensures silent { (F.told f.old).files ≡ None → (F.told f.new).files ≡ None }
+        ensures later { F.faults f.old ≤ F.faults f.new }
+        ensures sink_later { K.faults out.old ≤ K.faults out.new }
+        ensures device { IfDevice result (Rises (F.faults f.old) (F.faults f.new)) }
+    {
+        let _bytes = self.kept_bytes();
+        self.evict_for(f, out, failed, rise.bytes, rise.items, &rise.parts)?;
+        self.end_sparse_write(
+            f, handle, target, offset, bytes, rise.bytes, rise.items, moment,
+        )
+    }
+
+    // The bytes that are kept: that they are those of a u64 is known once they are read.
+    fn kept_bytes(&self) -> u64
+        ensures are { result ≡ self.now.bytes }
+        ensures few { self.now.bytes < 2 ^ 64 }
+    {
+        self.bytes
+    }
+
+    // Does a SparseWrite of no bytes: the main item of its object is put in front of the use list.
+    fn use_target<F: Folder>(
+        &self,
+        f: &mut F,
+        target: &Target,
+        moment: u64,
+    ) -> Result<Answer, Fault>
+        requires stands { IsTrue (is_node_among self.now.files target.now.parent.node) }
+        requires is_open { ForSome (F.told f.old).files (IsOpen self.now.files) }
+        ensures does { (handle offset : ℕ) → NamesTarget self.now (F.told f.old) moment handle offset 0 target.now → IfOk result (λ answer. Does (KeepsState self.now) (KeepsState self.now) (F.told f.old) (F.told f.new) moment (to_sparse_write handle offset []) answer) }
+        ensures stops { (handle offset : ℕ) → NamesTarget self.now (F.told f.old) moment handle offset 0 target.now → MayStopAtEach (KeepsState self.now) (F.told f.old) (F.told f.new) moment (to_sparse_write handle offset []) }
+        ensures wrote { IfOk result (λ given. given ≡ answer.Wrote 0) }
+        ensures is_open { ForSome (F.told f.new).files (IsOpen self.now.files) }
+        ensures damaged { IfDamaged result (IsFailedCheck self.now.files (F.told f.new)) }
+        ensures untold { (handle offset : ℕ) → NamesTarget self.now (F.told f.old) moment handle offset 0 target.now → ForSome (F.told f.old).files (KeepsAny self.now) → IfDamaged result (λ _. (F.told f.old).files ≡ None) }
+        ensures silent { (F.told f.old).files ≡ None → (F.told f.new).files ≡ None }
+        ensures later { F.faults f.old ≤ F.faults f.new }
+        ensures device { IfDevice result (Rises (F.faults f.old) (F.faults f.new)) }
+    {
+        touch(f, &self.files, target.parent.node, moment)?;
+        Ok(Answer::Wrote(0))
+    }
+}
