@@ -42,10 +42,11 @@ before=$(both "$room/damaged")
 session 'a session on a damaged folder' "$room/damaged" 7 "$(line_of damaged)" -- -- 'create 0 a'
 is 'it does not write' "$before" "$(both "$room/damaged")"
 
-# Every line of the language, on a fresh folder and on one that was used; that which writes sparse data is not built yet.
+# Every line of the language, on a fresh folder and on one that was used.
 every=('create 0 a' 'write 0 1 5000 616263' 'read 0 1 4998 9' 'size 0 1' 'cut 0 1 2 4A4b' 'read 0 1 0 18446744073709551615' 'write 0 0 0 -'
     'open 4095 a' 'close 0' 'list' 'total' 'create 1 a%20b' 'close 1' 'list' 'open 1 %61' 'doom 1' 'write 1 0 0 7a' 'read 1 0 0 5' 'total'
-    'close 1' 'close 4095' 'total' 'doomkey a%20b' 'trim 0' 'swrite 0 0 61' 'sread 0 0 1' 'srange 0 0 1' 'total')
+    'close 1' 'close 4095' 'total' 'doomkey a%20b' 'trim 0' 'swrite 0 0 61' 'create 2 s'
+    'swrite 2 1023 6162' 'sread 2 1023 9' 'srange 2 0 1048576' 'total' 'doom 2' 'total')
 replies='ok
 ok 3
 data 5 0000616263
@@ -73,10 +74,14 @@ ok
 total 1 3
 ok
 ok 0
-fault 25 8 NotBuilt
 refused 1 BadHandle
-refused 1 BadHandle
-total 0 0'
+ok
+ok 2
+data 0 -
+range 1024 1
+total 2 9497
+ok
+total 1 8257'
 mkdir "$room/every"
 session 'every line, on a fresh folder' "$room/every" 1 "$replies" -- -- "${every[@]}"
 session 'every line, on a used folder' "$room/every" 1 "$replies" -- -- "${every[@]}"

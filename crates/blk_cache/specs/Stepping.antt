@@ -6,7 +6,7 @@ use Rattle.blk_io.specs.Streams.{Appends}
 use Rattle.blk_io.specs.declared.fault.Damage.{Damage}
 use Rattle.blk_io.specs.declared.fault.Fault.{Fault}
 use Rattle.blk_io.specs.declared.fault.Fault.TheVariants as fault
-use Rattle.blk_model.specs.Request.{Request, to_sparse_write}
+use Rattle.blk_model.specs.Request.{Request}
 use Rattle.blk_model.specs.Step.{Outcome, step}
 use Rattle.blk_kept.specs.Commands.{ForKept}
 use Rattle.blk_script.specs.Reply.{evicted_text, reply_text}
@@ -68,10 +68,3 @@ IfStepDamaged (Err (step_fault.Damaged damage)) P = P damage
 IfStepDamaged (Err step_fault.Device) P = Unit {0}
 IfStepDamaged (Err step_fault.Sink) P = Unit {0}
 IfStepDamaged (Ok a) P = Unit {0}
-
--- Until a SparseWrite is built.
-
--- a request isn't one
-abbrev pub IsBuilt : Request → Type 0
-IsBuilt (to_sparse_write handle offset bytes) = ⊥
-IsBuilt _ = Unit {0}

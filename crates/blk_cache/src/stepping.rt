@@ -14,7 +14,7 @@ ghost use Rattle.blk_object.specs.FailedChecks.{IsFailedCheck};
 ghost use Rattle.blk_cache.specs.CacheKeeping.{KeepsState};
 ghost use Rattle.blk_cache.specs.CommandClauses.{IsRefused, KeepsAny, OnlyNotesChange};
 ghost use Rattle.blk_items.specs.RoomPrinting.{FailsWhereItRose};
-ghost use Rattle.blk_cache.specs.Stepping.{IfDone, IfSink, IfStepDamaged, IfStepDevice, IsBuilt, SaysEvicted, SaysFront, evicted_first, outcome_text};
+ghost use Rattle.blk_cache.specs.Stepping.{IfDone, IfSink, IfStepDamaged, IfStepDevice, SaysEvicted, SaysFront, evicted_first, outcome_text};
 
 use crate::cache::Cache;
 use crate::fault::StepFault;
@@ -42,7 +42,6 @@ impl Cache {
         command: &Command,
     ) -> Result<Answer, StepFault>
         requires is_open { ForSome (F.told f.old).files (IsOpen self.old.files) }
-        requires built { IsBuilt (request_of command.now) }
 
         // The answer is the map's, and the state after it is kept, also where only the sink failed.
         ensures answered { IfOk result (λ answer. ForKept (KeepsState self.old) (F.told f.old) (λ state. answer ≡ answer_of (step state moment (request_of command.now)).reply)) }
@@ -142,7 +141,6 @@ impl Cache {
         command: &Command,
     ) -> Result<Answer, Fault>
         requires is_open { ForSome (F.told f.old).files (IsOpen self.old.files) }
-        requires built { IsBuilt (request_of command.now) }
         ensures does { IfOk result (λ answer. Does (KeepsState self.old) (KeepsState self.new) (F.told f.old) (F.told f.new) moment (request_of command.now) answer) }
         ensures stops { MayStopAtEach (KeepsState self.old) (F.told f.old) (F.told f.new) moment (request_of command.now) }
         ensures says { OnOk result (SaysEvicted self.old (F.told f.old) moment (request_of command.now) failed.old failed.new (K.written out.old) (K.written out.new)) }
@@ -181,7 +179,11 @@ impl Cache {
             Command::List => self.list(f),
             Command::Trim { bytes } => self.trim(f, out, failed, bytes),
             Command::Total => Ok(self.total()),
-            Command::SparseWrite { .. } => unreachable!(),
+            Command::SparseWrite {
+                handle,
+                offset,
+                bytes,
+            } => self.sparse_write(f, out, failed, handle, offset, bytes, moment),
             Command::SparseRead {
                 handle,
                 offset,

@@ -34,7 +34,7 @@ const QUIET: Row<'static> = Row {
     held: (0, 0),
 };
 
-// The lines that are no command, and a SparseWrite; a last line without an end, and none; more bytes than the budget;
+// The lines that are no command, and one that is refused; a last line without an end, and none; more bytes than the budget;
 // a source that fails at its second take, behind a part of a line; and a sink that fails at its first put, and at its third: the command
 // is done all the same, and the next is not begun. A reply is put in two pieces, so the third put is the first of the second reply.
 const ROWS: [Row<'static>; 8] = [
@@ -42,7 +42,7 @@ const ROWS: [Row<'static>; 8] = [
         input: b"\nfly 1\ncreate 0\ncreate x a\nwrite 0 0 0 6\ncreate 0 a%2\nswrite 0 0 61\n",
         status: Status::Refused,
         printed: b"fault 1 1 Empty\nfault 2 2 UnknownWord\nfault 3 3 FieldCount\nfault 4 4 Number\n\
-                   fault 5 5 Hex\nfault 6 6 Key\nfault 7 8 NotBuilt\n",
+                   fault 5 5 Hex\nfault 6 6 Key\nrefused 1 BadHandle\n",
         ..QUIET
     },
     Row {

@@ -1,8 +1,4 @@
 // Sessions over a folder in memory that tells nothing, by the lines of a script.
-ghost use Rattle.blk_cache.specs.Stepping.{IsBuilt};
-ghost use Rattle.blk_model.specs.Request.{request_of};
-ghost use Rattle.std.specs.Prelude.{◌≡◌, true};
-
 use blk_audit::ScanFault;
 use blk_cache::{Cache, StepFault};
 use blk_io::{Folder, MemSink, Sink};
@@ -57,9 +53,7 @@ impl Session {
     }
 
     // Does a command. Gives its answer and the number of its folder calls.
-    pub(crate) fn step(&mut self, command: &Command) -> Result<(Answer, u64), StepFault>
-        requires { IsBuilt (request_of command.now) }
-    {
+    pub(crate) fn step(&mut self, command: &Command) -> Result<(Answer, u64), StepFault> {
         let start = self.f.calls();
         let answer = self
             .cache
@@ -74,11 +68,11 @@ impl Session {
             return Err(StepFault::Device);
         }
         match read_line(line, &mut room) {
-            Ok(command) if is_built(&command) => {
+            Ok(command) => {
                 let (_, calls) = self.step(&command)?;
                 Ok(calls)
             }
-            _ => Err(StepFault::Device),
+            Err(_) => Err(StepFault::Device),
         }
     }
 
@@ -109,16 +103,6 @@ impl Session {
             bytes: &bytes[..count],
         })?;
         Ok(calls)
-    }
-}
-
-// Whether a command is no SparseWrite, which isn't built yet.
-fn is_built(command: &Command) -> bool
-    ensures { result ≡ true → IsBuilt (request_of command.now) }
-{
-    match command {
-        Command::SparseWrite { .. } => false,
-        _ => true,
     }
 }
 

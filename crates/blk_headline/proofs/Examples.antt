@@ -73,19 +73,19 @@ count_none : text_of (run count_script).turns ≡ codes "items 0 bytes 0\n"
 unfolding computing turns
 count_none = refl
 
--- a session: a line that is no word, one on sparse data, and a Create whose handle is closed in the end; then the entry is at rest
+-- a session: a line that is no word, a Create, and a byte of sparse data; the handle is closed in the end, and then the entry and its part are at rest
 abbrev session : Run
-session = run (session_script 1 (lines (codes "fly 1\nswrite 0 0 -\ncreate 0 a\n")))
+session = run (session_script 1 (lines (codes "fly 1\ncreate 0 a\nswrite 0 0 61\n")))
 
-session_text : text_of session.turns ≡ codes "fault 1 2 UnknownWord\nfault 2 8 NotBuilt\nok\n"
+session_text : text_of session.turns ≡ codes "fault 1 2 UnknownWord\nok\nok 1\n"
 unfolding computing percent_decode line_fields number_field data_field key_field reading command_words read_text key_text data_text reply_text session_script turns with_bytes
 session_text = refl
 
-session_commands : length (commands session) ≡ 2
+session_commands : length (commands session) ≡ 3
 unfolding computing percent_decode line_fields number_field data_field key_field reading command_words read_text key_text data_text reply_text session_script turns with_bytes state_after closings commands
 session_commands = refl
 
-session_rest : length (rest (last_state session)) ≡ 1
+session_rest : length (rest (last_state session)) ≡ 2
 unfolding computing percent_decode line_fields number_field data_field key_field reading command_words read_text key_text data_text reply_text session_script turns with_bytes state_after closings commands
 session_rest = refl
 

@@ -5,10 +5,11 @@ use Rattle.std.proofs.lemmas.List.Sums.{sum_by-append, sum_by-cons, sum_by_push}
 use Rattle.blk_model.specs.Request.{Request}
 use Rattle.blk_model.specs.State.{State}
 use Rattle.blk_io.specs.Streams.{Readings, later_of}
+use Rattle.blk_script.specs.declared.fault.LineFault.{LineFault}
 use Rattle.blk_script.specs.declared.fault.LineFault.TheVariants as fault
 use Rattle.blk_script.specs.Line.{read_text}
 use Rattle.blk_headline.specs.Lines.{Cut, with_byte, with_bytes, lines, open_line, nothing_cut}
-use Rattle.blk_headline.specs.Script.{Script, LineError, faulty_text, asked_by, session_script, line_script}
+use Rattle.blk_headline.specs.Script.{Script, session_script, line_script}
 use Rattle.blk_headline.specs.Run.{turns, commands_of, stamped_by, state_then}
 use Rattle.blk_headline.specs.Laws.{CommandsAreFew, LinesGoOn, WholeLinesComeFirst}
 
@@ -62,19 +63,19 @@ abbrev ended_length : List ℕ → ℕ
 ended_length text = length text + 1
 
 -- an empty line is no command
-no_command : asked_by [] ≡ Err (faulty_text fault.Empty)
+no_command : read_text [] ≡ Err fault.Empty
 unfolding read_text
 no_command = refl
 
 -- a command has a line that isn't empty
-command_line : (text : List ℕ) (request : Request) → asked_by text ≡ Ok request → 2 ≤ ended_length text
+command_line : (text : List ℕ) (request : Request) → read_text text ≡ Ok request → 2 ≤ ended_length text
 command_line [] request is = absurd (clash (sym no_command ∙ is))
   where
-    clash : {why : LineError} → Err why ≡ Ok request → ⊥
+    clash : {why : LineFault} → Err why ≡ Ok request → ⊥
     clash c = cc
 command_line (byte ∷ text) request is = omega arith
 
-few_of_line : (number : ℕ) (read : Result Request LineError) (following : Script) (m rest : ℕ) → ((request : Request) → read ≡ Ok request → 2 ≤ m)
+few_of_line : (number : ℕ) (read : Result Request LineFault) (following : Script) (m rest : ℕ) → ((request : Request) → read ≡ Ok request → 2 ≤ m)
     → ((s : State) (c : Readings) → 2 * length (commands_of (turns following s c)) ≤ rest) → (state : State) (clock : Readings) → 2 * length (commands_of (turns (line_script number read following) state clock)) ≤ m + rest
 unfolding turns
 few_of_line number (Err why) following m rest long few state clock = let later = few state clock in omega (arith, later)
@@ -87,8 +88,8 @@ few_of_lines : (number : ℕ) (texts : List (List ℕ)) (state : State) (clock :
 unfolding session_script turns
 few_of_lines number [] state clock = omega arith
 few_of_lines number (x ∷ texts) state clock =
-    subst (λ (n : ℕ). 2 * length (commands_of (turns (line_script number (asked_by x) (session_script (number + 1) texts)) state clock)) ≤ n) (sym (sum_by-cons ended_length x texts))
-    (few_of_line number (asked_by x) (session_script (number + 1) texts) (ended_length x) (sum_by ended_length texts) (command_line x) (few_of_lines (number + 1) texts) state clock)
+    subst (λ (n : ℕ). 2 * length (commands_of (turns (line_script number (read_text x) (session_script (number + 1) texts)) state clock)) ≤ n) (sym (sum_by-cons ended_length x texts))
+    (few_of_line number (read_text x) (session_script (number + 1) texts) (ended_length x) (sum_by ended_length texts) (command_line x) (few_of_lines (number + 1) texts) state clock)
 
 -- how many bytes are cut
 abbrev cut_length : Cut → ℕ

@@ -10,7 +10,10 @@ use Rattle.blk_model.specs.Holding.{open_state}
 use Rattle.blk_model.specs.Request.{Request}
 use Rattle.blk_model.specs.State.{State}
 use Rattle.blk_io.specs.Streams.{Readings, later_of}
-use Rattle.blk_headline.specs.Script.{Script, LineError, ended, errs, says, asks, asked_by, error_text, session_script, line_script}
+use Rattle.blk_script.specs.declared.fault.LineFault.{LineFault}
+use Rattle.blk_script.specs.Line.{read_text}
+use Rattle.blk_script.specs.Reply.{line_fault_text}
+use Rattle.blk_headline.specs.Script.{Script, ended, errs, says, asks, session_script, line_script}
 use Rattle.blk_headline.specs.Run.{Stamped, Turn, error_turn, text_turn, command_turn, stamped_by, outcome_in, state_then, turns, commands_of, state_after, clock_after, text_of, refuse, bound_names, closings, commands}
 use Rattle.blk_headline.specs.Playing.{IsPlayed}
 use Rattle.blk_headline.specs.Laws.{LinesArePlayedInTurn, NothingIsPlayed, CommandsArePlayed, ErrorsArePlayed, TextsArePlayed, PlayingGoesOn, PlayedRunsAreCut, PlayedRunsAreWhole, PlayedCommandsComeFirst, AskedCommandsAreNext}
@@ -56,13 +59,13 @@ played_command script state clock made request shown next now readings before =
     played_then script state clock made (asks request shown next) now readings (command_turn command (shown outcome) outcome ∷ []) (next outcome) (state_then now command) (later_of readings)
     before (one_command request shown next now readings)
 
-one_error : (number : ℕ) (why : LineError) (next : Script) (now : State) (readings : Readings) → IsPlayed (errs number why next) now readings (error_turn (error_text number why) ∷ []) next now readings
+one_error : (number : ℕ) (why : LineFault) (next : Script) (now : State) (readings : Readings) → IsPlayed (errs number why next) now readings (error_turn (line_fault_text number why) ∷ []) next now readings
 unfolding turns state_after
 one_error number why next now readings = record { all = refl; state_is = refl; clock_is = refl }
 
 pub played_error : ErrorsArePlayed
 played_error script state clock made number why next now readings before =
-    played_then script state clock made (errs number why next) now readings (error_turn (error_text number why) ∷ []) next now readings before (one_error number why next now readings)
+    played_then script state clock made (errs number why next) now readings (error_turn (line_fault_text number why) ∷ []) next now readings before (one_error number why next now readings)
 
 one_text : (text : State → List ℕ) (next : Script) (now : State) (readings : Readings) → IsPlayed (says text next) now readings (text_turn (text now) ∷ []) next now readings
 unfolding turns state_after
@@ -75,7 +78,7 @@ played_text script state clock made text next now readings before =
 -- Lines.
 
 -- where lines are played to their end, what follows them is left
-played_line : (number : ℕ) (read : Result Request LineError) (following : Script) (state : State) (clock : Readings)
+played_line : (number : ℕ) (read : Result Request LineFault) (following : Script) (state : State) (clock : Readings)
     → IsPlayed (line_script number read following) state clock (turns (line_script number read ended) state clock) following
     (state_after state (commands_of (turns (line_script number read ended) state clock))) (clock_after clock (length (commands_of (turns (line_script number read ended) state clock))))
 unfolding turns state_after
@@ -83,7 +86,7 @@ played_line number (Err why) following state clock = record { all = refl; state_
 played_line number (Ok request) following state clock = record { all = refl; state_is = refl; clock_is = refl }
 
 -- a line's own turns, and those of what follows it
-line_first : (number : ℕ) (read : Result Request LineError) (following : Script) (state : State) (clock : Readings)
+line_first : (number : ℕ) (read : Result Request LineFault) (following : Script) (state : State) (clock : Readings)
     → turns (line_script number read following) state clock
     ≡ turns (line_script number read ended) state clock
     ++ turns following (state_after state (commands_of (turns (line_script number read ended) state clock))) (clock_after clock (length (commands_of (turns (line_script number read ended) state clock))))
@@ -95,7 +98,7 @@ more_turns number [] more state clock =
     let same : number ≡ number + 0 = omega arith in
     record { all = ap (λ (n : ℕ). turns (session_script n more) state clock) same; state_is = refl; clock_is = refl }
 more_turns number (x ∷ texts) more state clock =
-    let read = asked_by x in
+    let read = read_text x in
     let one = turns (line_script number read ended) state clock in
     let now = state_after state (commands_of one) in
     let readings = clock_after clock (length (commands_of one)) in

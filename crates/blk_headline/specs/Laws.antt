@@ -15,10 +15,12 @@ use Rattle.blk_model.specs.ListSteps.{list_after, list_steps}
 use Rattle.blk_model.specs.Step.{Outcome}
 use Rattle.blk_model.specs.Stops.{is_safe}
 use Rattle.blk_io.specs.Streams.{Readings, later_of}
+use Rattle.blk_script.specs.declared.fault.LineFault.{LineFault}
+use Rattle.blk_script.specs.Reply.{line_fault_text}
 use Rattle.blk_kept.specs.Commands.{IsNoted, IsStepped, note_number}
 use Rattle.blk_volume.specs.Found.{found}
 use Rattle.blk_headline.specs.Lines.{Cut, with_bytes, lines, whole_lines}
-use Rattle.blk_headline.specs.Script.{Script, LineError, ended, errs, says, asks, error_text, session_script}
+use Rattle.blk_headline.specs.Script.{Script, ended, errs, says, asks, session_script}
 use Rattle.blk_headline.specs.Run.{Stamped, Turn, error_turn, text_turn, command_turn, stamped_by, outcome_in, state_then, state_after, clock_after, turns, commands_of, bound_names, closings, run_of, cut_after, commands, command_after, state_at}
 use Rattle.blk_headline.specs.Moments.{IsStopped}
 use Rattle.blk_headline.specs.Opening.{IsUsable, HoldsStill, Opens, FailsToOpen, has_opened}
@@ -93,8 +95,8 @@ CommandsArePlayed = (script : Script) (state : State) (clock : Readings) (made :
 
 -- a line that is no command is played
 abbrev pub ErrorsArePlayed : Type 0
-ErrorsArePlayed = (script : Script) (state : State) (clock : Readings) (made : List Turn) (number : ℕ) (why : LineError) (next : Script) (now : State) (readings : Readings)
-    → IsPlayed script state clock made (errs number why next) now readings → IsPlayed script state clock (made ++ error_turn (error_text number why) ∷ []) next now readings
+ErrorsArePlayed = (script : Script) (state : State) (clock : Readings) (made : List Turn) (number : ℕ) (why : LineFault) (next : Script) (now : State) (readings : Readings)
+    → IsPlayed script state clock made (errs number why next) now readings → IsPlayed script state clock (made ++ error_turn (line_fault_text number why) ∷ []) next now readings
 
 -- a text of the state is played
 abbrev pub TextsArePlayed : Type 0

@@ -9,7 +9,8 @@ use Rattle.blk_model.specs.Holding.{open_state}
 use Rattle.blk_model.specs.Request.{Request, to_close}
 use Rattle.blk_model.specs.Step.{Outcome, step}
 use Rattle.blk_io.specs.Streams.{Readings, reading_of, later_of}
-use Rattle.blk_headline.specs.Script.{Script, ended, errs, says, asks, error_text, is_refused, outcome_text}
+use Rattle.blk_script.specs.Reply.{line_fault_text}
+use Rattle.blk_headline.specs.Script.{Script, ended, errs, says, asks, is_refused, outcome_text}
 
 -- a command, with the clock's reading before it
 pub record Stamped : Type 0 where
@@ -53,7 +54,7 @@ stamped_by clock request = record { moment = reading_of clock; request = request
 -- the turns of a script from a state on, with the readings to come: each command at the next reading
 unfoldable pub turns : Script → State → Readings → List Turn
 turns ended state clock = []
-turns (errs number why script) state clock = error_turn (error_text number why) ∷ turns script state clock
+turns (errs number why script) state clock = error_turn (line_fault_text number why) ∷ turns script state clock
 turns (says text script) state clock = text_turn (text state) ∷ turns script state clock
 turns (asks request shown script) state clock =
     let command = stamped_by clock request in

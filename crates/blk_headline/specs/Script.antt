@@ -8,50 +8,20 @@ use Rattle.blk_model.specs.declared.Refusal.{Refusal}
 use Rattle.blk_model.specs.declared.Refusal.TheVariants as refusal
 use Rattle.blk_model.specs.State.{State}
 use Rattle.blk_model.specs.Room.{total, items}
-use Rattle.blk_model.specs.Request.{Request, to_create, to_open, to_read, to_write, to_sparse_write, to_doom_key, to_close, to_list, to_trim}
+use Rattle.blk_model.specs.Request.{Request, to_create, to_open, to_read, to_write, to_doom_key, to_close, to_list, to_trim}
 use Rattle.blk_model.specs.Reply.{answer_of}
 use Rattle.blk_model.specs.Step.{Outcome}
 use Rattle.blk_script.specs.declared.fault.LineFault.{LineFault}
 use Rattle.blk_script.specs.Line.{read_text}
-use Rattle.blk_script.specs.Reply.{evicted_text, line_fault_text, reply_text}
-use Rattle.blk_script.specs.Spelling.{line, number_text}
-
--- Lines that are no command.
-
--- why a line of a session is no command: a fault of the line, or it writes sparse data, which isn't built yet
-pub data LineError : Type 0 where
-  faulty_text : LineFault → LineError
-  not_built : LineError
-
--- its text, the line counted from 1
-abbrev pub error_text : ℕ → LineError → List ℕ
-error_text number (faulty_text why) = line_fault_text number why
-error_text number not_built = line (codes "fault" ∷ number_text number ∷ number_text 8 ∷ codes "NotBuilt" ∷ [])
-
--- whether a command is built: all are but the one that writes sparse data
-abbrev pub is_built : Request → Bool
-is_built (to_sparse_write handle offset bytes) = false
-is_built _ = true
-
--- a command, where it is built
-abbrev pub built : Request → Result Request LineError
-built request = if is_built request then Ok request else Err not_built
-
--- what was read of a line, where it is built
-abbrev pub built_text : Result Request LineFault → Result Request LineError
-built_text (Ok request) = built request
-built_text (Err why) = Err (faulty_text why)
-
--- the command that a line of a session asks for, or why it is none
-abbrev pub asked_by : List ℕ → Result Request LineError
-asked_by text = built_text (read_text text)
+use Rattle.blk_script.specs.Reply.{evicted_text, reply_text}
+use Rattle.blk_script.specs.Spelling.{number_text}
 
 -- Scripts.
 
 -- nothing more; a line that is no command, with its number; a text of the state; or a command, with whether its reply is shown and what follows, by its outcome
 pub data Script : Type 0 where
   ended : Script
-  errs : ℕ → LineError → Script → Script
+  errs : ℕ → LineFault → Script → Script
   says : (State → List ℕ) → Script → Script
   asks : Request → (Outcome → Bool) → (Outcome → Script) → Script
 
@@ -85,14 +55,14 @@ outcome_text outcome = evicted_text outcome.groups ++ reply_text outcome.reply
 -- The script of a session.
 
 -- one line, and what follows it in any case
-abbrev pub line_script : ℕ → Result Request LineError → Script → Script
+abbrev pub line_script : ℕ → Result Request LineFault → Script → Script
 line_script number (Err why) following = errs number why following
 line_script number (Ok request) following = asks request (λ outcome. true) (λ outcome. following)
 
 -- the lines of a session, counted from a number: each is a command or none, and no line ends it
 unfoldable pub session_script : ℕ → List (List ℕ) → Script
 session_script number [] = ended
-session_script number (text ∷ texts) = line_script number (asked_by text) (session_script (number + 1) texts)
+session_script number (text ∷ texts) = line_script number (read_text text) (session_script (number + 1) texts)
 
 -- The scripts of the other words.
 

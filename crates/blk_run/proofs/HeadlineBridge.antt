@@ -13,7 +13,6 @@ use Rattle.blk_image.specs.Told.{Along, Told}
 use Rattle.blk_image.proofs.Runs.{until_weaker2}
 use Rattle.blk_model.proofs.Same.{same_bytes}
 use Rattle.blk_model.specs.Holding.{open_state}
-use Rattle.blk_model.specs.Request.{Request, to_create, to_open, to_read, to_write, to_size, to_sparse_write, to_sparse_read, to_sparse_range, to_doom, to_doom_key, to_close, to_list, to_trim, to_total}
 use Rattle.blk_model.specs.State.{Bounds, State, named_by}
 use Rattle.blk_volume.specs.Found.{found}
 use Rattle.blk_volume.specs.Layout.{Layout}
@@ -24,11 +23,9 @@ use Rattle.blk_repair.specs.Counters.{crash_place, is_in_crash_word, writes_cras
 use Rattle.blk_cache.specs.declared.cache.Cache.{Cache}
 use Rattle.blk_cache.specs.CacheKeeping.{IsBoundAs, KeepsState}
 use Rattle.blk_cache.specs.Opening as opening
-use Rattle.blk_cache.specs.Stepping.{IsBuilt}
 use Rattle.blk_headline.specs.Opening.{FailsToOpen, HoldsStill, Opens, has_opened, marks_open, open_mark}
 use Rattle.blk_headline.specs.Run.{bound_names}
 use Rattle.blk_headline.specs.Laws.{IsLeastBound}
-use Rattle.blk_headline.specs.Script.{is_built}
 use Rattle.blk_headline.proofs.Closing.{least_of_slots, none_closed, none_of_slots}
 
 -- The opening.
@@ -114,22 +111,3 @@ least_name cache state image name kept at =
 pub no_name : (cache : Cache) (state : State) (image : Image) → KeepsState cache state image → position is_some cache.handles ≡ None → bound_names state ≡ []
 no_name cache state image kept none =
     none_closed state (none_of_slots cache.handles state (λ other. bound_same state kept.layout (named_by state other) (binding_of cache.handles other) (kept.names other)) none)
-
--- Commands.
-
--- a command that is built may be done
-pub may_be_done : (request : Request) → is_built request ≡ true → IsBuilt request
-may_be_done (to_create handle key) built = tt
-may_be_done (to_open handle key) built = tt
-may_be_done (to_read handle stream offset count) built = tt
-may_be_done (to_write handle stream offset cut bytes) built = tt
-may_be_done (to_size handle stream) built = tt
-may_be_done (to_sparse_write handle offset bytes) built = let c : false ≡ true = built in cc
-may_be_done (to_sparse_read handle offset count) built = tt
-may_be_done (to_sparse_range handle offset count) built = tt
-may_be_done (to_doom handle) built = tt
-may_be_done (to_doom_key key) built = tt
-may_be_done (to_close handle) built = tt
-may_be_done to_list built = tt
-may_be_done (to_trim bytes) built = tt
-may_be_done to_total built = tt

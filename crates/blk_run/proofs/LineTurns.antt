@@ -15,7 +15,8 @@ use Rattle.blk_model.specs.State.{State}
 use Rattle.blk_script.specs.declared.fault.LineFault.{LineFault}
 use Rattle.blk_script.specs.declared.fault.LineFault.TheVariants as line_fault
 use Rattle.blk_script.specs.Line.{read_text}
-use Rattle.blk_headline.specs.Script.{LineError, Script, asked_by, built, built_text, ended, error_text, errs, faulty_text, is_built, line_script, not_built, session_script}
+use Rattle.blk_script.specs.Reply.{line_fault_text}
+use Rattle.blk_headline.specs.Script.{Script, ended, errs, line_script, session_script}
 use Rattle.blk_headline.specs.Run.{Stamped, Turn, commands_of, text_of, error_turn, turns, command_turn, outcome_in, stamped_by, clock_after}
 use Rattle.blk_cache.specs.declared.fault.StepFault.{StepFault}
 use Rattle.blk_cache.specs.declared.fault.StepFault.TheVariants as fault
@@ -30,7 +31,7 @@ pub part_same : {A : Type 0} (result : Result A StepFault) (far : SoFar) (one ot
 part_same result far one other keeps notes left old new same played = record { made = played.made; are = λ r there. played.are r there ∙ same (state_now far) r; plays = played.plays }
 
 -- the part of a line that says something
-abbrev pub line_part : ℕ → Result Request LineError → State → Readings → List Turn
+abbrev pub line_part : ℕ → Result Request LineFault → State → Readings → List Turn
 line_part number says state clock = turns (line_script number says ended) state clock
 
 none_read : (c : Option Readings) → c ≡ option_map (λ r. clock_after r 0) c
@@ -42,21 +43,21 @@ or_true true = refl
 or_true false = refl
 
 -- a line that is no command
-pub error_part : (result : Result (Unit {0}) StepFault) (number : ℕ) (why : LineError) (far : SoFar) (keeps : State → Image → Type 0) (notes left : ℕ) (told : Told) (w_old w_new : Option (List ℕ)) (clock : Option Readings) (refused_old refused_new : Bool)
-    → StandsAt far keeps notes left told → OnOk result (w_new ≡ option_map (λ (w : List ℕ). w ++ error_text number why) w_old) → Appends w_old w_new (error_text number why) → refused_new ≡ true → IsOnlySink result
+pub error_part : (result : Result (Unit {0}) StepFault) (number : ℕ) (why : LineFault) (far : SoFar) (keeps : State → Image → Type 0) (notes left : ℕ) (told : Told) (w_old w_new : Option (List ℕ)) (clock : Option Readings) (refused_old refused_new : Bool)
+    → StandsAt far keeps notes left told → OnOk result (w_new ≡ option_map (λ (w : List ℕ). w ++ line_fault_text number why) w_old) → Appends w_old w_new (line_fault_text number why) → refused_new ≡ true → IsOnlySink result
     → PlaysPart result (line_part number (Err why)) far keeps notes left (around told w_old clock refused_old) (around told w_new clock refused_new)
 unfolding turns
 error_part result number why far keeps notes left told w_old w_new clock refused_old refused_new at printed front refused only = record {
-  made = error_turn (error_text number why) ∷ [];
+  made = error_turn (line_fault_text number why) ∷ [];
   are = λ r there. refl;
   plays = by_result result printed only;
 }
   where
-    by_result : (r : Result (Unit {0}) StepFault) → OnOk r (w_new ≡ option_map (λ (w : List ℕ). w ++ error_text number why) w_old) → IsOnlySink r
-        → Plays r (error_turn (error_text number why) ∷ []) far keeps notes left (around told w_old clock refused_old) (around told w_new clock refused_new)
+    by_result : (r : Result (Unit {0}) StepFault) → OnOk r (w_new ≡ option_map (λ (w : List ℕ). w ++ line_fault_text number why) w_old) → IsOnlySink r
+        → Plays r (error_turn (line_fault_text number why) ∷ []) far keeps notes left (around told w_old clock refused_old) (around told w_new clock refused_new)
     by_result (Ok done) whole sink = record {
       stands = stands_none far keeps notes left told at;
-      printed = whole ∙ ap (λ (t : List ℕ). option_map (λ (w : List ℕ). w ++ t) w_old) (sym (append-nil (error_text number why)));
+      printed = whole ∙ ap (λ (t : List ℕ). option_map (λ (w : List ℕ). w ++ t) w_old) (sym (append-nil (line_fault_text number why)));
       read = none_read clock;
       refused = refused ∙ sym (or_true refused_old);
     }
@@ -66,7 +67,7 @@ error_part result number why far keeps notes left told w_old w_new clock refused
       stands = stands_none far keeps notes left told at;
       front = front.front;
       rest = front.rest;
-      split = append-nil (error_text number why) ∙ front.split;
+      split = append-nil (line_fault_text number why) ∙ front.split;
       printed = front.written;
       read = none_read clock;
     }
@@ -108,22 +109,10 @@ module _ (number : ℕ) (request : Request) (far : SoFar) (keeps : State → Ima
 
 -- What a line says.
 
-pub built_is : (request : Request) → is_built request ≡ true → built request ≡ Ok request
-built_is request is = ap (λ (b : Bool). if b then Ok request else Err not_built) is
-
-pub unbuilt_is : (request : Request) → is_built request ≡ false → built request ≡ Err not_built
-unbuilt_is request is = ap (λ (b : Bool). if b then Ok request else Err not_built) is
-
 -- one line of a session
-pub one_line : (number : ℕ) (text : List ℕ) (says : Result Request LineError) → asked_by text ≡ says → (state : State) (clock : Readings) → line_part number says state clock ≡ turns (session_script number (text ∷ [])) state clock
+pub one_line : (number : ℕ) (text : List ℕ) (says : Result Request LineFault) → read_text text ≡ says → (state : State) (clock : Readings) → line_part number says state clock ≡ turns (session_script number (text ∷ [])) state clock
 unfolding session_script
-one_line number text says is state clock = ap (λ (l : Result Request LineError). turns (line_script number l ended) state clock) (sym is)
-
-pub says_command : (text : List ℕ) (request : Request) → read_text text ≡ Ok request → asked_by text ≡ built request
-says_command text request read = ap built_text read
-
-pub says_fault : (text : List ℕ) (why : LineFault) → read_text text ≡ Err why → asked_by text ≡ Err (faulty_text why)
-says_fault text why read = ap built_text read
+one_line number text says is state clock = ap (λ (l : Result Request LineFault). turns (line_script number l ended) state clock) (sym is)
 
 -- a line that is too long
 pub says_too_long : (text : List ℕ) → 2200000 < length text → read_text text ≡ Err line_fault.TooLong

@@ -1,8 +1,7 @@
 -- Scripts that aren't read from the input, as the program has them.
-use Rattle.std.specs.Prelude.{ℕ, ◌≡◌, Bool, true, false, if◌then◌else◌, List, length, map, All, Result, Ok, Err}
-use Rattle.blk_model.specs.declared.Command.{Command}
+use Rattle.std.specs.Prelude.{ℕ, Bool, true, false, if◌then◌else◌, length, map, Result, Ok, Err}
 use Rattle.blk_model.specs.Request.{request_of}
-use Rattle.blk_headline.specs.Script.{Script, is_built, put_script, until_refused}
+use Rattle.blk_headline.specs.Script.{Script, put_script, until_refused}
 use Rattle.blk_cache.specs.declared.fault.StepFault.{StepFault}
 use Rattle.blk_cache.specs.declared.fault.StepFault.TheVariants as fault
 use Rattle.blk_run.specs.declared.ending.Status.{Status}
@@ -19,11 +18,6 @@ script_of (fixed.Put put) = put_script put.key.now put.stream put.bytes.now
 abbrev pub commands_in : Fixed → ℕ
 commands_in (fixed.Commands commands) = length commands.now
 commands_in (fixed.Put put) = 4
-
--- each of its commands is built
-abbrev pub AreBuilt : Fixed → Type 0
-AreBuilt (fixed.Commands commands) = All (λ (command : Command). is_built (request_of command) ≡ true) commands.now
-AreBuilt (fixed.Put put) = Unit {0}
 
 -- the status where a script came to an end so, and something was refused or not; the folder may fail in what is closed then
 abbrev pub script_status : Result (Unit {0}) StepFault → (refused : Bool) → Status

@@ -1,12 +1,12 @@
 // The fixed scripts: commands that are played up to the first that is refused.
-ghost use Rattle.std.specs.Prelude.{◌≡◌, ◌*◌, true, false, ◌≤◌, ◌+◌, ◌++◌, ℕ, All, length, map, None, OnOk};
+ghost use Rattle.std.specs.Prelude.{◌≡◌, ◌*◌, true, false, ◌≤◌, ◌+◌, ◌++◌, ℕ, length, map, None, OnOk};
 ghost use Rattle.std.specs.Option.{ForSome, option_map};
 ghost use Rattle.blk_image.specs.Told.{Rises};
 ghost use Rattle.blk_io.specs.Streams.{Appends};
 ghost use Rattle.blk_model.specs.Reply.{answered};
 ghost use Rattle.blk_model.specs.Request.{request_of, to_open};
 ghost use Rattle.blk_script.specs.Reply.{reply_text};
-ghost use Rattle.blk_headline.specs.Script.{is_built, is_missing_refusal, put_script, refusal_of, until_refused};
+ghost use Rattle.blk_headline.specs.Script.{is_missing_refusal, put_script, refusal_of, until_refused};
 ghost use Rattle.blk_headline.specs.Run.{turns};
 ghost use Rattle.blk_run.specs.Fixed.{opened_answer};
 ghost use Rattle.blk_cache.specs.Stepping.{IfDone, IfSink, IfStepDevice};
@@ -31,7 +31,6 @@ pub(crate) fn play_until_refused<F: Folder, K: Sink, C: Clock>(
     clock: &mut C,
 ) -> Result<(), StepFault>
     requires is_open { ForSome (F.told folder.old).files (IsOpen cache.old.files) }
-    requires built { All (λ command. is_built (request_of command) ≡ true) commands.now }
     ensures played { (far : SoFar) (left : ℕ) → StandsAt far (KeepsState cache.old) (cache.old.notes) (left + 2 * length commands.now) (F.told folder.old) → PlaysPart result (turns (until_refused (map request_of commands.now))) far (KeepsState cache.new) (cache.new.notes) left (record { folder = F.told folder.old; written = K.written out.old; clock = C.readings clock.old; refused = refused.old }) (record { folder = F.told folder.new; written = K.written out.new; clock = C.readings clock.new; refused = refused.new }) }
     ensures is_open { IfDone result (ForSome (F.told folder.new).files (IsOpen cache.new.files)) }
     ensures later { F.faults folder.old ≤ F.faults folder.new }

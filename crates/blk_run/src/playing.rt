@@ -5,10 +5,10 @@ ghost use Rattle.std.specs.List.{position};
 ghost use Rattle.blk_image.specs.Told.{Rises};
 ghost use Rattle.blk_io.specs.Streams.{Appends};
 ghost use Rattle.blk_model.specs.Request.{request_of};
-ghost use Rattle.blk_headline.specs.Script.{built, ended, error_text, is_built, line_script, session_script};
+ghost use Rattle.blk_script.specs.Reply.{line_fault_text};
+ghost use Rattle.blk_headline.specs.Script.{ended, line_script, session_script};
 ghost use Rattle.blk_headline.specs.Run.{turns};
 ghost use Rattle.blk_run.specs.Playing.{cut_behind};
-ghost use Rattle.blk_run.specs.Errors.{error_of, error_number, error_name};
 ghost use Rattle.blk_cache.specs.Stepping.{IfDone, IfSink, IfStepDevice};
 ghost use Rattle.blk_run.specs.Errors.{IsOnlySink};
 ghost use Rattle.blk_run.specs.Pending.{Holds, pending};
@@ -22,39 +22,6 @@ use blk_io::{Clock, Failed, Folder, Sink};
 use blk_model::{Answer, Command};
 use blk_script::{Field, LineFault, print_fields, read_line};
 
-// Why a line of a session is no command.
-#[derive(Clone, Copy)]
-pub(crate) enum LineError {
-    // The line has a fault.
-    Text(LineFault),
-    // It writes sparse data, which isn't built yet.
-    NotBuilt,
-}
-
-impl LineError {
-    ghost use Rattle.blk_run.specs.Errors.{error_number, error_name};
-
-    // Its number, from 1 to 8.
-    fn number(self) -> u8
-        ensures { result ≡ error_number self }
-    {
-        match self {
-            LineError::Text(why) => why.number(),
-            LineError::NotBuilt => 8,
-        }
-    }
-
-    // Its name.
-    fn name(self) -> &'static str
-        ensures { result.now ≡ error_name self }
-    {
-        match self {
-            LineError::Text(why) => why.name(),
-            LineError::NotBuilt => "NotBuilt",
-        }
-    }
-}
-
 // The lines so far: how many they are, and whether something was refused.
 #[derive(Clone, Copy)]
 pub(crate) struct Played {
@@ -63,9 +30,9 @@ pub(crate) struct Played {
 }
 
 // Prints that a line is no command.
-fn print_error<K: Sink>(out: &mut K, number: u64, why: LineError) -> Result<(), Failed>
-    ensures steps { OnOk result (K.written out.new ≡ option_map (λ w. w ++ error_text number (error_of why)) (K.written out.old)) }
-    ensures prefix { Appends (K.written out.old) (K.written out.new) (error_text number (error_of why)) }
+fn print_error<K: Sink>(out: &mut K, number: u64, why: LineFault) -> Result<(), Failed>
+    ensures steps { OnOk result (K.written out.new ≡ option_map (λ w. w ++ line_fault_text number why) (K.written out.old)) }
+    ensures prefix { Appends (K.written out.old) (K.written out.new) (line_fault_text number why) }
     ensures later { K.faults out.old ≤ K.faults out.new }
     ensures failed { OnErr result (Rises (K.faults out.old) (K.faults out.new)) }
 {
@@ -78,27 +45,6 @@ fn print_error<K: Sink>(out: &mut K, number: u64, why: LineError) -> Result<(), 
             Field::Word(why.name()),
         ],
     )
-}
-
-// Whether a command is built: the one that writes sparse data isn't yet.
-fn is_built_yet(command: &Command) -> bool
-    ensures { result ≡ is_built (request_of command.now) }
-{
-    match *command {
-        Command::SparseWrite { .. } => false,
-        Command::Create { .. }
-        | Command::Open { .. }
-        | Command::Read { .. }
-        | Command::Write { .. }
-        | Command::Size { .. } => true,
-        Command::SparseRead { .. } | Command::SparseRange { .. } => true,
-        Command::Doom { .. }
-        | Command::DoomKey { .. }
-        | Command::Close { .. }
-        | Command::List
-        | Command::Trim { .. }
-        | Command::Total => true,
-    }
 }
 
 // Plays one line: it is a command, or why it is none is printed.
@@ -126,13 +72,13 @@ pub(crate) fn play_line<F: Folder, K: Sink, C: Clock>(
     match line.bytes() {
         Some(bytes) => match read_line(bytes, room) {
             Ok(command) => play_command(cache, played, &command, out, folder, clock),
-            Err(why) => play_error(played, LineError::Text(why), out),
+            Err(why) => play_error(played, why, out),
         },
-        None => play_error(played, LineError::Text(LineFault::TooLong), out),
+        None => play_error(played, LineFault::TooLong, out),
     }
 }
 
-// Does a command, where it is built, and prints its reply.
+// Does the command of a line, and prints its reply.
 fn play_command<F: Folder, K: Sink, C: Clock>(
     cache: &mut Cache,
     played: &mut Played,
@@ -142,7 +88,7 @@ fn play_command<F: Folder, K: Sink, C: Clock>(
     clock: &mut C,
 ) -> Result<(), StepFault>
     requires is_open { ForSome (F.told folder.old).files (IsOpen cache.old.files) }
-    ensures played { (far : SoFar) (left : ℕ) → StandsAt far (KeepsState cache.old) (cache.old.notes) (left + 2) (F.told folder.old) → PlaysPart result (λ state readings. turns (line_script played.old.lines (built (request_of command.now)) ended) state readings) far (KeepsState cache.new) (cache.new.notes) left (record { folder = F.told folder.old; written = K.written out.old; clock = C.readings clock.old; refused = played.old.refused }) (record { folder = F.told folder.new; written = K.written out.new; clock = C.readings clock.new; refused = played.new.refused }) }
+    ensures played { (far : SoFar) (left : ℕ) → StandsAt far (KeepsState cache.old) (cache.old.notes) (left + 2) (F.told folder.old) → PlaysPart result (λ state readings. turns (line_script played.old.lines (Ok (request_of command.now)) ended) state readings) far (KeepsState cache.new) (cache.new.notes) left (record { folder = F.told folder.old; written = K.written out.old; clock = C.readings clock.old; refused = played.old.refused }) (record { folder = F.told folder.new; written = K.written out.new; clock = C.readings clock.new; refused = played.new.refused }) }
     ensures lines { played.new.lines ≡ played.old.lines }
     ensures is_open { IfDone result (ForSome (F.told folder.new).files (IsOpen cache.new.files)) }
     ensures later { F.faults folder.old ≤ F.faults folder.new }
@@ -150,9 +96,6 @@ fn play_command<F: Folder, K: Sink, C: Clock>(
     ensures device { IfStepDevice result (Rises (F.faults folder.old) (F.faults folder.new)) }
     ensures sink { IfSink result (Rises (K.faults out.old) (K.faults out.new)) }
 {
-    if !is_built_yet(command) {
-        return play_error(played, LineError::NotBuilt, out);
-    }
     let answer = ask(cache, command, out, folder, clock)?;
     if is_refusal(&answer) {
         played.refused = true;
@@ -170,7 +113,7 @@ pub(crate) fn is_refusal(answer: &Answer) -> bool
     }
 }
 
-// Does a command that is built, at the next reading of the clock, and prints its reply.
+// Does a command, at the next reading of the clock, and prints its reply.
 pub(crate) fn ask<F: Folder, K: Sink, C: Clock>(
     cache: &mut Cache,
     command: &Command,
@@ -179,7 +122,6 @@ pub(crate) fn ask<F: Folder, K: Sink, C: Clock>(
     clock: &mut C,
 ) -> Result<Answer, StepFault>
     requires is_open { ForSome (F.told folder.old).files (IsOpen cache.old.files) }
-    requires built { is_built (request_of command.now) ≡ true }
     ensures asked { (far : SoFar) (left : ℕ) → StandsAt far (KeepsState cache.old) (cache.old.notes) (left + 2) (F.told folder.old) → Asks result (request_of command.now) far (KeepsState cache.new) (cache.new.notes) left (record { folder = F.told folder.old; written = K.written out.old; clock = C.readings clock.old; refused = false }) (record { folder = F.told folder.new; written = K.written out.new; clock = C.readings clock.new; refused = has_refused result }) }
     ensures is_open { IfDone result (ForSome (F.told folder.new).files (IsOpen cache.new.files)) }
     ensures later { F.faults folder.old ≤ F.faults folder.new }
@@ -191,9 +133,9 @@ pub(crate) fn ask<F: Folder, K: Sink, C: Clock>(
 }
 
 // Prints why a line is no command.
-fn play_error<K: Sink>(played: &mut Played, why: LineError, out: &mut K) -> Result<(), StepFault>
-    ensures printed { OnOk result (K.written out.new ≡ option_map (λ w. w ++ error_text played.old.lines (error_of why)) (K.written out.old)) }
-    ensures front { Appends (K.written out.old) (K.written out.new) (error_text played.old.lines (error_of why)) }
+fn play_error<K: Sink>(played: &mut Played, why: LineFault, out: &mut K) -> Result<(), StepFault>
+    ensures printed { OnOk result (K.written out.new ≡ option_map (λ w. w ++ line_fault_text played.old.lines why) (K.written out.old)) }
+    ensures front { Appends (K.written out.old) (K.written out.new) (line_fault_text played.old.lines why) }
     ensures refused { played.new.refused ≡ true }
     ensures lines { played.new.lines ≡ played.old.lines }
     ensures only { IsOnlySink result }

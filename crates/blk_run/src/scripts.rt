@@ -14,7 +14,7 @@ ghost use Rattle.blk_headline.specs.Opening.{IsUsable};
 ghost use Rattle.blk_headline.specs.Run.{turns};
 ghost use Rattle.blk_cache.specs.Stepping.{IfDone, IfSink, IfStepDevice};
 ghost use Rattle.blk_run.specs.Playing.{PlaysPart, SoFar, StandsAt};
-ghost use Rattle.blk_run.specs.Scripts.{AreBuilt, commands_in, script_of, script_status, closes_script};
+ghost use Rattle.blk_run.specs.Scripts.{commands_in, script_of, script_status, closes_script};
 ghost use Rattle.blk_run.specs.Session.{FixedRuns, FixedScript, IsCompleteScript, IsDamagedBy, OnDamage};
 ghost use Rattle.blk_run.specs.Statuses.{CauseOf};
 ghost use Rattle.blk_disk.specs.Open.{IsOpen};
@@ -48,7 +48,6 @@ fn play_turns<F: Folder, K: Sink, C: Clock>(
     clock: &mut C,
 ) -> Result<(), StepFault>
     requires is_open { ForSome (F.told folder.old).files (IsOpen cache.old.files) }
-    requires built { AreBuilt fixed }
     ensures played { (far : SoFar) (left : ℕ) → StandsAt far (KeepsState cache.old) (cache.old.notes) (left + 2 * commands_in fixed.entry) (F.told folder.old) → PlaysPart result (turns (script_of fixed.entry)) far (KeepsState cache.new) (cache.new.notes) left (record { folder = F.told folder.old; written = K.written out.old; clock = C.readings clock.old; refused = refused.old }) (record { folder = F.told folder.new; written = K.written out.new; clock = C.readings clock.new; refused = refused.new }) }
     ensures is_open { IfDone result (ForSome (F.told folder.new).files (IsOpen cache.new.files)) }
     ensures later { F.faults folder.old ≤ F.faults folder.new }
@@ -97,7 +96,6 @@ pub(crate) fn play_script<F: Folder, K: Sink, C: Clock>(
     clock: &mut C,
 ) -> Status
     requires is_open { ForSome (F.told folder.old).files (IsOpen cache.files) }
-    requires built { AreBuilt fixed }
     ensures runs { (from : Image) (limits : Bounds) (readings : Readings) (left : Option (List ℕ)) (start : Told) (first : Option Readings) → start.files ≡ Some from → first ≡ Some readings → C.readings clock.old ≡ option_map later_of first → StandsAt (record { start = start; from = from; opened = open_state (found from) limits; done = [] }) (KeepsState cache) cache.notes (2 * handle_names + 2 * commands_in fixed.entry) (F.told folder.old) → FixedRuns result (script_of fixed.entry) limits from readings (Rises (K.faults out.old) (K.faults out.new)) (record { folder = start; written = K.written out.old; left = left; clock = first }) (record { folder = F.told folder.new; written = K.written out.new; left = left; clock = C.readings clock.new }) }
     ensures later { (F.faults folder.old ≤ F.faults folder.new) × (K.faults out.old ≤ K.faults out.new) }
     ensures untold { (far : SoFar) → StandsAt far (KeepsState cache) cache.notes (2 * handle_names + 2 * commands_in fixed.entry) (F.told folder.old) → result ≢ Status.Damaged }
@@ -125,7 +123,6 @@ pub(crate) fn run_script<F: Folder, K: Sink, C: Clock>(
     folder: &mut F,
     clock: &mut C,
 ) -> Status
-    requires built { AreBuilt fixed }
     requires few { commands_in fixed ≤ 4 }
     // On a folder that is unfinished or well formed it is the run of the script on the map model.
     ensures script { ForSome (F.told folder.old).files (λ from. IsUsable from → ForSome (C.readings clock.old) (λ readings. (left : Option (List ℕ)) → FixedScript result (script_of fixed.entry) (bounds_of limits) from readings (Rises (K.faults out.old) (K.faults out.new)) (record { folder = F.told folder.old; written = K.written out.old; left = left; clock = C.readings clock.old }) (record { folder = F.told folder.new; written = K.written out.new; left = left; clock = C.readings clock.new }))) }

@@ -130,6 +130,15 @@ returns-in-Write-clause-says g c = subst (λ (cmd : Command). OnOk c.write.resul
 pub returns-in-Write-clause-front : goal.returns-in-Write-clause-front
 returns-in-Write-clause-front g c = subst (λ (cmd : Command). SaysFront c.args.self.now (g.F.Folder.told c.args.f.now) c.args.moment (request_of cmd) (g.K.Sink.written c.args.out.now) (g.K.Sink.written c.write.new.out)) (sym c.in-Write.is) c.write.ensures.front
 
+pub returns-in-SparseWrite-clause-stops : goal.returns-in-SparseWrite-clause-stops
+returns-in-SparseWrite-clause-stops g c = subst (λ (cmd : Command). MayStopAtEach (KeepsState c.args.self.now) (g.F.Folder.told c.args.f.now) (g.F.Folder.told c.sparse_write.new.f) c.args.moment (request_of cmd)) (sym c.in-SparseWrite.is) c.sparse_write.ensures.stops
+
+pub returns-in-SparseWrite-clause-says : goal.returns-in-SparseWrite-clause-says
+returns-in-SparseWrite-clause-says g c = subst (λ (cmd : Command). OnOk c.sparse_write.result (SaysEvicted c.args.self.now (g.F.Folder.told c.args.f.now) c.args.moment (request_of cmd) c.args.failed.now c.sparse_write.new.failed (g.K.Sink.written c.args.out.now) (g.K.Sink.written c.sparse_write.new.out))) (sym c.in-SparseWrite.is) c.sparse_write.ensures.says
+
+pub returns-in-SparseWrite-clause-front : goal.returns-in-SparseWrite-clause-front
+returns-in-SparseWrite-clause-front g c = subst (λ (cmd : Command). SaysFront c.args.self.now (g.F.Folder.told c.args.f.now) c.args.moment (request_of cmd) (g.K.Sink.written c.args.out.now) (g.K.Sink.written c.sparse_write.new.out)) (sym c.in-SparseWrite.is) c.sparse_write.ensures.front
+
 pub returns-in-Doom-clause-stops : goal.returns-in-Doom-clause-stops
 returns-in-Doom-clause-stops g c = subst (λ (cmd : Command). MayStopAtEach (KeepsState c.args.self.now) (g.F.Folder.told c.args.f.now) (g.F.Folder.told c.doom.new.f) c.args.moment (request_of cmd)) (sym c.in-Doom.is) (c.doom.ensures.stops c.args.moment)
 
