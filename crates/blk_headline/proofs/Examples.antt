@@ -1,5 +1,6 @@
 -- Small runs, computed.
 use Rattle.std.proofs.Common.{◌≡◌, ℕ, [], ◌∷◌, codes, refl, true, false, length}
+use Rattle.hex.specs.Hex.{decode_pairs}
 use Rattle.percent_encoding.specs.Percent.{percent_decode}
 use Rattle.blk_model.proofs.Computing.{computing}
 use Rattle.blk_model.specs.Holding.{rest}
@@ -75,18 +76,18 @@ count_none = refl
 
 -- a session: a line that is no word, a Create, and a byte of sparse data; the handle is closed in the end, and then the entry and its part are at rest
 abbrev session : Run
-session = run (session_script 1 (lines (codes "fly 1\ncreate 0 a\nswrite 0 0 61\n")))
+session = run_of (session_script 1 (lines (codes "fly 1\ncreate 0 a\nswrite 0 0 61\n"))) [] (record { max_bytes = 10000; max_items = 10 }) clock
 
 session_text : text_of session.turns ≡ codes "fault 1 2 UnknownWord\nok\nok 1\n"
-unfolding computing percent_decode line_fields number_field data_field key_field reading command_words read_text key_text data_text reply_text session_script turns with_bytes
+unfolding computing decode_pairs percent_decode line_fields number_field data_field key_field reading command_words read_text key_text data_text reply_text session_script turns with_bytes
 session_text = refl
 
 session_commands : length (commands session) ≡ 3
-unfolding computing percent_decode line_fields number_field data_field key_field reading command_words read_text key_text data_text reply_text session_script turns with_bytes state_after closings commands
+unfolding computing decode_pairs percent_decode line_fields number_field data_field key_field reading command_words read_text key_text data_text reply_text session_script turns with_bytes state_after closings commands
 session_commands = refl
 
 session_rest : length (rest (last_state session)) ≡ 2
-unfolding computing percent_decode line_fields number_field data_field key_field reading command_words read_text key_text data_text reply_text session_script turns with_bytes state_after closings commands
+unfolding computing decode_pairs percent_decode line_fields number_field data_field key_field reading command_words read_text key_text data_text reply_text session_script turns with_bytes state_after closings commands
 session_rest = refl
 
 -- two handles that are left open are closed, the least first, the first at the reading after the last command
