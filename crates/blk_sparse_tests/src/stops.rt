@@ -160,14 +160,18 @@ fn steps_after(
     Ok(steps_of(&done(alloc, limits, first)?))
 }
 
-// Whether after each hundredth step between two of them the folder holds what it held at one of them, and opens well.
-fn stops_well(alloc: Global, f: &MemFolder, first: u64, last: u64) -> Result<bool, Fail> {
-    let before = held_at(alloc, f, first)?;
-    let after = held_at(alloc, f, last)?;
-    for stop in first..last {
+// Whether after each hundredth step of a command, the first behind so many, the folder holds what it held before it or what it holds then,
+// and opens well.
+fn stops_well(
+    alloc: Global,
+    f: &MemFolder,
+    steps: (u64, u64),
+    rests: (Held, Held),
+) -> Result<bool, Fail> {
+    for stop in steps.0..steps.1 {
         if stop % 100 == 0 {
             let (now, then, opening) = opened_at(alloc, f, stop)?;
-            let is_one = now == before || now == after;
+            let is_one = now == rests.0 || now == rests.1;
             if !is_one || then != now || !opens_well(alloc, &opening, now)? {
                 return Ok(false);
             }
@@ -200,18 +204,17 @@ const AT_REST: [(u64, u64); 17] = [
 #[test]
 fn sessions_and_the_openings_behind_them_may_be_stopped(rt: HostRuntime) -> Result<(), Fail> {
     let f = done(rt.alloc(), LIMITS, &COMMANDS)?;
-    let mut last = 0;
-    for (count, rest) in AT_REST.iter().enumerate() {
+    let mut before = (0, (0, 0, 0));
+    for (count, (items, bytes)) in AT_REST.iter().enumerate() {
         let steps = steps_after(rt.alloc(), LIMITS, &COMMANDS, count)?;
-        let (items, bytes, _) = held_at(rt.alloc(), &f, steps)?;
-        assert_eq!(rt; (items, bytes), *rest, "{count} commands");
+        let rest = held_at(rt.alloc(), &f, steps)?;
+        assert_eq!(rt; (rest.0, rest.1), (*items, *bytes), "{count} commands");
         if count > 0 {
-            assert!(rt;
-                stops_well(rt.alloc(), &f, last, steps)?,
-                "{count} commands"
-            );
+            let span = (before.0, steps);
+            let stops = stops_well(rt.alloc(), &f, span, (before.1, rest))?;
+            assert!(rt; stops, "{count} commands");
         }
-        last = steps;
+        before = (steps, rest);
     }
     Ok(())
 }
