@@ -39,7 +39,7 @@ use Rattle.blk_object.specs.Making.{LeavesRoom}
 use Rattle.blk_object.proofs.MakingRoom.{uses-few}
 use Rattle.blk_object.proofs.MakingStored.{counters-then}
 use Rattle.blk_object.proofs.MakingTaken.{session-then, told-mid}
-use Rattle.blk_sparse.specs.NewParts.{ArePartStreams, CanHavePart, ForEachPartToBeListed, HasIndexPlace, IsBeingNoted, IsFirstIndex, IsNoted, IsPartListed, IsPartToBeListed, IsStored, KeepsPart, TakesPart, WritesPart, words_of_part}
+use Rattle.blk_sparse.specs.NewParts.{ArePartStreams, CanHavePart, ForEachPartToBeListed, HasIndexPlace, IsBeingNoted, IsFirstIndex, IsNoted, IsPartListed, IsPartToBeListed, IsStored, IsWholeBeforeItsBit, KeepsPart, TakesPart, WritesPart, words_of_part}
 use Rattle.blk_sparse.specs.SparseObjects.{KeepsParentThen, missing_parts, with_piece, with_piece_written}
 use Rattle.blk_sparse.specs.declared.new_part.PartPlaces.{PartPlaces}
 use Rattle.blk_sparse.proofs.NewBits.{index-place, parent-kind, parent-shown}
@@ -194,6 +194,23 @@ module _ (a b : Told) (parent : ℕ) (child : ChildName) (name : List ℕ) (plac
                   λ image being. noting-finds state objects layout unlinked key child.part was seen l mid2.0 mid3.0 t g files (open_then mid3.0 mid3.1).agrees below can.grows.parent.index can.grows.parent.role image
                   (subst (λ (w : ℕ). IsBeingNoted files w child.part mid3.0 image) (sym can.grows.parent.record_is) being) in
                   passes_then listing-finds (passes_weaker (note_stops mid3.0 mid3.1) finds finds)
+
+              -- the part is listed, and its parent is as it was
+              pub whole-before : IsWholeBeforeItsBit files state layout object.key name child.part parent a f
+              whole-before = record {
+                between = e;
+                image = mid3.0;
+                there = mid3.1;
+                before = listing-finds;
+                loaded = l;
+                seen = seen;
+                named = refl;
+                listed = g.making;
+                was = was;
+                lay = can.grows.parent.lies;
+                parent_same = g.parent;
+                behind = note_stops mid3.0 mid3.1;
+              }
 
               module _ (noted : ForSome e.files (λ m. ForSome f.files (IsNoted parent child.part m))) (open_last : ForSome f.files (IsOpen files)) (image : Image) (now : f.files ≡ Some image) where
                 it-noted : IsNoted was.contents child.part (mid3).0 image

@@ -6,6 +6,7 @@ use Rattle.std.specs.declared.option.Option.TheVariants.{None, Some}
 use Rattle.std.specs.declared.result.Result.TheVariants.{Ok}
 use Rattle.blk_image.specs.Footprint.{SameOutside}
 use Rattle.blk_image.specs.Image.{Image}
+use Rattle.blk_image.specs.Told.{Passes, Told}
 use Rattle.blk_model.specs.Bytes.{overwritten}
 use Rattle.blk_model.specs.Holding.{rest}
 use Rattle.blk_model.specs.Items.{main, part}
@@ -39,7 +40,7 @@ use Rattle.blk_entry.specs.Writing.{AreWords, IsShownNew, IsWritten, loaded_new}
 use Rattle.blk_stream.specs.Loading.{stored_streams_with}
 use Rattle.blk_stream.specs.Streams.{address_word}
 use Rattle.blk_kept.specs.Arranging.{LeavesFiles}
-use Rattle.blk_kept.specs.Changes.{ChangesOnly, SameCounters, SameSession}
+use Rattle.blk_kept.specs.Changes.{ChangesOnly, Finds, SameCounters, SameSession}
 use Rattle.blk_kept.specs.Keeping.{KeepsUncounted}
 use Rattle.blk_kept.specs.NewPartLaws.{IsPartWritten, with_bit_of, with_new_part}
 use Rattle.blk_kept.specs.NewPartsKept.{IsMakingPart}
@@ -212,3 +213,20 @@ abbrev pub ForEachLacking : (entry : ℕ) (child : ChildName) (name : List ℕ) 
 ForEachLacking entry child name from P =
     (state : State) (layout : Layout) (unlinked : List ℕ) (number : ℕ) (object : Object) (node : ℕ) → CanHavePart state layout unlinked number object node entry child name from
     → P state layout unlinked number object node
+
+-- Its order.
+
+-- at some moment between the part of this name is whole, in the list and in its chain, and its parent is as it was at first; behind it nothing but the byte with its bit is written
+pub record IsWholeBeforeItsBit (files : BlockFiles) (state : State) (layout : Layout) (key name : List ℕ) (n parent : ℕ) (old new : Told) : Type 0 where
+  pub between : Told
+  pub image : Image
+  pub there : between.files ≡ Some image
+  pub before : Passes old between (Finds (rest state))
+  pub loaded : Loaded
+  pub seen : Loaded
+  pub named : loaded.key ≡ name
+  pub listed : IsMakingPart state layout key loaded (with_new_part layout key n seen loaded).chains image
+  pub was : Loaded
+  pub lay : layout.at (layout.place (main key)) ≡ Some was
+  pub parent_same : load (store_of image) (rule_of layout (layout.place (main key))) (layout.place (main key)) ≡ Ok was
+  pub behind : Passes between new (IsBeingNoted files parent n image)

@@ -23,7 +23,7 @@ ghost use Rattle.blk_stream.specs.Streams.{address_word};
 ghost use Rattle.blk_kept.specs.Changes.{Finds, StillFinds};
 ghost use Rattle.blk_object.specs.FailedChecks.{IsFailedCheck};
 ghost use Rattle.blk_object.specs.Making.{LeavesRoom, Takes, words_of_places};
-ghost use Rattle.blk_sparse.specs.NewParts.{ArePartStreams, ForEachLacking, ForEachPartToBeListed, HasIndexPlace, HasStreamsNow, IsBeingNoted, IsChildWritten, IsFirstIndex, IsNoted, IsPartListed, IsStored, TakesPart, WritesPart, child_entry, words_of_part};
+ghost use Rattle.blk_sparse.specs.NewParts.{ArePartStreams, ForEachLacking, ForEachPartToBeListed, HasIndexPlace, HasStreamsNow, IsBeingNoted, IsChildWritten, IsFirstIndex, IsNoted, IsPartListed, IsStored, IsWholeBeforeItsBit, TakesPart, WritesPart, child_entry, words_of_part};
 ghost use Rattle.blk_sparse.specs.SparseObjects.{KeepsParentThen, with_piece, with_piece_written};
 
 use blk_addr::Addr;
@@ -345,6 +345,9 @@ pub(crate) fn make_part<F: Folder>(
 
     // At each word what was at rest is found: an object that isn't settled isn't.
     ensures stops { ForSome (F.told f.old).files (λ from. ForEachLacking parent child.now name.now from (λ state layout unlinked number object node. Passes (F.told f.old) (F.told f.new) (Finds (rest state)))) }
+
+    // It is whole, in the list and in its chain, before its parent's bit is set.
+    ensures ordered { OnOk result (ForSome (F.told f.old).files (λ from. ForEachLacking parent child.now name.now from (λ state layout unlinked number object node. IsWholeBeforeItsBit files.new state layout object.key name.now child.now.part parent (F.told f.old) (F.told f.new)))) }
 
     // What stood still does.
     ensures keeps { KeepsStanding files.old files.new }

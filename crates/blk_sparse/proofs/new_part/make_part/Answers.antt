@@ -4,7 +4,7 @@ use Rattle.std.proofs.lemmas.Result.{on_ok_weaker}
 use Rattle.blk_io.proofs.Carried.{carried}
 use Rattle.blk_format.specs.Address.{blocks_256, rankings}
 use Rattle.blk_object.proofs.MakingMade.{among-names}
-use Rattle.blk_sparse.proofs.NewWhole.{listing-finds, listing-untold, noting-finds-all, noting-untold, part-made, taking-finds, taking-untold, writing-finds, writing-untold}
+use Rattle.blk_sparse.proofs.NewWhole.{listing-finds, listing-untold, noting-finds-all, noting-untold, part-made, taking-finds, taking-untold, whole-before, writing-finds, writing-untold}
 use Rattle.blk_sparse.proofs.new_part.make_part.Goals as goal
 
 pub write_part-requires-clause-fits : goal.write_part-requires-clause-fits
@@ -68,4 +68,11 @@ returns-clause-written g c =
     on_ok_weaker c.note_part.result
     (λ noted from there state layout unlinked number object node can image now.
     part-made (g.F.Folder.told c.args.f.now) (g.F.Folder.told c.take_part.new.f) c.args.parent c.args.child.now c.args.name.now c.args.place c.args.piece.now c.requires.signature c.requires.part (All-from_get_or (λ (b : ℕ). b < 256) c.args.piece.now 0 (λ i within. omega (arith, c.type_inv.piece i))) c.requires.most c.take_part.ensures.stops from there state layout unlinked number object node can c.in_ok-places.places c.first_index-index.result c.first_index-index.ensures.index c.first_index-index.ensures.long c.in_ok-places.ensures.taken (g.F.Folder.told c.write_part.new.f) c.write_part.ensures.stops (c.args.place + length c.args.piece.now) refl c.in_ok-write_part.ensures.written (g.F.Folder.told c.list_part.new.f) c.list_part.ensures.stops c.in_ok-list_part.ensures.listed c.take_part.new.files c.list_part.ensures.is_open (g.met.F.Folder.are_bytes c.list_part.new.f) (g.F.Folder.told c.note_part.new.f) c.note_part.ensures.stops noted c.note_part.ensures.is_open image now)
+    c.note_part.ensures.noted
+
+pub returns-clause-ordered : goal.returns-clause-ordered
+returns-clause-ordered g c =
+    on_ok_weaker c.note_part.result
+    (λ noted from there state layout unlinked number object node can.
+    whole-before (g.F.Folder.told c.args.f.now) (g.F.Folder.told c.take_part.new.f) c.args.parent c.args.child.now c.args.name.now c.args.place c.args.piece.now c.requires.signature c.requires.part (All-from_get_or (λ (b : ℕ). b < 256) c.args.piece.now 0 (λ i within. omega (arith, c.type_inv.piece i))) c.requires.most c.take_part.ensures.stops from there state layout unlinked number object node can c.in_ok-places.places c.first_index-index.result c.first_index-index.ensures.index c.first_index-index.ensures.long c.in_ok-places.ensures.taken (g.F.Folder.told c.write_part.new.f) c.write_part.ensures.stops (c.args.place + length c.args.piece.now) refl c.in_ok-write_part.ensures.written (g.F.Folder.told c.list_part.new.f) c.list_part.ensures.stops c.in_ok-list_part.ensures.listed c.take_part.new.files c.list_part.ensures.is_open (g.met.F.Folder.are_bytes c.list_part.new.f) (g.F.Folder.told c.note_part.new.f) c.note_part.ensures.stops)
     c.note_part.ensures.noted
