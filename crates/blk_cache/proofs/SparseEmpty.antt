@@ -1,11 +1,11 @@
 -- A SparseWrite of no bytes: it uses the main item of its object, and does nothing else.
-use Rattle.std.proofs.Common.{◌≡◌, ℕ, ◌-◌, Bool, true, false, List, [], ◌∷◌, ◌++◌, set, Option, Some, None, refl, sym, ap, ap₂, subst, ◌∙◌, arith}
+use Rattle.std.proofs.Common.{◌≡◌, ℕ, ◌-◌, Bool, true, List, [], ◌∷◌, ◌++◌, set, Option, Some, None, refl, sym, ap, ap₂, subst, ◌∙◌, arith}
 use Rattle.std.specs.Prelude.{if◌then◌else◌, sum_by}
 use Rattle.std.specs.Option.{ForSome}
 use Rattle.blk_image.specs.Image.{Image}
 use Rattle.blk_image.specs.Told.{Applies, Passes, TellsBytes, Told}
 use Rattle.blk_image.proofs.Runs.{passes_weaker, some_inj}
-use Rattle.blk_model.specs.Effects.{effect, object_of, sparse_after, used}
+use Rattle.blk_model.specs.Effects.{effect, sparse_after, used}
 use Rattle.blk_model.specs.Items.{main}
 use Rattle.blk_model.specs.ListSteps.{dooms, uses_of}
 use Rattle.blk_model.specs.Refusals.{covered, evicted, evicted_for, is_full, refused, room_for}
@@ -16,7 +16,6 @@ use Rattle.blk_model.specs.Sparse.{covered_parts}
 use Rattle.blk_model.specs.State.{Object, State, object_at}
 use Rattle.blk_model.specs.Step.{reply, step}
 use Rattle.blk_model.specs.declared.Answer.TheVariants as answer
-use Rattle.blk_model.specs.declared.Refusal.{Refusal}
 use Rattle.blk_model.specs.declared.Refusal.TheVariants as refusal
 use Rattle.blk_volume.specs.Layout.{Layout, is_listed}
 use Rattle.blk_volume.specs.ListImages.{HasListAtRest, steps_of_touch}

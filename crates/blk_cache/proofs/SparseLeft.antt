@@ -1,25 +1,22 @@
 -- What a SparseWrite raises once all that it evicts is out, and how much room there is then.
-use Rattle.std.proofs.Common.{◌≡◌, ⊎_elim, ℕ, ◌+◌, ◌<◌, ◌≤◌, ◌^◌, Bool, true, false, not, ◌||◌, cond, List, [], ◌∷◌, length, map, set, get_or, Option, Some, None, refl, sym, ap, ap₂, subst, ◌∙◌, arith}
-use Rattle.std.specs.Prelude.{◌&&◌, ◌==◌, IfSome, sum_by}
+use Rattle.std.proofs.Common.{◌≡◌, ⊎_elim, ℕ, ◌+◌, ◌<◌, ◌≤◌, ◌^◌, Bool, true, false, not, cond, List, [], ◌∷◌, length, map, get_or, Option, Some, None, sym, ap, ap₂, subst, ◌∙◌, arith}
+use Rattle.std.specs.Prelude.{◌&&◌, ◌==◌, IfSome}
 use Rattle.std.specs.List.{AllByRecursion, list_any}
 use Rattle.std.specs.Option.{option_and_then}
 use Rattle.std.proofs.lemmas.Bool.{and_parts, cases_Bool, eqb-true, or_left, or_right}
-use Rattle.blk_model.specs.Effects.{effect, object_of}
-use Rattle.blk_model.specs.Items.{Item, main, part, same_item}
-use Rattle.blk_model.specs.Refusals.{covered, evicted, evicted_for, is_full, refused, room_for}
+use Rattle.blk_model.specs.Items.{Item, part, same_item}
+use Rattle.blk_model.specs.Refusals.{covered, evicted, evicted_for, refused}
 use Rattle.blk_model.specs.Request.{to_sparse_write}
-use Rattle.blk_model.specs.Room.{Group, charge, is_out, is_pinned, item_count, items, left_of, of_slot, room, total, without}
+use Rattle.blk_model.specs.Room.{Group, is_pinned, items, left_of, room, total, without}
 use Rattle.blk_model.specs.Sparse.{covered_parts}
-use Rattle.blk_model.specs.State.{Bounds, IsObject, IsValidState, Object, State, is_named, named_by, object_at, part_at}
+use Rattle.blk_model.specs.State.{Bounds, IsObject, IsValidState, Object, State, is_named, object_at, part_at}
 use Rattle.blk_model.proofs.Evicted.{IsLoose, kept_part_at, kept_parts, left_is_object, map_at, named_left}
 use Rattle.blk_model.proofs.Same.{same_item_self}
 use Rattle.blk_model.proofs.Steps.{room_is_loose}
 use Rattle.blk_model.proofs.Written.{without_names}
 use Rattle.blk_kept.specs.CommandStates.{with_room}
 use Rattle.blk_kept.specs.OneCallLaws.{Names}
-use Rattle.blk_kept.proofs.Unsettling.{room-valid}
 use Rattle.blk_sparse.specs.declared.storing.Target.{Target}
-use Rattle.blk_sparse.specs.SparseWrites.{object_written, signature_to}
 use Rattle.blk_cache.specs.SparseWriting.{IsRaisedBy, IsSignedBy, IsTargetOf}
 use Rattle.blk_cache.proofs.BoundObjects.{named-at}
 use Rattle.blk_cache.proofs.CreateRoom.{HasEnough, loose-part, main-pinned, objects-without, room-enough}

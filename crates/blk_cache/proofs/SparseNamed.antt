@@ -1,15 +1,12 @@
 -- The object that a SparseWrite names, and what it adds as it is measured.
-use Rattle.std.proofs.Common.{◌≡◌, ℕ, ◌+◌, ◌<◌, ◌≤◌, ◌%◌, ◌^◌, Bool, true, false, not, List, [], ◌∷◌, length, map, Option, Some, None, refl, sym, ap, ap₂, subst, ◌∙◌, arith}
+use Rattle.std.proofs.Common.{◌≡◌, ℕ, ◌<◌, ◌≤◌, ◌%◌, Bool, true, false, List, [], ◌∷◌, length, map, Option, refl, sym, ap, subst, ◌∙◌, arith}
 use Rattle.std.specs.Prelude.{◌&&◌, ◌==◌, if◌then◌else◌}
-use Rattle.std.specs.Int.{cast_signed, cast_unsigned, w64}
+use Rattle.std.specs.Int.{w64}
 use Rattle.std.proofs.lemmas.Bool.{and_parts, eqb-true}
 use Rattle.std.proofs.lemmas.Int.{of_z-to_z}
 use Rattle.std.proofs.lemmas.Nat.{mod_below}
 use Rattle.blk_image.specs.Image.{Image}
-use Rattle.blk_model.specs.Effects.{object_of}
-use Rattle.blk_model.specs.Items.{Shape, part, sparse}
-use Rattle.blk_model.specs.Refusals.{covered, has_one_stream}
-use Rattle.blk_model.specs.Request.{to_sparse_write}
+use Rattle.blk_model.specs.Items.{Shape, part}
 use Rattle.blk_model.specs.Sizes.{signatures}
 use Rattle.blk_model.specs.Sparse.{covered_parts}
 use Rattle.blk_model.specs.State.{Object, State}

@@ -1,15 +1,14 @@
 -- By how much a SparseWrite raises what is kept: as its covered parts are measured, and still once what it evicts is out.
-use Rattle.std.proofs.Common.{◌≡◌, ℕ, suc, ◌+◌, ◌<◌, ◌≤◌, List, [], ◌∷◌, length, set, Bool, true, false, not, cond, Option, Some, None, T, refl, sym, ap, ap₂, subst, ◌∙◌, arith}
-use Rattle.std.specs.Prelude.{◌&&◌, IfSome, filter, if◌then◌else◌, is_some, max, min, sum_by, unwrap_or}
+use Rattle.std.proofs.Common.{◌≡◌, ℕ, suc, ◌+◌, ◌≤◌, List, [], ◌∷◌, length, set, Bool, true, false, not, cond, Option, Some, T, refl, sym, ap, subst, ◌∙◌, arith}
+use Rattle.std.specs.Prelude.{IfSome, if◌then◌else◌, is_some, max, sum_by, unwrap_or}
 use Rattle.std.specs.Bool.{passes}
-use Rattle.std.specs.FinMap.{find, is_sorted}
-use Rattle.std.specs.FinMap.Entries.{is_sorted-where_key}
+use Rattle.std.specs.FinMap.{is_sorted}
 use Rattle.std.specs.List.{AllByRecursion}
 use Rattle.std.specs.Option.{option_map_or}
 use Rattle.std.specs.Ordering.{nat_cmp}
 use Rattle.std.proofs.lemmas.List.Sums.{sum_by-cons}
 use Rattle.blk_model.specs.Charge.{main_charge, part_charge, part_name}
-use Rattle.blk_model.specs.Items.{IsPartValue, PartValue, Shape, is_sparse, part, plain, signature_of, sparse}
+use Rattle.blk_model.specs.Items.{PartValue, Shape, is_sparse, signature_of}
 use Rattle.blk_model.specs.Effects.{effect}
 use Rattle.blk_model.specs.Request.{to_sparse_write}
 use Rattle.blk_model.specs.Room.{charge, item_count, items, of_slot, own_charge, total}
@@ -19,14 +18,13 @@ use Rattle.blk_volume.specs.Layout.{Layout}
 use Rattle.blk_sparse.specs.declared.measuring.Measured.{Measured}
 use Rattle.blk_sparse.specs.declared.storing.Target.{Target}
 use Rattle.blk_sparse.specs.Measuring.{IsMeasured, charge_there, charge_up_to, end_in}
-use Rattle.blk_sparse.specs.SparseObjects.{missing_parts, value_or_empty, with_bytes, with_signature}
+use Rattle.blk_sparse.specs.SparseObjects.{missing_parts, with_signature}
 use Rattle.blk_sparse.specs.SparseWrites.{object_written, signature_to}
 use Rattle.blk_sparse.proofs.PartCharges.{IsMore, more-written}
 use Rattle.blk_kept.specs.OneCallLaws.{Names}
 use Rattle.blk_cache.specs.SparseWriting.{IsRaisedBy, IsSignedBy, IsTargetOf, SparseWritesRaiseAsMeasured, index_charge}
 use Rattle.blk_cache.proofs.ChangedObjects.{sum-changed}
 use Rattle.blk_cache.proofs.SparseEnds.{after-is, effect-same, sparse-written-is}
-use Rattle.blk_cache.proofs.SparseStored.{own-more}
 
 -- ---- an object that becomes sparse
 

@@ -1,12 +1,11 @@
 -- The room that a SparseWrite wants, and why it is refused.
-use Rattle.std.proofs.Common.{◌≡◌, ℕ, ◌+◌, ◌-◌, Bool, true, false, not, List, [], ◌∷◌, length, map, Option, Some, None, refl, sym, ap, ap₂, subst, ◌∙◌, arith}
+use Rattle.std.proofs.Common.{◌≡◌, ℕ, ◌-◌, Bool, true, false, not, List, [], ◌∷◌, length, Option, Some, None, refl, sym, ap, ap₂, ◌∙◌, arith}
 use Rattle.std.specs.Prelude.{◌==◌, ◌&&◌, if◌then◌else◌, nat_lt}
 use Rattle.blk_model.specs.Effects.{effect, object_of}
-use Rattle.blk_model.specs.Items.{Shape, is_sparse, part, plain}
+use Rattle.blk_model.specs.Items.{Shape, is_sparse, plain}
 use Rattle.blk_model.specs.Refusals.{covered, evicted, evicted_for, first_refusal, has_one_stream, is_doomed, is_full, is_plain, names_none, no_room, past_end, refusals, refused, room_for}
 use Rattle.blk_model.specs.Request.{to_sparse_write}
 use Rattle.blk_model.specs.Room.{items, room, total}
-use Rattle.blk_model.specs.Sparse.{covered_parts}
 use Rattle.blk_model.specs.State.{Object, State}
 use Rattle.blk_model.specs.declared.Refusal.{Refusal}
 use Rattle.blk_model.specs.declared.Refusal.TheVariants as refusal

@@ -1,14 +1,13 @@
 -- A SparseWrite whole: why it is refused, what it evicts, and how its end follows on that.
-use Rattle.std.proofs.Common.{◌≡◌, ℕ, ◌<◌, ◌≤◌, ◌^◌, Bool, true, false, List, [], ◌∷◌, length, Option, Some, None, refl, sym, ap, subst, ◌∙◌, arith}
+use Rattle.std.proofs.Common.{◌≡◌, ℕ, ◌<◌, ◌≤◌, ◌^◌, Bool, true, false, List, length, Some, None, refl, sym, ap, subst, ◌∙◌, arith}
 use Rattle.std.specs.Prelude.{IsSome}
 use Rattle.std.specs.Option.{ForSome}
 use Rattle.blk_image.specs.Image.{Image}
 use Rattle.blk_image.specs.Told.{Told}
-use Rattle.blk_model.specs.Bounds.{bounds_of}
 use Rattle.blk_model.specs.Items.{Item}
-use Rattle.blk_model.specs.Refusals.{covered, evicted, evicted_for, is_full, refused}
+use Rattle.blk_model.specs.Refusals.{covered, evicted, is_full, refused}
 use Rattle.blk_model.specs.Request.{to_sparse_write}
-use Rattle.blk_model.specs.Room.{Group, room, without}
+use Rattle.blk_model.specs.Room.{Group, room}
 use Rattle.blk_model.specs.State.{State}
 use Rattle.blk_model.specs.declared.Refusal.{Refusal}
 use Rattle.blk_model.specs.declared.Refusal.TheVariants as refusal
@@ -17,7 +16,6 @@ use Rattle.blk_kept.specs.CommandStates.{with_room}
 use Rattle.blk_sparse.specs.declared.storing.Target.{Target}
 use Rattle.blk_volume.specs.Layout.{Layout}
 use Rattle.blk_cache.specs.declared.cache.Cache.{Cache}
-use Rattle.blk_cache.specs.declared.covered.Covered.{Covered}
 use Rattle.blk_disk.specs.declared.tables.BlockFiles.{BlockFiles}
 use Rattle.blk_handles.specs.Bindings.{Bindings, binding_of}
 use Rattle.blk_cache.specs.declared.sparse_rise.Rise.{Rise}
@@ -25,7 +23,7 @@ use Rattle.blk_cache.specs.declared.sparse_target.AskedTarget.{AskedTarget}
 use Rattle.blk_cache.specs.declared.sparse_target.AskedTarget.TheVariants as target
 use Rattle.blk_cache.specs.CacheKeeping.{KeepsState}
 use Rattle.blk_cache.specs.CommandClauses.{KeepsAny}
-use Rattle.blk_cache.specs.Covering.{AreCovered, ForCovered, KeepsCovered}
+use Rattle.blk_cache.specs.Covering.{AreCovered, KeepsCovered}
 use Rattle.blk_cache.specs.Listing.{OnlyRoomChanges}
 use Rattle.blk_cache.specs.MakingRoom.{ForRoom}
 use Rattle.blk_cache.specs.SparseTargets.{AsksToStore, FindsTarget, HasRoomToStore, IsAmong, IsAskedTarget, IsRise, IsTargetNamed, IsToStore, NamesTarget}

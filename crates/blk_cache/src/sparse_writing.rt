@@ -178,9 +178,7 @@ impl Cache {
         ensures device { IfDevice result (Rises (F.faults f.old) (F.faults f.new)) }
     {
         let rise = self.measure_rise(f, target, offset, bytes.len() as u64)?;
-        self.write_where_room(
-            f, out, failed, handle, target, &rise, offset, bytes, moment,
-        )
+        self.write_where_room(f, out, failed, handle, target, &rise, offset, bytes, moment)
     }
 
     // Writes them where there is room for what they add, which is known before anything is evicted or written.
@@ -231,9 +229,7 @@ impl Cache {
         if self.is_full(rise.bytes, rise.items, &rise.parts) {
             return Ok(Answer::Refused(Refusal::Full));
         }
-        self.write_with_room(
-            f, out, failed, handle, target, rise, offset, bytes, moment,
-        )
+        self.write_with_room(f, out, failed, handle, target, rise, offset, bytes, moment)
     }
 
     // Writes them once all that has to go for them is evicted, where nothing refuses it.

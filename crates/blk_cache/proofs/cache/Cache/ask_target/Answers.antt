@@ -1,4 +1,4 @@
-use Rattle.std.proofs.Common.{◌≡◌, length, sym, subst}
+use Rattle.std.proofs.Common.{length, sym, subst}
 use Rattle.blk_cache.specs.SparseAsking.{early_sparse_refusal}
 use Rattle.blk_cache.specs.SparseTargets.{FindsTarget, IsAskedTarget}
 use Rattle.blk_cache.proofs.SparseNamed.{asked-finds, asked-found}

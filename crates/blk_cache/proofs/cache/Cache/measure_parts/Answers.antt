@@ -1,4 +1,4 @@
-use Rattle.std.proofs.Common.{◌≡◌, ℕ, ◌<◌, [], None, sym, subst, arith}
+use Rattle.std.proofs.Common.{ℕ, [], subst, arith}
 use Rattle.std.specs.Int.{w64}
 use Rattle.std.proofs.lemmas.Int.{of_z-to_z}
 use Rattle.blk_chain.proofs.Heads.{names-parts}

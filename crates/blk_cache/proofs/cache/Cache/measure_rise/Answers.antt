@@ -1,4 +1,4 @@
-use Rattle.std.proofs.Common.{◌≡◌, ℕ, ◌≤◌, List, None, length, sym, subst, refl}
+use Rattle.std.proofs.Common.{◌≡◌, None, sym, subst}
 use Rattle.blk_io.proofs.Carried.{carried}
 use Rattle.blk_cache.specs.SparseTargets.{IsRise}
 use Rattle.blk_cache.proofs.SparseNamed.{rises-measured}

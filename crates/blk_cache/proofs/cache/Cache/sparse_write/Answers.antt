@@ -1,4 +1,4 @@
-use Rattle.std.proofs.Common.{◌≡◌, ℕ, List, None, refl, sym, ap, subst, ◌∙◌, length}
+use Rattle.std.proofs.Common.{◌≡◌, None, sym, subst, length}
 use Rattle.std.specs.Prelude.{IfOk, OnOk}
 use Rattle.std.specs.Option.{ForSome}
 use Rattle.blk_image.specs.Told.{Told}
@@ -9,7 +9,6 @@ use Rattle.blk_kept.specs.Commands.{Does, MayStopAtEach}
 use Rattle.blk_kept.proofs.Stopping.{nothing-stops, refusals-done}
 use Rattle.blk_cache.specs.CacheKeeping.{KeepsState}
 use Rattle.blk_cache.specs.CommandClauses.{KeepsAny}
-use Rattle.blk_cache.specs.SparseTargets.{NamesTarget}
 use Rattle.blk_cache.specs.Stepping.{SaysEvicted, SaysFront}
 use Rattle.blk_cache.proofs.Refusing.{says-kept}
 use Rattle.blk_cache.proofs.SparseAsks.{nothing-early}

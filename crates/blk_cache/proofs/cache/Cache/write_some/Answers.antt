@@ -1,4 +1,4 @@
-use Rattle.std.proofs.Common.{◌≡◌, List, Option, ℕ, None, refl, sym, ap, subst, ◌∙◌}
+use Rattle.std.proofs.Common.{◌≡◌, None, sym, ap, subst, ◌∙◌}
 use Rattle.std.specs.Prelude.{IfOk, OnOk}
 use Rattle.std.proofs.lemmas.Result.{on_ok_weaker}
 use Rattle.std.specs.Option.{ForSome}
@@ -6,7 +6,6 @@ use Rattle.blk_image.specs.Told.{Told}
 use Rattle.blk_io.proofs.Carried.{carried}
 use Rattle.blk_io.specs.Faults.{IfDamaged}
 use Rattle.blk_model.specs.Request.{to_sparse_write}
-use Rattle.blk_model.specs.State.{State}
 use Rattle.blk_disk.specs.Open.{IsOpen}
 use Rattle.blk_disk.specs.declared.tables.BlockFiles.{BlockFiles}
 use Rattle.blk_kept.specs.Commands.{Does, MayStopAtEach}

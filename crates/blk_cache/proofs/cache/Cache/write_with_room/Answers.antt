@@ -1,4 +1,4 @@
-use Rattle.std.proofs.Common.{◌≡◌, ◌<◌, ◌^◌, List, Option, ℕ, None, refl, sym, ap, subst, ◌∙◌, arith}
+use Rattle.std.proofs.Common.{◌≡◌, List, None}
 use Rattle.std.specs.Option.{ForSome}
 use Rattle.blk_image.specs.Told.{Passes, Stays}
 use Rattle.blk_io.proofs.Carried.{carried}
