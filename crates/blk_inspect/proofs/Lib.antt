@@ -1,0 +1,5 @@
+pub mod Answered
+pub mod Found
+pub mod HeadWords
+pub mod Lines
+pub mod Listed

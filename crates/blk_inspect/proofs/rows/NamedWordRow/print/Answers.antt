@@ -1,0 +1,11 @@
+use Rattle.std.proofs.Common.{[], ◌∷◌, subst}
+use Rattle.blk_io.specs.Streams.{Appends}
+use Rattle.blk_script.specs.Spelling.{line}
+use Rattle.blk_inspect.proofs.Lines.{said}
+use Rattle.blk_inspect.proofs.rows.NamedWordRow.print.Goals as goal
+
+pub returns-clause-steps : goal.returns-clause-steps
+returns-clause-steps g c = said c.print_fields.result _ _ _ _ (λ i. line (c.args.self.now.name.now ∷ c.bytes_of-word.ensures i ∷ [])) c.print_fields.ensures.steps
+
+pub returns-clause-prefix : goal.returns-clause-prefix
+returns-clause-prefix g c = subst (Appends _ _) (λ i. line (c.args.self.now.name.now ∷ c.bytes_of-word.ensures i ∷ [])) c.print_fields.ensures.prefix

@@ -1,0 +1,98 @@
+-- What inspecting a folder promises.
+use Rattle.std.specs.Prelude.{◌≡◌, ◌++◌, ◌⊎◌, ℕ, List, Result, Ok, Err, Some}
+use Rattle.std.specs.declared.option.Option.{Option}
+use Rattle.std.specs.Option.{option_map}
+use Rattle.blk_image.specs.Image.{Image}
+use Rattle.blk_image.specs.Told.{Told}
+use Rattle.blk_format.specs.BlockFiles.{first_damage}
+use Rattle.blk_format.specs.Headers.{IsUnfinished, block_fields_length, header_length}
+use Rattle.blk_io.specs.declared.fault.Damage.{Damage}
+use Rattle.blk_io.specs.declared.folder.FileId.TheVariants as names
+use Rattle.blk_io.specs.Faults.{IsShort, damage_of}
+use Rattle.blk_io.specs.Streams.{Appends}
+use Rattle.blk_index.specs.Start.{IsLookDamage}
+use Rattle.blk_disk.specs.declared.tables.BlockFiles.{BlockFiles}
+use Rattle.blk_audit.specs.declared.fault.ScanFault.{ScanFault}
+use Rattle.blk_audit.specs.declared.fault.ScanFault.TheVariants as scan
+use Rattle.blk_scan.specs.Faults.{IsBlocksDamage, IsScanDamage}
+use Rattle.blk_headline.specs.Opening.{IsUsable}
+use Rattle.blk_inspect.specs.declared.fault.InspectFault.{InspectFault}
+use Rattle.blk_inspect.specs.declared.fault.InspectFault.TheVariants.{Device, Damaged, Sink, Memory}
+
+-- The answers.
+
+-- the fault of a scan, as one of an inspection
+abbrev pub inspect_fault : ScanFault → InspectFault
+inspect_fault scan.Device = Device
+inspect_fault (scan.Damaged damage) = Damaged damage
+inspect_fault scan.Memory = Memory
+
+-- a finished folder of which this is the first check of the headers that fails
+abbrev pub IsDamagedFirst : Damage → Image → Type 0
+IsDamagedFirst damage image = (IsUnfinished image → ⊥) × (first_damage image ≡ Some (damage_of damage))
+
+-- each answer, and the folders that it is given for; a failed device and want of memory say nothing of the folder
+abbrev pub AnswersFor : {A : Type 0} → Result A InspectFault → Image → Type 0
+AnswersFor (Ok a) image = IsUsable image
+AnswersFor (Err Sink) image = IsUsable image
+AnswersFor (Err (Damaged damage)) image = IsDamagedFirst damage image
+AnswersFor (Err Device) image = Unit {0}
+AnswersFor (Err Memory) image = Unit {0}
+
+-- the text is printed, or a front of it where the sink failed, and nothing at any other answer
+abbrev pub PrintsAt : {A : Type 0} → Result A InspectFault → List ℕ → (old new : Option (List ℕ)) → Type 0
+PrintsAt (Ok a) text old new = new ≡ option_map (λ (w : List ℕ). w ++ text) old
+PrintsAt (Err Sink) text old new = Appends old new text
+PrintsAt (Err Device) text old new = new ≡ old
+PrintsAt (Err (Damaged damage)) text old new = new ≡ old
+PrintsAt (Err Memory) text old new = new ≡ old
+
+-- where the answer is a fault, this holds, unless the sink failed
+abbrev pub UnlessSink : {A : Type 0} → Result A InspectFault → Type 0 → Type 0
+UnlessSink (Ok a) P = Unit {0}
+UnlessSink (Err Sink) P = Unit {0}
+UnlessSink (Err Device) P = P
+UnlessSink (Err (Damaged damage)) P = P
+UnlessSink (Err Memory) P = P
+
+-- where the answer is that the device failed, this holds
+abbrev pub IfInspectDevice : {A : Type 0} → Result A InspectFault → Type 0 → Type 0
+IfInspectDevice (Ok a) P = Unit {0}
+IfInspectDevice (Err Device) P = P
+IfInspectDevice (Err (Damaged damage)) P = Unit {0}
+IfInspectDevice (Err Sink) P = Unit {0}
+IfInspectDevice (Err Memory) P = Unit {0}
+
+-- where the answer is a damage, the damage is so
+abbrev pub IfInspectDamaged : {A : Type 0} → Result A InspectFault → (Damage → Type 0) → Type 0
+IfInspectDamaged (Ok a) P = Unit {0}
+IfInspectDamaged (Err Device) P = Unit {0}
+IfInspectDamaged (Err (Damaged damage)) P = P damage
+IfInspectDamaged (Err Sink) P = Unit {0}
+IfInspectDamaged (Err Memory) P = Unit {0}
+
+-- where the answer is that the sink failed, this holds
+abbrev pub IfInspectSink : {A : Type 0} → Result A InspectFault → Type 0 → Type 0
+IfInspectSink (Ok a) P = Unit {0}
+IfInspectSink (Err Device) P = Unit {0}
+IfInspectSink (Err (Damaged damage)) P = Unit {0}
+IfInspectSink (Err Sink) P = P
+IfInspectSink (Err Memory) P = Unit {0}
+
+-- The causes of damages, which hold for a folder that tells nothing too.
+
+-- the header of the index or of a block file was read, and its bytes are too few
+abbrev pub IsHeadDamage : Told → Damage → Type 0
+IsHeadDamage told damage = IsShort told names.Index 0 header_length damage ⊎ ((n : ℕ) × IsShort told (names.Block n) 0 block_fields_length damage)
+
+-- so it was, or a scan was damaged
+abbrev pub IsReadDamage : BlockFiles → Told → Damage → Type 0
+IsReadDamage files told damage = IsHeadDamage told damage ⊎ IsScanDamage files told damage
+
+-- a header was read with too few bytes, or the block files couldn't be loaded, or a scan by them was damaged
+abbrev pub IsFinishedDamage : Told → Damage → Type 0
+IsFinishedDamage told damage = IsHeadDamage told damage ⊎ IsBlocksDamage told damage
+
+-- a check of the index failed, or it was so with a finished folder
+abbrev pub IsInspectDamage : Told → Damage → Type 0
+IsInspectDamage told damage = IsLookDamage told damage ⊎ IsFinishedDamage told damage

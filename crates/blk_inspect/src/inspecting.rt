@@ -1,0 +1,103 @@
+// A folder is inspected and verified.
+ghost use Rattle.std.specs.Prelude.{◌≡◌, ◌≤◌};
+ghost use Rattle.std.specs.Option.{ForSome};
+ghost use Rattle.blk_image.specs.Told.{Rises, Stays};
+ghost use Rattle.blk_inspect.specs.Inspecting.{AnswersFor, IfInspectDamaged, IfInspectDevice, IfInspectSink, IsInspectDamage, PrintsAt, UnlessSink};
+ghost use Rattle.blk_inspect.specs.Texts.{inspect_text, verify_text};
+
+use crate::fault::InspectFault;
+use crate::findings::print_findings;
+use crate::reading::{Question, find};
+use blk_io::{Folder, Sink};
+use std::alloc::Global;
+
+/// A part of a folder.
+#[derive(Clone, Copy, Debug, PartialEq, Eq)]
+pub enum Part {
+    /// The header of the index.
+    Index,
+    /// The header of the block file of a number.
+    File(u8),
+    /// What an address word names.
+    Address(u32),
+    /// The nodes of the use list, from its front on.
+    List,
+    /// The records of the chain of a bucket.
+    Chain(u16),
+    /// The entry record that an address word names.
+    Entry(u32),
+}
+
+/// Prints a part of a folder. Nothing is written to the folder.
+///
+/// The headers are checked first. Of an unfinished folder `unfinished` is printed, alone. The use list is that which completing the
+/// operation in flight would leave. Everything is read before anything is printed.
+///
+/// # Errors
+///
+/// `Damaged` with the first check of the headers that fails; a folder that tells its files gives no other damage. `Device` where
+/// the folder failed in this call, `Sink` where the sink did, and `Memory` where there was too little of it.
+pub fn inspect<F: Folder, K: Sink>(
+    alloc: Global,
+    f: &mut F,
+    out: &mut K,
+    part: &Part,
+) -> Result<(), InspectFault>
+    // Exactly this text of the folder is printed, or a front of it where the sink failed.
+    ensures printed { ForSome (F.told f.old).files (λ image. PrintsAt result (inspect_text part.now image) (K.written out.old) (K.written out.new)) }
+
+    // The folder decides the answer, but for failures and want of memory.
+    ensures answer { ForSome (F.told f.old).files (AnswersFor result) }
+
+    // Without memory, and where the folder fails or is damaged, nothing is printed.
+    ensures unprinted { UnlessSink result (K.written out.new ≡ K.written out.old) }
+
+    ensures stays { Stays (F.told f.old) (F.told f.new) }
+
+    // The cause of a damage, which holds for a folder that tells nothing too.
+    ensures cause { IfInspectDamaged result (IsInspectDamage (F.told f.old)) }
+
+    ensures later { F.faults f.old ≤ F.faults f.new }
+    ensures sink_later { K.faults out.old ≤ K.faults out.new }
+    ensures device { IfInspectDevice result (Rises (F.faults f.old) (F.faults f.new)) }
+    ensures sink { IfInspectSink result (Rises (K.faults out.old) (K.faults out.new)) }
+{
+    let findings = find(alloc, f, &Question::OfPart(*part))?;
+    print_findings(out, &findings)?;
+    Ok(())
+}
+
+/// Prints what a folder holds: how many nodes are kept, each node that is dropped, in the order of the use list, and then each record
+/// that no walked node names, bucket after bucket and each chain in its order, with the first reason that holds; and at last the items
+/// and bytes of what is kept. Nothing is written to the folder.
+///
+/// The headers are checked first. Of an unfinished folder `unfinished` is printed, alone. The use list is that which completing the
+/// operation in flight would leave. Everything is read before anything is printed.
+///
+/// # Errors
+///
+/// Those of [`inspect`].
+pub fn verify<F: Folder, K: Sink>(alloc: Global, f: &mut F, out: &mut K) -> Result<(), InspectFault>
+    // Exactly this text of the folder is printed, or a front of it where the sink failed.
+    ensures printed { ForSome (F.told f.old).files (λ image. PrintsAt result (verify_text image) (K.written out.old) (K.written out.new)) }
+
+    // The folder decides the answer, but for failures and want of memory.
+    ensures answer { ForSome (F.told f.old).files (AnswersFor result) }
+
+    // Without memory, and where the folder fails or is damaged, nothing is printed.
+    ensures unprinted { UnlessSink result (K.written out.new ≡ K.written out.old) }
+
+    ensures stays { Stays (F.told f.old) (F.told f.new) }
+
+    // The cause of a damage, which holds for a folder that tells nothing too.
+    ensures cause { IfInspectDamaged result (IsInspectDamage (F.told f.old)) }
+
+    ensures later { F.faults f.old ≤ F.faults f.new }
+    ensures sink_later { K.faults out.old ≤ K.faults out.new }
+    ensures device { IfInspectDevice result (Rises (F.faults f.old) (F.faults f.new)) }
+    ensures sink { IfInspectSink result (Rises (K.faults out.old) (K.faults out.new)) }
+{
+    let findings = find(alloc, f, &Question::Verdict)?;
+    print_findings(out, &findings)?;
+    Ok(())
+}

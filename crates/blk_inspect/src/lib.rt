@@ -1,0 +1,16 @@
+//! What a cache folder holds, printed: its words, its lists, and a verdict on the whole.
+//!
+//! Everything is read before anything is printed, and nothing is written. `docs/FORMATS.md` tells the lines.
+#![tactic(auto)]
+
+mod fault;
+mod findings;
+mod heads;
+mod inspecting;
+mod listing;
+mod reading;
+mod rows;
+mod verdict;
+
+pub use fault::InspectFault;
+pub use inspecting::{Part, inspect, verify};

@@ -1,0 +1,153 @@
+// What is asked of a folder is read.
+ghost use Rattle.std.specs.Prelude.{◌≡◌, ◌⊎◌, ◌≤◌, IfOk, None, Some};
+ghost use Rattle.std.specs.Option.{ForSome};
+ghost use Rattle.blk_image.specs.Told.{Rises, Stays};
+ghost use Rattle.blk_format.specs.BlockFiles.{first_block_damage};
+ghost use Rattle.blk_format.specs.Headers.{HasWholeIndex};
+ghost use Rattle.blk_io.specs.Faults.{damage_of};
+ghost use Rattle.blk_disk.specs.Open.{IsOpen};
+ghost use Rattle.blk_audit.specs.Faults.{IfScanDamaged, IfScanDevice};
+ghost use Rattle.blk_headline.specs.Opening.{IsUsable};
+ghost use Rattle.blk_inspect.specs.Findings.{findings_text, finished_text, question_text};
+ghost use Rattle.blk_inspect.specs.Inspecting.{IsDamagedFirst, IsFinishedDamage, IsInspectDamage, IsReadDamage};
+ghost use Rattle.blk_inspect.specs.Texts.{address_text, part_text, verdict_text};
+
+use crate::findings::Findings;
+use crate::heads::{read_file, read_index, read_record};
+use crate::inspecting::Part;
+use crate::listing::{read_chain, read_list};
+use blk_addr::Addr;
+use blk_audit::ScanFault;
+use blk_disk::BlockFiles;
+use blk_index::{Start, look};
+use blk_io::Folder;
+use blk_scan::scan_files;
+use std::alloc::Global;
+
+/// What is asked of a folder.
+#[derive(Clone, Copy, Debug)]
+pub(crate) enum Question {
+    // A part of it.
+    OfPart(Part),
+    // What it holds.
+    Verdict,
+}
+
+/// Checks the headers of a folder, and reads what is asked of it. Nothing is written.
+///
+/// # Errors
+///
+/// `Damaged` with the first check of the index and of the headers of the block files that fails; a folder that tells its files
+/// gives no other damage. `Device` where the folder failed in this call, and `Memory` where there was too little of it.
+pub(crate) fn find<F: Folder>(
+    alloc: Global,
+    f: &mut F,
+    question: &Question,
+) -> Result<Findings, ScanFault>
+    ensures found { IfOk result (λ findings. ForSome (F.told f.old).files (λ image. findings_text findings ≡ question_text question.now image)) }
+    ensures checked { IfOk result (λ _. ForSome (F.told f.old).files IsUsable) }
+    ensures stays { Stays (F.told f.old) (F.told f.new) }
+
+    // A folder that tells its files gives a damage only where a check of its headers fails: the first that does.
+    ensures damaged { IfScanDamaged result (λ damage. ForSome (F.told f.old).files (IsDamagedFirst damage)) }
+
+    // The cause of a damage, which holds for a folder that tells nothing too.
+    ensures cause { IfScanDamaged result (IsInspectDamage (F.told f.old)) }
+
+    ensures later { F.faults f.old ≤ F.faults f.new }
+    ensures device { IfScanDevice result (Rises (F.faults f.old) (F.faults f.new)) }
+{
+    match look(f)? {
+        Start::Unfinished => Ok(Findings::Unfinished),
+        Start::Finished => find_finished(alloc, f, question),
+    }
+}
+
+// Checks the block files of a folder whose index is finished, and reads what is asked of it.
+fn find_finished<F: Folder>(
+    alloc: Global,
+    f: &mut F,
+    question: &Question,
+) -> Result<Findings, ScanFault>
+    ensures found { IfOk result (λ findings. ForSome (F.told f.old).files (λ image. HasWholeIndex image → findings_text findings ≡ finished_text question.now image)) }
+    ensures checked { IfOk result (λ _. ForSome (F.told f.old).files (λ image. first_block_damage image ≡ None)) }
+    ensures stays { Stays (F.told f.old) (F.told f.new) }
+    ensures damaged { IfScanDamaged result (λ damage. ForSome (F.told f.old).files (λ image. HasWholeIndex image → first_block_damage image ≡ Some (damage_of damage))) }
+    ensures cause { IfScanDamaged result (IsFinishedDamage (F.told f.old)) }
+    ensures later { F.faults f.old ≤ F.faults f.new }
+    ensures device { IfScanDevice result (Rises (F.faults f.old) (F.faults f.new)) }
+{
+    let files = BlockFiles::load(f)?;
+    read(alloc, f, &files, question)
+}
+
+// Reads what is asked of a folder by its block files.
+fn read<F: Folder>(
+    alloc: Global,
+    f: &mut F,
+    files: &BlockFiles,
+    question: &Question,
+) -> Result<Findings, ScanFault>
+    ensures found { IfOk result (λ findings. ForSome (F.told f.old).files (λ image. IsOpen files.now image → findings_text findings ≡ finished_text question.now image)) }
+    ensures stays { Stays (F.told f.old) (F.told f.new) }
+    ensures damaged { IfScanDamaged result (IsReadDamage files.now (F.told f.new)) }
+    ensures untold { ForSome (F.told f.old).files (IsOpen files.now) → IfScanDamaged result (λ _. (F.told f.old).files ≡ None) }
+    ensures later { F.faults f.old ≤ F.faults f.new }
+    ensures device { IfScanDevice result (Rises (F.faults f.old) (F.faults f.new)) }
+{
+    match question {
+        Question::OfPart(part) => read_part(alloc, f, files, part),
+        Question::Verdict => read_verdict(alloc, f, files),
+    }
+}
+
+// Reads a part of a folder.
+fn read_part<F: Folder>(
+    alloc: Global,
+    f: &mut F,
+    files: &BlockFiles,
+    part: &Part,
+) -> Result<Findings, ScanFault>
+    ensures found { IfOk result (λ findings. ForSome (F.told f.old).files (λ image. IsOpen files.now image → findings_text findings ≡ part_text part.now image)) }
+    ensures stays { Stays (F.told f.old) (F.told f.new) }
+    ensures damaged { IfScanDamaged result (IsReadDamage files.now (F.told f.new)) }
+    ensures untold { ForSome (F.told f.old).files (IsOpen files.now) → IfScanDamaged result (λ _. (F.told f.old).files ≡ None) }
+    ensures later { F.faults f.old ≤ F.faults f.new }
+    ensures device { IfScanDevice result (Rises (F.faults f.old) (F.faults f.new)) }
+{
+    match *part {
+        Part::Index => read_index(alloc, f),
+        Part::File(n) => read_file(alloc, f, files, n),
+        Part::Address(word) => Ok(place_of(word)),
+        Part::List => read_list(alloc, f, files),
+        Part::Chain(bucket) => read_chain(alloc, f, files, bucket),
+        Part::Entry(word) => read_record(alloc, f, files, word),
+    }
+}
+
+// What a word names, if it is an address.
+fn place_of(word: u32) -> Findings
+    ensures { findings_text result ≡ address_text word }
+{
+    match Addr::from_word(word) {
+        Some(addr) => Findings::Place(addr),
+        None => Findings::Nothing,
+    }
+}
+
+// Reads what a folder holds.
+fn read_verdict<F: Folder>(
+    alloc: Global,
+    f: &mut F,
+    files: &BlockFiles,
+) -> Result<Findings, ScanFault>
+    ensures found { IfOk result (λ findings. ForSome (F.told f.old).files (λ image. IsOpen files.now image → findings_text findings ≡ verdict_text image)) }
+    ensures stays { Stays (F.told f.old) (F.told f.new) }
+    ensures damaged { IfScanDamaged result (IsReadDamage files.now (F.told f.new)) }
+    ensures untold { ForSome (F.told f.old).files (IsOpen files.now) → IfScanDamaged result (λ _. (F.told f.old).files ≡ None) }
+    ensures later { F.faults f.old ≤ F.faults f.new }
+    ensures device { IfScanDevice result (Rises (F.faults f.old) (F.faults f.new)) }
+{
+    let scan = scan_files(alloc, f, files)?;
+    Ok(Findings::Verdict(scan))
+}
