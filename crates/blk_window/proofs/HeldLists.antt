@@ -1,5 +1,5 @@
 -- The pages that numbered slots hold, after a search, a move and a change of slots.
-use Rattle.std.proofs.Common.{◌≡◌, ℕ, suc, ◌+◌, ◌-◌, ◌<◌, ◌≤◌, Bool, true, false, ◌||◌, ◌&&◌, ◌==◌, nat_eq, nat_lt, if◌then◌else◌, cond, List, [], ◌∷◌, ◌++◌, length, take, map, Option, None, Some, is_some, option_and_then, refl, sym, ◌∙◌, ap, subst, arith, filter_map, option_map, ◌⊎◌, inl, inr}
+use Rattle.std.proofs.Common.{◌≡◌, ℕ, suc, ◌+◌, ◌-◌, ◌<◌, ◌≤◌, Bool, true, false, ◌||◌, ◌&&◌, ◌==◌, nat_eq, nat_lt, if◌then◌else◌, cond, List, [], ◌∷◌, ◌++◌, length, take, map, Option, None, Some, is_none, is_some, not, slice_get, option_and_then, refl, sym, ◌∙◌, ap, subst, arith, filter_map, option_map, ◌⊎◌, inl, inr}
 use Rattle.std.specs.Option.{option_map_or}
 use Rattle.std.specs.List.{All, IsDistinct, AllByRecursion, cons_option, find, list_any}
 use Rattle.std.specs.Map.{keys_of, lookup, set_value}
@@ -316,9 +316,47 @@ module _ {V : Type 0} (see : V → Option Page) where
       keys_turned [] = refl
       keys_turned (e ∷ xs) = ap (λ l. e.0 ∷ l) (keys_turned xs)
 
-  -- a search for a free slot that hits at the first of what is left
-  pub free_first : (k last : ℕ) (all left : List (ℕ × V)) (x : ℕ × V) (rest : List (ℕ × V)) → is_some (see x.1) ≡ false → left ≡ x ∷ rest → giving_way see last left ≡ giving_way see k all → x.0 ≡ giving_way see k all
-  free_first k last all left x rest free is same = sym (ap (λ b. if b then giving_way see x.0 rest else x.0) free) ∙ ap (giving_way see last) (sym is) ∙ same
+  -- the first free slot gives way, and where none is free the last one
+  pub first_gives : (last k : ℕ) (es : List (ℕ × V)) → Some k ≡ option_map (λ (slot : ℕ × V). slot.0) (find (λ slot. is_none (see slot.1)) es) → k ≡ giving_way see last es
+  first_gives last k [] e = absurd (clash e)
+    where
+      clash : ◌≡◌ {A = Option ℕ} (Some k) None → ⊥
+      clash c = cc
+  first_gives last k (x ∷ es) e = pick (is_some (see x.1))
+      (λ holds. first_gives x.0 k es (e ∙ ap (λ b. option_map (λ (slot : ℕ × V). slot.0) (cond (not b) (Some x) (find (λ slot. is_none (see slot.1)) es))) holds) ∙ sym (ap (λ b. if b then giving_way see x.0 es else x.0) holds))
+      (λ free. inj (e ∙ ap (λ b. option_map (λ (slot : ℕ × V). slot.0) (cond (not b) (Some x) (find (λ slot. is_none (see slot.1)) es))) free) ∙ sym (ap (λ b. if b then giving_way see x.0 es else x.0) free))
+    where
+      inj : {n : ℕ} → Some k ≡ Some n → k ≡ n
+      inj c = cc
+
+  pub last_gives : (last k : ℕ) (es : List (ℕ × V)) → option_map (λ (slot : ℕ × V). slot.0) (find (λ slot. is_none (see slot.1)) es) ≡ None → Some k ≡ option_map (λ (slot : ℕ × V). slot.0) (slice_get es (length es - 1)) → k ≡ giving_way see last es
+  last_gives last k [] none e = absurd (clash e)
+    where
+      clash : ◌≡◌ {A = Option ℕ} (Some k) None → ⊥
+      clash c = cc
+  last_gives last k (x ∷ []) none e = by_test (is_some (see x.1))
+    where
+      inj : {n : ℕ} → Some k ≡ Some n → k ≡ n
+      inj c = cc
+
+      by_test : (b : Bool) → k ≡ (if b then x.0 else x.0)
+      by_test true = inj e
+      by_test false = inj e
+  last_gives last k (x ∷ y ∷ es) none e = pick (is_some (see x.1))
+      (λ holds. last_gives x.0 k (y ∷ es) (sym (ap (λ b. option_map (λ (slot : ℕ × V). slot.0) (cond (not b) (Some x) (find (λ slot. is_none (see slot.1)) (y ∷ es)))) holds) ∙ none) (e ∙ behind) ∙ sym (ap (λ b. if b then giving_way see x.0 (y ∷ es) else x.0) holds))
+      (λ free. absurd (clash (sym (ap (λ b. option_map (λ (slot : ℕ × V). slot.0) (cond (not b) (Some x) (find (λ slot. is_none (see slot.1)) (y ∷ es)))) free) ∙ none)))
+    where
+      clash : Some x.0 ≡ None → ⊥
+      clash c = cc
+
+      more : suc (suc (length es)) - 1 ≡ suc (length es)
+      more = omega arith
+
+      fewer_by_one : length es ≡ suc (length es) - 1
+      fewer_by_one = omega arith
+
+      behind : option_map (λ (slot : ℕ × V). slot.0) (slice_get (x ∷ y ∷ es) (length (x ∷ y ∷ es) - 1)) ≡ option_map (λ (slot : ℕ × V). slot.0) (slice_get (y ∷ es) (length (y ∷ es) - 1))
+      behind = ap (λ n. option_map (λ (slot : ℕ × V). slot.0) (slice_get (x ∷ y ∷ es) n)) more ∙ ap (λ n. option_map (λ (slot : ℕ × V). slot.0) (slice_get (y ∷ es) n)) fewer_by_one
 
   -- after its page is dropped, the slot that gives way is free
   pub record Gives (places k : ℕ) (es : List (ℕ × V)) : Type 0 where

@@ -1,10 +1,11 @@
 // The slots of a window, in the order of their use.
-ghost use Rattle.std.specs.Prelude.{◌≡◌, [], ◌∷◌, ◌+◌, ◌-◌, ◌*◌, ◌<◌, ◌≤◌, ◌%◌, ◌^◌, length, Some, None, IfOk, IfSome, IfNone, is_some, nat_eq, option_and_then};
+ghost use Rattle.std.specs.Prelude.{◌≡◌, [], ◌∷◌, ◌+◌, ◌-◌, ◌*◌, ◌<◌, ◌≤◌, ◌%◌, ◌^◌, length, Some, None, IfOk, IfSome, IfNone, is_none, is_some, nat_eq, option_and_then};
 ghost use Rattle.std.specs.Option.{ForSome, option_map};
 ghost use Rattle.std.specs.List.{All, IsDistinct, filter_map, find};
 ghost use Rattle.std.specs.Map.{keys_of, lookup};
 ghost use Rattle.blk_io.specs.FileNames.{file_of};
 ghost use Rattle.std.proofs.Props.{props};
+ghost use Rattle.lru.specs.LruCache.{last_entry};
 ghost use Rattle.blk_window.specs.Held.{is_held, page_in, page_at, used, dropped, unless_of, written};
 
 use crate::page::{PAGE_SIZE, Page};
@@ -62,18 +63,36 @@ impl Pages {
         None
     }
 
+    // The first slot that holds nothing.
+    fn first_free(&self) -> Option<u16>
+        ensures { result ≡ option_map (λ slot. slot.0) (find (λ slot. is_none (seen slot.1)) self.now.slots.entries) }
+    {
+        for (slot, page) in self.slots.iter() {
+            if !page.is_held() {
+                return Some(*slot);
+            }
+        }
+        None
+    }
+
+    // The slot that was used longest ago.
+    fn oldest(&self) -> u16
+        ensures { Some result ≡ option_map (λ slot. slot.0) (last_entry self.now.slots.entries) }
+    {
+        match self.slots.peek_lru() {
+            Some((slot, _)) => *slot,
+            None => unreachable!(),
+        }
+    }
+
     // The slot whose page gives way to another: the first that holds nothing, or the one that was used longest ago.
     fn giving_way(&self) -> u16
         ensures { result ≡ giving_way 0 self.now.slots.entries }
     {
-        let mut last = 0;
-        for (slot, page) in self.slots.iter() {
-            if !page.is_held() {
-                return *slot;
-            }
-            last = *slot;
+        match self.first_free() {
+            Some(slot) => slot,
+            None => self.oldest(),
         }
-        last
     }
 
     /// Moves bytes of a page from a place of the file on into the front of `out`, as many as there are, if the page is held. It is in front then.

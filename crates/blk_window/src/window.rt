@@ -103,7 +103,7 @@ impl<F: Folder> Window<F> {
 
     // Moves bytes of the file into the front of `out`, page after page, as many as there are.
     fn read_pages(&mut self, file: FileId, at: u64, out: &mut [u8]) -> Result<usize, Failed>
-        requires { at + length out.old < 2 ^ 64 }
+        requires { at + length out.old ≤ 2 ^ 64 }
         ensures within { IfOk result (λ n. n ≤ length out.old) }
         ensures bytes { IfOk result (λ n. ForSome (F.told self.old.inner).files (λ image. GivesBytes image (file_of file) at out.old out.new n)) }
         ensures stays { Stays (F.told self.old.inner) (F.told self.new.inner) }
@@ -163,16 +163,16 @@ impl<F: Folder> Folder for Window<F> {
         ensures places { places_of self.new.pages ≡ places_of self.old.pages }
 
         // Which pages are held then, and in which order.
-        ensures reads { at + length out.old < 2 ^ 64 → OnOk result (ReadsThrough (places_of self.old.pages) (file_of file) at (length out.old) (held_of self.old.pages) (held_of self.new.pages)) }
-        ensures fails { at + length out.old < 2 ^ 64 → OnErr result (FailsBehind (places_of self.old.pages) (file_of file) at (length out.old) (held_of self.old.pages) (held_of self.new.pages)) }
+        ensures reads { at + length out.old ≤ 2 ^ 64 → OnOk result (ReadsThrough (places_of self.old.pages) (file_of file) at (length out.old) (held_of self.old.pages) (held_of self.new.pages)) }
+        ensures fails { at + length out.old ≤ 2 ^ 64 → OnErr result (FailsBehind (places_of self.old.pages) (file_of file) at (length out.old) (held_of self.old.pages) (held_of self.new.pages)) }
 
         // No call is made on the folder inside where all pages are held.
-        ensures held { at + length out.old < 2 ^ 64 → HoldsRange (file_of file) at (length out.old) (held_of self.old.pages) → IsOk result × (self.new.inner ≡ self.old.inner) }
+        ensures held { at + length out.old ≤ 2 ^ 64 → HoldsRange (file_of file) at (length out.old) (held_of self.old.pages) → IsOk result × (self.new.inner ≡ self.old.inner) }
 
-        // No file has bytes from 2 ^ 64 on. A range that ends there is read inside, past the pages.
-        ensures past { 2 ^ 64 ≤ at + length out.old → self.new.pages ≡ self.old.pages }
+        // No call names a place from 2 ^ 64 on. A range that goes beyond is read inside, past the pages.
+        ensures past { 2 ^ 64 < at + length out.old → self.new.pages ≡ self.old.pages }
     {
-        if out.len() as u64 > u64::MAX - at {
+        if out.len() as u64 > (u64::MAX - at).saturating_add(1) {
             return self.inner.read_at(file, at, out);
         }
         self.read_pages(file, at, out)

@@ -1,8 +1,10 @@
-use Rattle.std.proofs.Common.{sym}
+use Rattle.std.proofs.Common.{sym, ◌∙◌}
 use Rattle.blk_window.specs.Slots.{seen}
-use Rattle.blk_window.proofs.HeldLists.{free_first}
+use Rattle.blk_window.proofs.HeldLists.{first_gives, last_gives}
 use Rattle.blk_window.proofs.pages.Pages.giving_way.Goals as goal
 
-pub returns-then-not-is_held : goal.returns-then-not-is_held
-returns-then-not-is_held c =
-    free_first seen 0 c.loop-slot.last c.args.self.now.slots.entries _ (c.in-Some.slot.now, c.in-Some.page.now) _ (sym c.if-not-is_held.ensures) c.in-Some.ensures.steps c.loop-slot.invariant.2
+pub returns-in-Some : goal.returns-in-Some
+returns-in-Some c = first_gives seen 0 c.in-Some.slot c.args.self.now.slots.entries (sym c.in-Some.is ∙ c.first_free.ensures)
+
+pub returns-in-None : goal.returns-in-None
+returns-in-None c = last_gives seen 0 c.oldest.result c.args.self.now.slots.entries (sym c.first_free.ensures ∙ c.in-None.is) c.oldest.ensures
