@@ -26,7 +26,8 @@ use Rattle.blk_cache.specs.Stepping.{SaysEvicted, SaysFront}
 use Rattle.blk_cache.proofs.CreateWhole.{there-after, untold-by}
 use Rattle.blk_cache.proofs.WriteUses.{never-told}
 
-passed-groups : (moment : ℕ) (request : Request) (state : State) → refused moment request state ≡ None → (step state moment request).groups ≡ evicted moment request state
+-- it prints what it evicts
+pub passed-groups : (moment : ℕ) (request : Request) (state : State) → refused moment request state ≡ None → (step state moment request).groups ≡ evicted moment request state
 unfolding step outcome
 passed-groups moment request state is = ap (λ (o : Option Refusal). (outcome moment request state o).groups) is
 

@@ -39,6 +39,7 @@ use Rattle.blk_items.specs.RoomPrinting.{Prints}
 use Rattle.blk_cache.specs.Stepping.{SaysEvicted, SaysFront}
 use Rattle.blk_cache.specs.Writing.{IsReadyToWrite, IsReadyToWriteSome, MayBeWritten}
 use Rattle.blk_cache.proofs.CreateWhole.{there-after, untold-by}
+use Rattle.blk_cache.proofs.EvictionEnds.{passed-groups}
 use Rattle.blk_items.proofs.RoomGroups.{without-none}
 use Rattle.blk_items.proofs.RoomTexts.{none-behind, none-printed}
 use Rattle.blk_cache.proofs.Sizes.{named-object}
@@ -51,10 +52,6 @@ module _ (moment : ℕ) (request : Request) (cache : Cache) (told : Told) (faile
   refused-groups : (state : State) (why : Refusal) → refused moment request state ≡ Some why → (step state moment request).groups ≡ []
   unfolding step outcome
   refused-groups state why is = ap (λ (o : Option Refusal). (outcome moment request state o).groups) is
-
-  passed-groups : (state : State) → refused moment request state ≡ None → (step state moment request).groups ≡ evicted moment request state
-  unfolding step outcome
-  passed-groups state is = ap (λ (o : Option Refusal). (outcome moment request state o).groups) is
 
   -- a refusal prints nothing of what is evicted
   pub refused-says : (why : Refusal) → ForKept (KeepsState cache) told (λ state. refused moment request state ≡ Some why) → SaysEvicted cache told moment request failed_before failed_before old old
@@ -97,7 +94,7 @@ module _ (moment : ℕ) (request : Request) (more : ℕ) where
       groups-made image there state k = by (room state [] more 0) refl where
         by : (r : Room) → room state [] more 0 ≡ r → (step state moment request).groups ≡ evicted_for (room state [] more 0)
         by full e = refused-groups moment request cache told failed_before failed old new state refusal.Full (refused-full state (is image there state k) (ap is_full e)) ∙ sym (ap evicted_for e)
-        by (makes groups) e = passed-groups moment request cache told failed_before failed old new state (not-refused state (is image there state k) (ap is_full e)) ∙ evicted-is state (is image there state k)
+        by (makes groups) e = passed-groups moment request state (not-refused state (is image there state k) (ap is_full e)) ∙ evicted-is state (is image there state k)
 
       pub made-says : ForKept (KeepsState cache) told (λ state. Prints failed_before failed old new (evicted_text (evicted_for (room state [] more 0)))) → SaysEvicted cache told moment request failed_before failed old new
       made-says prints image there state k = subst (λ (groups : List Group). Prints failed_before failed old new (evicted_text groups)) (sym (groups-made image there state k)) (prints image there state k)
