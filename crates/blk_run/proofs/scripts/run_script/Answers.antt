@@ -13,10 +13,11 @@ use Rattle.blk_run.proofs.Completeness.{complete_script}
 use Rattle.blk_run.proofs.SessionEnds.{begins_at, cause_since, device_cause, first_of, opened_at, rises_since, sink_cause}
 use Rattle.blk_run.proofs.scripts.run_script.Goals as goal
 
-pub play_script-requires-clause-is_open : goal.play_script-requires-clause-is_open
-play_script-requires-clause-is_open g c =
-    opened_at (g.F.Folder.told c.args.folder.now).files (g.F.Folder.told c.start.new.f) _ c.start.ensures.silent
-    (λ from there image here. kept-open c.in-Ok.cache (open_state (found from) (bounds_of c.args.limits)) image (c.in-Ok.ensures.keeps from there image here))
+pub play_script-requires : goal.play_script-requires
+play_script-requires g c = record {
+  is_open = opened_at (g.F.Folder.told c.args.folder.now).files (g.F.Folder.told c.start.new.f) _ c.start.ensures.silent
+      (λ from there image here. kept-open c.in-Ok.cache (open_state (found from) (bounds_of c.args.limits)) image (c.in-Ok.ensures.keeps from there image here));
+}
 
 pub returns-in-Ok-clause-script : goal.returns-in-Ok-clause-script
 returns-in-Ok-clause-script g c from there usable readings clock left =
