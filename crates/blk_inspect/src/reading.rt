@@ -126,6 +126,7 @@ fn read_part<F: Folder>(
 }
 
 // What a word names, if it is an address.
+#[tactic(auto, unfolding(crate::specs::Findings::findings_text, crate::specs::Texts::address_text))]
 fn place_of(word: u32) -> Findings
     ensures { findings_text result ≡ address_text word }
 {

@@ -1,5 +1,5 @@
 // What a folder holds is printed.
-ghost use Rattle.std.specs.Prelude.{◌≡◌, ◌≤◌, ◌++◌, ◌∷◌, [], OnOk, OnErr, codes};
+ghost use Rattle.std.specs.Prelude.{◌≡◌, ◌≤◌, ◌++◌, ◌∷◌, [], OnOk, OnErr, codes, length};
 ghost use Rattle.std.specs.List.{flat_map};
 ghost use Rattle.std.specs.Option.{option_map};
 ghost use Rattle.blk_image.specs.Told.{Rises};
@@ -25,9 +25,19 @@ pub(crate) fn print_verdict<K: Sink>(out: &mut K, scan: &Scan) -> Result<(), Fai
     ensures later { K.faults out.old ≤ K.faults out.new }
     ensures failed { OnErr result (Rises (K.faults out.old) (K.faults out.new)) }
 {
-    print_fields(out, &[Word("kept"), Number(scan.items())])?;
+    print_kept(out, scan)?;
     print_all_dropped(out, scan)?;
     print_totals(out, scan.items(), scan.bytes())
+}
+
+// Prints how many nodes are kept.
+fn print_kept<K: Sink>(out: &mut K, scan: &Scan) -> Result<(), Failed>
+    ensures steps { OnOk result (K.written out.new ≡ option_map (λ w. w ++ kept_line (length scan.now.kept.items)) (K.written out.old)) }
+    ensures prefix { Appends (K.written out.old) (K.written out.new) (kept_line (length scan.now.kept.items)) }
+    ensures later { K.faults out.old ≤ K.faults out.new }
+    ensures failed { OnErr result (Rises (K.faults out.old) (K.faults out.new)) }
+{
+    print_fields(out, &[Word("kept"), Number(scan.items())])
 }
 
 // Prints the items and bytes of what is kept.
