@@ -1,4 +1,4 @@
-use Rattle.std.proofs.Common.{◌++◌, length, ap, subst}
+use Rattle.std.proofs.Common.{◌++◌, length, subst}
 use Rattle.std.specs.List.{flat_map}
 use Rattle.blk_io.specs.Streams.{Appends}
 use Rattle.blk_headline.specs.Script.{totals_line}
