@@ -1,0 +1,4 @@
+mod Filling
+mod Said
+mod Examples
+mod Runs

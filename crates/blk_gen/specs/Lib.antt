@@ -1,0 +1,4 @@
+pub mod Draws
+pub mod Counting
+pub mod Generator
+pub mod Laws

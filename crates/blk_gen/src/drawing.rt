@@ -1,0 +1,92 @@
+// What is drawn from a sequence of numbers.
+ghost use Rattle.std.specs.Prelude.{◌≡◌, ◌+◌, ◌<◌, ◌≤◌, ◌++◌, length, take};
+ghost use Rattle.blk_gen.specs.Draws.{next_value, draw_at, turn_behind, value_behind, generated_key};
+
+use itoa::Buffer;
+
+// A value of the sequence is that before it by this factor, and this more.
+const FACTOR: u64 = 6_364_136_223_846_793_005;
+
+const MORE: u64 = 1_442_695_040_888_963_407;
+
+// The lower bits of a value, which a draw leaves out.
+const LEFT_OUT: u32 = 33;
+
+/// A sequence of draws, by the value that it has come to.
+#[derive(Clone, Copy, Debug, PartialEq, Eq)]
+pub struct Draws {
+    pub value: u64,
+}
+
+/// What a turn of the generator works on.
+#[derive(Clone, Copy, Debug, PartialEq, Eq)]
+pub struct Turn {
+    /// The number in its key, below 1000.
+    pub key_number: u16,
+    /// The stream that it writes and reads, 0 to 2.
+    pub stream: u8,
+    /// How many bytes it writes, at most 20000.
+    pub byte_count: u16,
+}
+
+impl Draws {
+    /// The sequence of a seed.
+    pub fn new(seed: u64) -> Draws
+        ensures { result.value ≡ seed }
+    {
+        Draws { value: seed }
+    }
+
+    /// The next draw, a number of 31 bits.
+    pub fn draw(&mut self) -> u32
+        ensures value { self.new.value ≡ next_value self.old.value }
+        ensures drawn { result ≡ draw_at (next_value self.old.value) }
+    {
+        self.value = self.value.wrapping_mul(FACTOR).wrapping_add(MORE);
+        (self.value >> LEFT_OUT) as u32
+    }
+
+    /// What the next turn works on, by three draws.
+    pub fn turn(&mut self) -> Turn
+        ensures value { self.new.value ≡ value_behind self.old.value }
+        ensures drawn { result ≡ turn_behind self.old.value }
+        ensures key { result.key_number < 1000 }
+        ensures stream { result.stream < 3 }
+        ensures few { result.byte_count ≤ 20000 }
+    {
+        let key_number = (self.draw() % 1000) as u16;
+        let stream = (self.draw() % 3) as u8;
+        let byte_count = (self.draw() % 20001) as u16;
+        Turn {
+            key_number,
+            stream,
+            byte_count,
+        }
+    }
+}
+
+impl Turn {
+    /// The key of the turn, in the front of the room: `k`, and its number in decimal.
+    pub fn key<'a>(&self, room: &'a mut [u8; 4]) -> &'a [u8]
+        requires { self.now.key_number < 1000 }
+        ensures { result.now ≡ generated_key self.now.key_number }
+    {
+        let mut buffer = Buffer::new();
+        let digits = buffer.format(self.key_number).as_bytes();
+        let end = put(room, 0, b"k");
+        let end = put(room, end, digits);
+        &room[..end]
+    }
+}
+
+// Puts bytes behind what stands in front, and tells where they end.
+fn put(room: &mut [u8], at: usize, bytes: &[u8]) -> usize
+    requires { at + length bytes.now ≤ length room.old }
+    ensures within { result ≡ at + length bytes.now }
+    ensures bytes { take result room.new ≡ take at room.old ++ bytes.now }
+    ensures length { length room.new ≡ length room.old }
+{
+    let end = at + bytes.len();
+    room[at..end].copy_from_slice(bytes);
+    end
+}

@@ -1,0 +1,25 @@
+//! The generator: commands that are drawn from a number, and what is counted of them.
+//!
+//! A turn draws a key, a stream and how many bytes are written; what it asks of a cache then is
+//! the script `gen_script` of `specs/Generator`. No call takes memory. `docs/FORMATS.md` tells the
+//! generator.
+#![tactic(auto)]
+
+ghost use Rattle.blk_gen.specs.Laws.{CommandsOfTurnsAreFew, TurnsSayTheirCounts};
+
+mod counting;
+mod data;
+mod drawing;
+
+pub use counting::Counts;
+pub use data::fill;
+pub use drawing::{Draws, Turn};
+
+/// What a run of the generator says is what was counted of the commands that it asked; these are at most five a turn.
+pub fn turns_are_counted()
+    ensures says { TurnsSayTheirCounts }
+    ensures few { CommandsOfTurnsAreFew }
+{}
+
+#[cfg(test)]
+mod tests;
