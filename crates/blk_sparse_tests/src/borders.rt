@@ -11,47 +11,39 @@ const MOST: u64 = 1_048_576;
 
 const END: u64 = 68_719_476_736;
 
-// The offset and the number of the bytes of a write to a new object, and, where it is not beyond the end, the start and the length of
-// the first run of present bytes from there on, and how many items there are then with how many bytes.
-type Case = (u64, usize, Option<[u64; 4]>);
+// The offset and the number of the bytes of a write to a new object; the start and the length of the first run of present bytes from
+// there on, and how many items there are then with how many bytes: none where the write is beyond the end.
+type Case = [u64; 6];
 
 const CASES: [Case; 28] = [
-    (0, 1, Some([0, 1, 2, 8_462])),
-    (0, 2, Some([0, 2, 2, 8_463])),
-    (0, 1_024, Some([0, 1_024, 2, 9_485])),
-    (0, 1_048_576, Some([0, 1_048_576, 2, 1_057_037])),
-    (1, 1, Some([1, 0, 2, 8_463])),
-    (1, 2, Some([1, 0, 2, 8_464])),
-    (1, 1_024, Some([1_024, 1, 2, 9_486])),
-    (1, 1_048_576, Some([1_024, 1_047_553, 3, 1_057_242])),
-    (1_023, 1, Some([1_023, 0, 2, 9_485])),
-    (1_023, 2, Some([1_024, 1, 2, 9_486])),
-    (1_023, 1_024, Some([1_024, 1_023, 2, 10_508])),
-    (1_023, 1_048_576, Some([1_024, 1_048_575, 3, 1_058_264])),
-    (1_024, 1, Some([1_024, 1, 2, 9_486])),
-    (1_024, 2, Some([1_024, 2, 2, 9_487])),
-    (1_024, 1_024, Some([1_024, 1_024, 2, 10_509])),
-    (1_024, 1_048_576, Some([1_024, 1_048_576, 3, 1_058_265])),
-    (1_048_575, 1, Some([1_048_575, 0, 2, 1_057_037])),
-    (1_048_575, 2, Some([1_048_576, 1, 3, 1_057_242])),
-    (1_048_575, 1_024, Some([1_048_576, 1_023, 3, 1_058_264])),
-    (
-        1_048_575,
-        1_048_576,
-        Some([1_048_576, 1_048_575, 3, 2_105_816]),
-    ),
-    (1_048_576, 1, Some([1_048_576, 1, 2, 8_462])),
-    (1_048_576, 2, Some([1_048_576, 2, 2, 8_463])),
-    (1_048_576, 1_024, Some([1_048_576, 1_024, 2, 9_485])),
-    (
-        1_048_576,
-        1_048_576,
-        Some([1_048_576, 1_048_576, 2, 1_057_037]),
-    ),
-    (68_719_476_735, 1, Some([68_719_476_735, 0, 2, 1_057_040])),
-    (68_719_476_735, 2, None),
-    (68_719_476_735, 1_024, None),
-    (68_719_476_735, 1_048_576, None),
+    [0, 1, 0, 1, 2, 8_462],
+    [0, 2, 0, 2, 2, 8_463],
+    [0, 1_024, 0, 1_024, 2, 9_485],
+    [0, 1_048_576, 0, 1_048_576, 2, 1_057_037],
+    [1, 1, 1, 0, 2, 8_463],
+    [1, 2, 1, 0, 2, 8_464],
+    [1, 1_024, 1_024, 1, 2, 9_486],
+    [1, 1_048_576, 1_024, 1_047_553, 3, 1_057_242],
+    [1_023, 1, 1_023, 0, 2, 9_485],
+    [1_023, 2, 1_024, 1, 2, 9_486],
+    [1_023, 1_024, 1_024, 1_023, 2, 10_508],
+    [1_023, 1_048_576, 1_024, 1_048_575, 3, 1_058_264],
+    [1_024, 1, 1_024, 1, 2, 9_486],
+    [1_024, 2, 1_024, 2, 2, 9_487],
+    [1_024, 1_024, 1_024, 1_024, 2, 10_509],
+    [1_024, 1_048_576, 1_024, 1_048_576, 3, 1_058_265],
+    [1_048_575, 1, 1_048_575, 0, 2, 1_057_037],
+    [1_048_575, 2, 1_048_576, 1, 3, 1_057_242],
+    [1_048_575, 1_024, 1_048_576, 1_023, 3, 1_058_264],
+    [1_048_575, 1_048_576, 1_048_576, 1_048_575, 3, 2_105_816],
+    [1_048_576, 1, 1_048_576, 1, 2, 8_462],
+    [1_048_576, 2, 1_048_576, 2, 2, 8_463],
+    [1_048_576, 1_024, 1_048_576, 1_024, 2, 9_485],
+    [1_048_576, 1_048_576, 1_048_576, 1_048_576, 2, 1_057_037],
+    [68_719_476_735, 1, 68_719_476_735, 0, 2, 1_057_040],
+    [68_719_476_735, 2, 0, 0, 0, 0],
+    [68_719_476_735, 1_024, 0, 0, 0, 0],
+    [68_719_476_735, 1_048_576, 0, 0, 0, 0],
 ];
 
 // A session with a new object.
@@ -87,14 +79,18 @@ fn read_from(session: &mut Session, offset: u64, count: u64) -> Result<u64, Step
 }
 
 // What a write answers.
-fn written(session: &mut Session, case: &Case, bytes: &[u8]) -> Result<Answer, StepFault> {
-    let (offset, length, _) = *case;
+fn written(session: &mut Session, offset: u64, bytes: &[u8]) -> Result<Answer, StepFault> {
     let (answer, _) = session.step(&Command::SparseWrite {
         handle: 0,
         offset,
-        bytes: &bytes[..length.min(bytes.len())],
+        bytes,
     })?;
     Ok(answer)
+}
+
+// The front of some bytes.
+fn front(bytes: &[u8], count: u64) -> &[u8] {
+    &bytes[..(count as usize).min(bytes.len())]
 }
 
 // The first run of present bytes behind an offset, and what there is in all.
@@ -112,32 +108,25 @@ fn found_behind(session: &mut Session, offset: u64) -> Result<(Answer, Answer), 
 fn writes_at_borders_make_their_bytes_present(rt: HostRuntime) -> Result<(), Fail> {
     let mut bytes = Vec::new(rt.alloc());
     bytes.resize(MOST as usize, b'z')?;
-    for case in &CASES {
-        let (offset, length, found) = *case;
+    for [offset, length, start, count, items, total] in CASES {
         let mut session = with_object(rt.alloc())?;
-        let answer = written(&mut session, case, &bytes)?;
-        let Some([start, count, items, total]) = found else {
+        let answer = written(&mut session, offset, front(&bytes, length))?;
+        if items == 0 {
             assert_eq!(rt; answer, Answer::Refused(Refusal::RangeEnd));
             continue;
-        };
-        assert_eq!(rt; answer, Answer::Wrote(length as u64), "{offset}");
+        }
+        assert_eq!(rt; answer, Answer::Wrote(length), "{offset}");
         let (run, totals) = found_behind(&mut session, offset)?;
-        assert_eq!(rt;
-            run,
-            Answer::Range {
-                start,
-                length: count
-            },
-            "{offset}"
-        );
-        assert_eq!(rt;
-            totals,
-            Answer::Totals {
-                items,
-                bytes: total
-            },
-            "{offset}"
-        );
+        let expected = Answer::Range {
+            start,
+            length: count,
+        };
+        assert_eq!(rt; run, expected, "{offset}");
+        let expected = Answer::Totals {
+            items,
+            bytes: total,
+        };
+        assert_eq!(rt; totals, expected, "{offset}");
         session.out = MemSink::new(rt.alloc());
         assert_eq!(rt; read_from(&mut session, start, count)?, count, "{offset}");
     }
