@@ -48,14 +48,14 @@ none_joined None = refl
 none_joined (Some b) = refl
 
 -- parts behind parts behind parts
-joined_assoc : (a b c : Parts) → joined (joined a b) c ≡ joined a (joined b c)
+pub joined_assoc : (a b c : Parts) → joined (joined a b) c ≡ joined a (joined b c)
 joined_assoc a b c = same_parts (joined (joined a b) c) (joined a (joined b c)) (append_assoc a.maxes b.maxes c.maxes) (append_assoc a.counts b.counts c.counts) (append_assoc a.ordinary b.ordinary c.ordinary)
 
 map_joined : (a b : Parts) (f : Parts → Parts) (rest : Option Parts) → ((c : Parts) → f c ≡ joined b c) → option_map (joined (joined a b)) rest ≡ option_map (joined a) (option_map f rest)
 map_joined a b f None is = refl
 map_joined a b f (Some c) is = ap Some (joined_assoc a b c ∙ ap (joined a) (sym (is c)))
 
-value_joined : (l : Limit) (value : List ℕ) (c : Parts) → with_value l value c ≡ joined (with_value l value (words_alone [])) c
+pub value_joined : (l : Limit) (value : List ℕ) (c : Parts) → with_value l value c ≡ joined (with_value l value (words_alone [])) c
 value_joined limit.Bytes value c = refl
 value_joined limit.Items value c = refl
 

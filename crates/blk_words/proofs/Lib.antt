@@ -2,3 +2,9 @@ pub mod Refused
 pub mod Joined
 pub mod Named
 pub mod Examples
+pub mod Rows
+pub mod WordFacts
+pub mod Walked
+pub mod Taken
+pub mod Inside
+pub mod Getting

@@ -1,5 +1,5 @@
 -- What ordinary words ask for, by the first of them; and what the words ask for, by their parts.
-use Rattle.std.proofs.Common.{◌≡◌, ℕ, ◌^◌, ◌<◌, ◌≤◌, Bool, true, false, ◌&&◌, List, [], ◌∷◌, Option, None, Some, Result, Ok, Err, ◌⊎◌, inl, inr, refl, ap, ◌∙◌, sym, subst, arith}
+use Rattle.std.proofs.Common.{◌≡◌, ℕ, ◌^◌, ◌<◌, ◌≤◌, Bool, true, false, ◌&&◌, List, [], ◌∷◌, Option, None, Some, is_some, Result, Ok, Err, ◌⊎◌, inl, inr, refl, ap, ◌∙◌, sym, subst, arith}
 use Rattle.std.specs.Bool.{nat_le}
 use Rattle.std.specs.Option.{option_and_then, option_map}
 use Rattle.std.specs.Result.{OkIff, result_ok}
@@ -124,3 +124,8 @@ all_there parts limits bytes items word task b i is numbers asks =
     sym (limits_some parts found (limits_are parts bytes items b i ∙ allowed_is bytes items may)
     ∙ ap (option_and_then (λ (task : Task). Some (record { task = task; limits = found }))) asks
     ∙ ap (λ (l : Bounds). Some (record { task = task; limits = l })) (sym are))
+
+-- what is asked for is there where the parts ask for it
+pub some_asked : {A B : Type 0} (f : A → B) (o : Option A) (asked : Option B) → option_map f o ≡ asked → is_some o ≡ is_some asked
+some_asked f None asked is = ap is_some is
+some_asked f (Some x) asked is = ap is_some is

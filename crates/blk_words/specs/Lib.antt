@@ -2,3 +2,4 @@ pub mod Kinds
 pub mod Apart
 pub mod Tasks
 pub mod Words
+pub mod Parsing

@@ -1,9 +1,10 @@
 //! The words of the command line: what they ask the program for, and with which limits.
 //!
-//! No call takes memory.
+//! The words are checked without memory; their values are given by the crate `clap`, which takes some.
 #![tactic(auto)]
 
 mod apart;
+mod given;
 mod kinds;
 mod order;
 mod reading;

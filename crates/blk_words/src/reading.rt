@@ -1,14 +1,17 @@
 // The words are read.
-ghost use Rattle.std.specs.Prelude.{◌≡◌, IfSome};
+ghost use Rattle.std.specs.Prelude.{◌≡◌, IfErr, IfOk, IfSome, IsSome, is_some};
 ghost use Rattle.std.specs.Option.{option_map};
 ghost use Rattle.blk_words.specs.Tasks.{HasSpelledKey};
-ghost use Rattle.blk_words.specs.Words.{at_most_once, bytes_of, invocation_of, words_ask};
-ghost use Rattle.blk_words.specs.Apart.{value_in};
+ghost use Rattle.blk_words.specs.Words.{asked_by, at_most_once, bytes_of, invocation_of, words_ask};
+ghost use Rattle.blk_words.specs.Apart.{parts_in, value_in};
 
-use crate::apart::take_apart;
+use crate::apart::{Apart, take_apart};
+use crate::given::take_given;
 use crate::order::{Order, read_order};
+use blk_io::NoMemory;
 use blk_model::{Limits, limits};
 use blk_script::read_count;
+use std::alloc::Global;
 
 /// The limits of a cache that is given none.
 pub const DEFAULT_LIMITS: Limits = Limits {
@@ -25,14 +28,37 @@ pub struct Asked<'w> {
     pub limits: Limits,
 }
 
-/// What the words ask for, or `None` where they are no words of the command line.
+/// What the words ask for, or `None` where they are no words of the command line. It fails for want of memory, and then
+/// they are.
 ///
 /// The options `--max` and `--items` may stand anywhere before a word `--`, each once; behind it all words are ordinary.
-pub fn read_words(words: &[String]) -> Option<Asked<'_>>
-    ensures asks { option_map invocation_of result ≡ words_ask (bytes_of words.now) }
+pub fn read_words<'w>(alloc: Global, words: &'w [String]) -> Result<Option<Asked<'w>>, NoMemory>
+    ensures asks { IfOk result (λ asked. option_map invocation_of asked ≡ words_ask (bytes_of words.now)) }
+    ensures spelled { IfOk result (λ asked. IfSome asked (λ one. HasSpelledKey one.order)) }
+    ensures inside { IfErr result (λ _. IsSome (words_ask (bytes_of words.now))) }
+{
+    if !are_inside(words) {
+        return Ok(None);
+    }
+    let apart = take_given(alloc, words)?;
+    Ok(read_apart(apart))
+}
+
+// Whether the words are in the grammar.
+fn are_inside(words: &[String]) -> bool
+    ensures { result ≡ is_some (words_ask (bytes_of words.now)) }
+{
+    match take_apart(words) {
+        Some(apart) => read_apart(apart).is_some(),
+        None => false,
+    }
+}
+
+// What the words ask for, taken apart.
+fn read_apart<'w>(apart: Apart<'w>) -> Option<Asked<'w>>
+    ensures asks { option_map invocation_of result ≡ asked_by (parts_in apart.entry) }
     ensures spelled { IfSome result (λ asked. HasSpelledKey asked.order) }
 {
-    let apart = take_apart(words)?;
     let max_bytes = number_or(apart.max, DEFAULT_LIMITS.max_bytes)?;
     let max_items = number_or(apart.items, u64::from(DEFAULT_LIMITS.max_items))?;
     let limits = limits(max_bytes, u32::try_from(max_items).ok()?)?;

@@ -1,36 +1,8 @@
-use Rattle.std.proofs.Common.{◌∙◌, ℕ, ap, sym}
-use Rattle.std.specs.Option.{option_map}
+use Rattle.std.proofs.Common.{◌∙◌, sym}
 use Rattle.blk_words.specs.Apart.{parts_in}
-use Rattle.blk_words.specs.Words.{at_most_once, invocation_of}
-use Rattle.blk_words.proofs.Named.{all_there, bytes_none, by_parts, items_none, not_allowed, same_word, task_none, too_large, no_word}
+use Rattle.blk_words.specs.Words.{bytes_of}
+use Rattle.blk_words.proofs.Named.{by_parts}
 use Rattle.blk_words.proofs.reading.read_words.Goals as goal
 
-pub returns-in_err-max_bytes-clause-asks : goal.returns-in_err-max_bytes-clause-asks
-returns-in_err-max_bytes-clause-asks c =
-    ap (option_map invocation_of) c.from_residual-in_err-max_bytes.ensures ∙ sym (by_parts _ (parts_in c.in_ok-apart.apart) c.in_ok-apart.ensures ∙ bytes_none (parts_in c.in_ok-apart.apart) (sym c.in_err-max_bytes.ensures))
-
-pub returns-in_err-max_items-clause-asks : goal.returns-in_err-max_items-clause-asks
-returns-in_err-max_items-clause-asks c =
-    ap (option_map invocation_of) c.from_residual-in_err-max_items.ensures
-    ∙ sym (by_parts _ (parts_in c.in_ok-apart.apart) c.in_ok-apart.ensures ∙ items_none (parts_in c.in_ok-apart.apart) (sym (c.in_err-max_items.ensures ∙ ap (λ (n : ℕ). at_most_once n (parts_in c.in_ok-apart.apart).counts) c.from.ensures)))
-
-pub returns-in_err-ok-clause-asks : goal.returns-in_err-ok-clause-asks
-returns-in_err-ok-clause-asks c =
-    ap (option_map invocation_of) c.from_residual-in_err-ok.ensures
-    ∙ sym (by_parts _ (parts_in c.in_ok-apart.apart) c.in_ok-apart.ensures
-    ∙ too_large (parts_in c.in_ok-apart.apart) _ _ (sym c.in_ok-max_bytes.ensures) (sym (c.in_ok-max_items.ensures ∙ ap (λ (n : ℕ). at_most_once n (parts_in c.in_ok-apart.apart).counts) c.from.ensures)) (no_word c.try_from.result _ _ c.try_from.ensures c.in_err-ok.ensures.value))
-
-pub returns-in_err-limits-clause-asks : goal.returns-in_err-limits-clause-asks
-returns-in_err-limits-clause-asks c =
-    ap (option_map invocation_of) c.from_residual-in_err-limits.ensures
-    ∙ sym (by_parts _ (parts_in c.in_ok-apart.apart) c.in_ok-apart.ensures
-    ∙ not_allowed (parts_in c.in_ok-apart.apart) _ _ _ (sym c.in_ok-max_bytes.ensures) (sym (c.in_ok-max_items.ensures ∙ ap (λ (n : ℕ). at_most_once n (parts_in c.in_ok-apart.apart).counts) c.from.ensures)) (same_word c.try_from.result _ _ _ c.try_from.ensures c.in_ok-ok.ensures.value) c.in_err-limits.ensures.allowed.1)
-
-pub returns-in_err-order-clause-asks : goal.returns-in_err-order-clause-asks
-returns-in_err-order-clause-asks c =
-    ap (option_map invocation_of) c.from_residual-in_err-order.ensures ∙ sym (by_parts _ (parts_in c.in_ok-apart.apart) c.in_ok-apart.ensures ∙ task_none (parts_in c.in_ok-apart.apart) (sym c.in_err-order.ensures.task))
-
 pub returns-clause-asks : goal.returns-clause-asks
-returns-clause-asks c =
-    all_there (parts_in c.in_ok-apart.apart) c.in_ok-limits.limits _ _ _ _ (sym c.in_ok-max_bytes.ensures) (sym (c.in_ok-max_items.ensures ∙ ap (λ (n : ℕ). at_most_once n (parts_in c.in_ok-apart.apart).counts) c.from.ensures)) (same_word c.try_from.result _ _ _ c.try_from.ensures c.in_ok-ok.ensures.value) c.in_ok-limits.ensures.numbers (sym c.in_ok-order.ensures.task)
-    ∙ sym (by_parts _ (parts_in c.in_ok-apart.apart) c.in_ok-apart.ensures)
+returns-clause-asks c = c.read_apart.ensures.asks ∙ sym (by_parts (bytes_of c.args.words.now) (parts_in c.in_ok-apart.apart) c.in_ok-apart.ensures)

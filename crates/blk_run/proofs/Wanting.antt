@@ -1,0 +1,84 @@
+-- A run that finds no memory for its words does nothing.
+use Rattle.std.proofs.Common.{◌≡◌, ◌≢◌, ◌≤◌, ◌+◌, ℕ, List, [], length, Option, None, Some, option_map, ◌⊎◌, inl, inr, refl, sym, ◌∙◌, ap, subst, arith}
+use Rattle.blk_image.specs.Image.{Image}
+use Rattle.blk_image.specs.Told.{Told}
+use Rattle.blk_image.proofs.Runs.{passes_none}
+use Rattle.blk_io.specs.Streams.{later_of}
+use Rattle.blk_model.specs.State.{Bounds}
+use Rattle.blk_cache.specs.Opening.{HoldsStill}
+use Rattle.blk_run.specs.declared.ending.Status.{Status}
+use Rattle.blk_run.specs.declared.ending.Status.TheVariants as status
+use Rattle.blk_run.specs.Counting.{Counts, IsDoneOrSink}
+use Rattle.blk_run.specs.Inputs.{IsTakenUpTo}
+use Rattle.blk_run.specs.Session.{DoesNothing, LeavesUnput, Outside}
+use Rattle.blk_run.specs.Work.{Performs, Work, input_lines, no_input, whole_input}
+use Rattle.blk_run.proofs.Counted.{told_totals}
+
+-- nothing was taken
+none_taken : (most : ℕ) (left : Option (List ℕ)) (input : List ℕ) → left ≡ Some input → IsTakenUpTo most left input
+none_taken most left input is = ([], record { behind = input; split = refl; left_is = is; within = omega arith })
+
+unput : (old new : Outside) → DoesNothing old new → LeavesUnput old new
+unput old new nothing = record { unwritten = nothing.unwritten; unprinted = nothing.unprinted }
+
+-- no work is done without memory
+pub performs_nothing : (work : Work) (limits : Bounds) (device source : Type 0) (before now : ℕ) (old new : Outside) → DoesNothing old new → Performs work status.Memory limits device source before now old new
+performs_nothing input_lines limits device source before now old new nothing = record {
+  plays = λ from there usable readings clock input left. nothing;
+  complete = λ from there usable readings clock no_device no_source no_sink input left within. nothing;
+  damage = λ from there damage is. nothing;
+  cause = tt;
+  takes = λ input left. none_taken _ new.left input (nothing.unread ∙ left);
+}
+performs_nothing (whole_input script) limits device source before now old new nothing = record {
+  plays = λ from there usable readings clock input left. (inl nothing.unread, unput old new nothing);
+  complete = λ from there usable readings clock no_device no_source no_sink input left within. record { unwritten = nothing.unwritten; unread = refl; unprinted = nothing.unprinted };
+  damage = λ from there damage is. ((λ input left. inl nothing.unread), unput old new nothing);
+  cause = tt;
+  takes = λ input left. none_taken _ new.left input (nothing.unread ∙ left);
+}
+performs_nothing (no_input script) limits device source before now old new nothing = record {
+  plays = λ from there usable readings clock. nothing;
+  complete = λ from there usable readings clock no_device no_source no_sink. nothing;
+  damage = λ from there damage is. nothing;
+  cause = tt;
+  takes = nothing.unread;
+}
+
+still : (start image : Image) → start ≡ image → HoldsStill start image
+still start image same = subst (HoldsStill start) same (record { usable = λ u. u; formed = λ w. w; found_same = refl })
+
+no_end : {P : Type 0} → IsDoneOrSink status.Memory → P
+no_end (inl e) = absurd (never e)
+  where
+    never : status.Memory ≡ status.Ok → ⊥
+    never c = cc
+no_end (inr e) = absurd (never e)
+  where
+    never : status.Memory ≡ status.Sink → ⊥
+    never c = cc
+
+-- nothing is counted either, and the clock is read once
+pub counts_nothing : (limits : Bounds) (before now : ℕ) (old new : Outside) → DoesNothing old new → new.clock ≡ option_map later_of old.clock → Counts status.Memory limits before now old new
+counts_nothing limits before now old new nothing read = record {
+  answer = λ from there. tt;
+  printed = told_totals status.Memory limits old.folder.files old.written new.written (λ line. nothing.unprinted);
+  damage = λ e. absurd (no_damage e);
+  ended = λ well. no_end well;
+  made = λ well. no_end well;
+  stops = λ start there. passes_none (HoldsStill start) nothing.unwritten (λ image is. still start image (inj start image (sym there ∙ is)));
+  stays = λ _. nothing.unwritten;
+  unwritten = λ e. absurd (no_damage e);
+  silent = λ none. ap (λ (t : Told). t.files) nothing.unwritten ∙ none;
+  clock = read;
+  never = λ e. no_refusal e;
+}
+  where
+    no_damage : status.Memory ≡ status.Damaged → ⊥
+    no_damage c = cc
+
+    no_refusal : status.Memory ≡ status.Refused → ⊥
+    no_refusal c = cc
+
+    inj : (a b : Image) → Some a ≡ Some b → a ≡ b
+    inj a b c = cc
