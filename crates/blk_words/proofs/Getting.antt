@@ -1,5 +1,5 @@
 -- What the getters of a parse give, by the parts of the words.
-use Rattle.std.proofs.Common.{◌≡◌, ◌≤◌, ℕ, List, [], ◌∷◌, length, map, slice_get, codes, cond, Bool, true, false, Option, None, Some, IsSome, refl, sym, ◌∙◌, ap, subst, arith, find}
+use Rattle.std.proofs.Common.{◌≡◌, ℕ, List, [], ◌∷◌, map, slice_get, codes, Option, None, Some, IsSome, refl, sym, ◌∙◌, ap, subst, find}
 use Rattle.std.specs.Borrow.{Bor}
 use Rattle.std.specs.Option.{option_and_then, option_map, option_to_list}
 use Rattle.std.specs.Str.{bytes_eq}

@@ -1,10 +1,9 @@
 -- What the crate `clap` makes of words in the grammar, and that it takes them.
-use Rattle.std.proofs.Common.{◌≡◌, ◌≤◌, ◌<◌, ◌+◌, ℕ, suc, Bool, true, false, not, ◌&&◌, ◌||◌, ◌⊎◌, inl, inr, cond, if◌then◌else◌, List, [], ◌∷◌, ◌++◌, length, codes, slice_get, is_some, Option, None, Some, refl, sym, ◌∙◌, ap, subst, arith, find}
+use Rattle.std.proofs.Common.{◌≡◌, ◌≤◌, ℕ, Bool, true, false, ◌&&◌, ◌⊎◌, inl, inr, if◌then◌else◌, List, [], ◌∷◌, ◌++◌, length, codes, is_some, Option, None, Some, refl, sym, ◌∙◌, ap, subst, arith}
 use Rattle.std.specs.List.{list_all, fold}
-use Rattle.std.specs.Option.{option_and_then, option_map}
-use Rattle.std.specs.Str.{bytes_eq}
+use Rattle.std.specs.Option.{option_map}
 use Rattle.std.proofs.lemmas.List.{append-nil, length-append}
-use Rattle.clap.specs.Walk.{Row, Rule, Text, Walk, all_of, finished, first_of, has_row, walked, with_default}
+use Rattle.clap.specs.Walk.{Row, Rule, Text, Walk, finished, has_row, walked, with_default}
 use Rattle.clap.specs.Simple.{built, entered, filled, matches_of, with_index}
 use Rattle.clap.specs.Takes.{default_passes, entered_passes, is_valid, settle_passes, takes, turn_passes, walk_passes}
 use Rattle.blk_words.specs.declared.kinds.Limit.{Limit}
@@ -17,7 +16,7 @@ use Rattle.blk_words.specs.Words.{at_most_once}
 use Rattle.blk_words.proofs.Joined.{apart_first, beyond, joined_assoc, joined_none, value_joined}
 use Rattle.blk_words.proofs.Rows.{absent_row}
 use Rattle.blk_words.proofs.WordFacts.{IsPlain, IsWritten, is_written, number_is_plain, option_word, setting_word}
-use Rattle.blk_words.proofs.Walked.{IsInside, IsReady, MayUse, Pending, Shows, all_rows, asks, end_step, given, held, held_then, name_of, name_step, nothing, option_absent, option_used, rows_then, rules, set_step, settles, shape, stands, value_of, value_step, values_in, word_more, word_step, word_used, words_of}
+use Rattle.blk_words.proofs.Walked.{IsInside, IsReady, Pending, Shows, all_rows, asks, end_step, held, held_then, name_of, name_step, nothing, option_absent, option_used, rows_then, rules, set_step, settles, shape, stands, value_of, value_step, values_in, word_more, word_step, word_used, words_of}
 
 -- Each word passes.
 set_passes : (l : Limit) (value : Text) (rows : List Row) (pending : Pending) (b : Bool) → settle_passes rules false (held rows pending) ≡ true → has_row (name_of l) (all_rows rows pending) ≡ false → turn_passes shape [] (stands rows pending b false) (setting_word l value) ≡ true

@@ -1,26 +1,22 @@
 -- The words of the grammar, one after another, as the crate `clap` walks over them.
-use Rattle.std.proofs.Common.{◌≡◌, ◌≤◌, ◌<◌, ◌+◌, ℕ, suc, Bool, true, false, not, ◌&&◌, ◌||◌, ◌==◌, if◌then◌else◌, List, [], ◌∷◌, ◌++◌, length, codes, Option, None, Some, ◌⊎◌, inl, inr, refl, sym, ◌∙◌, ap, subst, arith}
+use Rattle.std.proofs.Common.{◌≡◌, ◌≤◌, ℕ, suc, Bool, true, false, not, ◌&&◌, ◌||◌, List, [], ◌∷◌, ◌++◌, length, codes, Option, None, Some, ◌⊎◌, inl, inr, refl, sym, ◌∙◌, ap, arith}
 use Rattle.std.specs.Bool.{nat_le}
-use Rattle.std.specs.List.{list_all, fold}
-use Rattle.std.specs.Option.{option_map}
+use Rattle.std.specs.List.{list_all}
 use Rattle.std.proofs.lemmas.Bool.{le-leb}
-use Rattle.std.proofs.lemmas.List.{append-nil, append_assoc, length-append}
+use Rattle.std.proofs.lemmas.List.{append-nil, append_assoc}
 use Rattle.clap.specs.Lexer.{usize_max}
-use Rattle.clap.specs.Walk.{Held, Row, Rule, Text, Waiting, Walk, all_of, has_row, idle, option, positional, settled_rows, values_or_missing, walked, with_values, without}
+use Rattle.clap.specs.Walk.{Held, Row, Rule, Text, Waiting, Walk, all_of, idle, option, positional, settled_rows, walked, with_values}
 use Rattle.clap.specs.Simple.{Shape, built}
-use Rattle.clap.specs.Takes.{settle_passes, turn_passes, walk_passes}
+use Rattle.clap.specs.Takes.{settle_passes}
 use Rattle.clap.specs.declared.builder.value_parser.Reading.TheVariants.{AsWritten}
 use Rattle.clap.specs.declared.parser.matches.ValueSource.TheVariants.{CommandLine}
 use Rattle.blk_words.specs.declared.kinds.Limit.{Limit}
 use Rattle.blk_words.specs.declared.kinds.Limit.TheVariants as limit
-use Rattle.blk_words.specs.Kinds.{Word, ends, names, sets, says, unknown, word_of}
-use Rattle.blk_words.specs.Apart.{Parts, joined, one_word, taken_apart, with_value, with_word, words_alone}
+use Rattle.blk_words.specs.Apart.{Parts, joined, with_value, words_alone}
 use Rattle.blk_words.specs.Parsing.{program}
-use Rattle.blk_words.specs.Tasks.{number_word}
 use Rattle.blk_words.specs.Words.{at_most_once}
-use Rattle.blk_words.proofs.Joined.{apart_first, beyond, joined_assoc, joined_none, value_joined}
-use Rattle.blk_words.proofs.Rows.{absent_same, absent_row, pick, values_kept, values_there, values_used}
-use Rattle.blk_words.proofs.WordFacts.{IsPlain, IsWritten, is_written, number_is_plain, option_word, setting_word}
+use Rattle.blk_words.proofs.Rows.{absent_same, absent_row, values_kept, values_there, values_used}
+use Rattle.blk_words.proofs.WordFacts.{IsPlain, option_word, setting_word}
 
 -- the command as it is built
 abbrev pub shape : Shape

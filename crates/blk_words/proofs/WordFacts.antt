@@ -1,5 +1,5 @@
 -- What a word of each kind is written like, and how the crate `clap` reads it.
-use Rattle.std.proofs.Common.{◌≡◌, ℕ, Bool, true, false, not, ◌&&◌, ◌||◌, ◌==◌, if◌then◌else◌, List, [], ◌∷◌, ◌++◌, codes, take, drop, Option, None, Some, Result, Ok, Err, refl, sym, ◌∙◌, ap, arith}
+use Rattle.std.proofs.Common.{◌≡◌, ℕ, Bool, true, false, ◌&&◌, ◌==◌, if◌then◌else◌, List, [], ◌∷◌, ◌++◌, codes, take, drop, None, Some, Ok, Err, refl, sym, ◌∙◌, ap, arith}
 use Rattle.std.specs.Bool.{nat_le}
 use Rattle.std.specs.List.{list_all}
 use Rattle.std.specs.Str.{bytes_eq}

@@ -1,5 +1,5 @@
 -- The command line as the crate `clap` is told it.
-use Rattle.std.specs.Prelude.{ℕ, true, List, [], ◌∷◌, codes, Some}
+use Rattle.std.specs.Prelude.{ℕ, true, List, codes, Some}
 use Rattle.clap.specs.Lexer.{usize_max}
 use Rattle.clap.specs.Walk.{Rule}
 use Rattle.clap.specs.Simple.{App, new_app, new_rule, on_top, with_rule}

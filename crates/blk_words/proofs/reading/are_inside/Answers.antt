@@ -1,4 +1,4 @@
-use Rattle.std.proofs.Common.{◌∙◌, ap, is_some, sym}
+use Rattle.std.proofs.Common.{◌∙◌, sym}
 use Rattle.blk_words.specs.Apart.{parts_in}
 use Rattle.blk_words.specs.Words.{bytes_of, invocation_of}
 use Rattle.blk_words.proofs.Named.{by_parts, some_asked}
