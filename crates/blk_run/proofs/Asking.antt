@@ -1,29 +1,26 @@
 -- What a step of a cache makes of a run.
-use Rattle.std.proofs.Common.{ℕ, ◌+◌, ◌*◌, ◌<◌, ◌≤◌, ◌≡◌, ◌^◌, ◌⊎◌, inl, inr, Bool, ◌||◌, true, false, List, [], ◌∷◌, ◌++◌, length, take, Option, None, Some, Ok, Err, Result, IfOk, OnOk, refl, sym, ◌∙◌, ap, subst, arith}
+use Rattle.std.proofs.Common.{ℕ, ◌+◌, ◌≡◌, Bool, ◌||◌, true, false, List, [], ◌∷◌, ◌++◌, length, Option, None, Some, Ok, Err, Result, IfOk, OnOk, refl, sym, ◌∙◌, ap, subst, arith}
 use Rattle.std.specs.Option.{option_map, ForSome}
 use Rattle.std.proofs.lemmas.List.{append-nil, length-append}
 use Rattle.blk_image.specs.Image.{Image}
-use Rattle.blk_image.specs.Steps.{TrailStep, Note, after}
-use Rattle.blk_image.specs.Told.{Told, Applies}
-use Rattle.blk_io.specs.Streams.{Appends, Readings, reading_of, later_of}
-use Rattle.blk_io.specs.declared.fault.Damage.{Damage}
+use Rattle.blk_image.specs.Steps.{Note, after}
+use Rattle.blk_image.specs.Told.{Told}
+use Rattle.blk_io.specs.Streams.{Appends, Readings, later_of}
 use Rattle.blk_model.specs.declared.Answer.{Answer}
 use Rattle.blk_model.specs.Reply.{answer_of}
 use Rattle.blk_model.specs.Request.{Request}
 use Rattle.blk_model.specs.State.{State}
-use Rattle.blk_model.specs.Step.{Outcome, step}
+use Rattle.blk_model.specs.Step.{step}
 use Rattle.blk_kept.specs.Commands.{ForKept, IsNoted, IsStepped, note_number}
 use Rattle.blk_headline.specs.Script.{is_refusal, is_refused, outcome_text, refusal_of}
-use Rattle.blk_headline.specs.Run.{Stamped, Turn, command_turn, commands_of, text_of, refuse, outcome_in, state_after, state_then, clock_after}
-use Rattle.blk_headline.specs.Progress.{Progress, Stops}
+use Rattle.blk_headline.specs.Run.{Stamped, clock_after}
 use Rattle.blk_headline.proofs.CommandStates.{state_after-one}
 use Rattle.blk_headline.proofs.Composing.{one_more, some_after, stopped}
 use Rattle.blk_headline.proofs.InTurn.{note_exact}
 use Rattle.blk_cache.specs.declared.fault.StepFault.{StepFault}
 use Rattle.blk_cache.specs.declared.fault.StepFault.TheVariants as fault
 use Rattle.blk_cache.specs.Stepping.{IfDone, IfStepDamaged}
-use Rattle.blk_run.specs.Playing.{SoFar, StandsAt, Around, AreMade, AreMadeTo, AreStopped, Asks, Plays, asked_turn, has_refused, state_now, with_more}
-use Rattle.blk_run.proofs.Parts.{stands_fewer}
+use Rattle.blk_run.specs.Playing.{SoFar, StandsAt, Around, Plays, asked_turn, has_refused, state_now, with_more}
 
 -- what is told around, by its parts
 abbrev pub around : Told → Option (List ℕ) → Option Readings → Bool → Around

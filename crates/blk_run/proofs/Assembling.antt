@@ -1,5 +1,5 @@
 -- How a session ended, by what its parts say: its opening, its turns, its closings and its end.
-use Rattle.std.proofs.Common.{ℕ, zero, suc, ◌+◌, ◌*◌, ◌^◌, ◌<◌, ◌≤◌, ◌≡◌, ◌⊎◌, ◌||◌, Bool, true, false, inl, inr, List, [], ◌∷◌, ◌++◌, length, take, Option, Some, None, Result, Ok, Err, refl, sym, ◌∙◌, ap, subst, arith, append_assoc}
+use Rattle.std.proofs.Common.{ℕ, zero, suc, ◌+◌, ◌^◌, ◌<◌, ◌≡◌, ◌⊎◌, true, false, inl, inr, List, [], ◌∷◌, ◌++◌, length, take, Option, Some, Ok, Err, refl, sym, ◌∙◌, ap, subst, arith, append_assoc}
 use Rattle.std.specs.Option.{option_map, ForSome}
 use Rattle.std.proofs.lemmas.List.{append-nil, length-append, take-append-le}
 use Rattle.blk_image.specs.Image.{Image}
@@ -16,8 +16,8 @@ use Rattle.blk_io.specs.declared.fault.Fault.TheVariants as fault
 use Rattle.blk_io.specs.Streams.{Appends, Readings, later_of}
 use Rattle.blk_headline.specs.Lines.{lines, whole_lines}
 use Rattle.blk_headline.specs.Opening.{FailsToOpen, HoldsStill, IsUsable, Opens, open_mark}
-use Rattle.blk_headline.specs.Progress.{IsWholeRun, Progress, Stops}
-use Rattle.blk_headline.specs.Run.{Run, Stamped, Turn, bound_names, clock_after, closings, commands, commands_of, cut_after, last_state, refuse, run_of, state_after, text_of, turns}
+use Rattle.blk_headline.specs.Progress.{IsWholeRun, Stops}
+use Rattle.blk_headline.specs.Run.{Run, Stamped, Turn, bound_names, clock_after, closings, commands, commands_of, cut_after, refuse, run_of, state_after, text_of, turns}
 use Rattle.blk_headline.specs.Script.{Script, session_script}
 use Rattle.blk_headline.proofs.Composing.{ended, some_after}
 use Rattle.blk_headline.proofs.Openings.{begun, failed}
@@ -25,13 +25,12 @@ use Rattle.blk_headline.proofs.Turns.{clock_after-more, commands_of-append, more
 use Rattle.blk_cache.specs.Opening.{EndsSession}
 use Rattle.blk_run.specs.declared.ending.Status.TheVariants as status
 use Rattle.blk_cache.specs.declared.fault.StepFault.TheVariants as step_fault
-use Rattle.blk_run.specs.declared.input.InputEnd.{InputEnd}
 use Rattle.blk_run.specs.declared.input.InputEnd.TheVariants as end
 use Rattle.blk_run.specs.Closings.{ClosesAll}
-use Rattle.blk_run.specs.Inputs.{IsPastBudget, IsReadWhole, IsTaken, IsTakenUpTo, PlaysInput}
-use Rattle.blk_run.specs.Playing.{AreMade, AreMadeTo, AreStopped, Around, PlaysPart, SoFar, StandsAt, state_now, with_more}
-use Rattle.blk_run.specs.Ending.{ClosesBy, EndsRun, IsClosed}
-use Rattle.blk_run.specs.Session.{EndsAs, FixedRuns, IsEnded, IsUnopened, Outside, PrintsUpTo, Runs, all_made, session_run, taken, unprinted}
+use Rattle.blk_run.specs.Inputs.{IsPastBudget, IsTaken, IsTakenUpTo, PlaysInput}
+use Rattle.blk_run.specs.Playing.{AreMade, AreMadeTo, Around, PlaysPart, SoFar, StandsAt, state_now, with_more}
+use Rattle.blk_run.specs.Ending.{EndsRun}
+use Rattle.blk_run.specs.Session.{EndsAs, FixedRuns, IsEnded, IsUnopened, Outside, Runs, all_made, session_run, taken, unprinted}
 
 -- The end, behind the commands of a run.
 

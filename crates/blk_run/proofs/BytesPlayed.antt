@@ -1,21 +1,20 @@
 -- The lines of some bytes are played in turn.
-use Rattle.std.proofs.Common.{ℕ, suc, ◌+◌, ◌*◌, ◌<◌, ◌≤◌, ◌≡◌, ◌==◌, Bool, true, false, List, [], ◌∷◌, ◌++◌, length, take, drop, Option, None, Some, Ok, Err, Result, refl, sym, ◌∙◌, ap, subst, arith, append_assoc}
+use Rattle.std.proofs.Common.{ℕ, ◌+◌, ◌<◌, ◌≤◌, ◌≡◌, List, [], ◌∷◌, ◌++◌, length, take, drop, None, Some, Ok, Err, Result, refl, sym, ◌∙◌, ap, subst, arith}
 use Rattle.std.specs.List.{position}
-use Rattle.std.specs.Option.{option_map, ForSome}
-use Rattle.std.proofs.lemmas.List.{append-nil, length-append, length-drop, length-take-le}
+use Rattle.std.proofs.lemmas.List.{length-append, length-drop, length-take-le}
 use Rattle.std.proofs.lemmas.List.Quantifiers.{position-Some}
 use Rattle.blk_image.specs.Image.{Image}
 use Rattle.blk_io.specs.Streams.{Readings}
 use Rattle.blk_model.specs.State.{State}
 use Rattle.blk_headline.specs.Lines.{Cut, with_bytes}
 use Rattle.blk_headline.specs.Script.{session_script}
-use Rattle.blk_headline.specs.Run.{Turn, commands_of, state_after, clock_after, turns}
+use Rattle.blk_headline.specs.Run.{Turn, turns}
 use Rattle.blk_cache.specs.declared.fault.StepFault.{StepFault}
 use Rattle.blk_run.specs.declared.line.Line.{Line}
 use Rattle.blk_run.specs.Pending.{Holds}
-use Rattle.blk_run.specs.Playing.{SoFar, StandsAt, Around, PlaysPart, cut_behind, state_now}
+use Rattle.blk_run.specs.Playing.{SoFar, StandsAt, Around, PlaysPart, cut_behind}
 use Rattle.blk_run.proofs.Cuts.{cut_as, cut_at, cut_more, cut_none, ends_line, rest_few}
-use Rattle.blk_run.proofs.Parts.{IsThen, part_fewer, part_none, part_only, part_then, stands_fewer}
+use Rattle.blk_run.proofs.Parts.{IsThen, part_fewer, part_none, part_only, part_then}
 use Rattle.blk_run.proofs.RunLaws.{more_lines}
 
 -- lines, counted from a number, as a part of a script

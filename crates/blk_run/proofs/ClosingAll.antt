@@ -2,7 +2,7 @@
 use Rattle.std.specs.List.{position_or_len}
 use Rattle.std.specs.Prelude.{nat_lt}
 use Rattle.std.proofs.lemmas.Bool.{ltb-false}
-use Rattle.std.proofs.Common.{ℕ, zero, suc, cond, get_or, ◌+◌, ◌*◌, ◌<◌, ◌≤◌, ◌≡◌, Bool, true, false, List, [], ◌∷◌, ◌++◌, length, Option, None, Some, Ok, Err, Result, OnOk, IfSome, refl, sym, ◌∙◌, ap, subst, arith, append_assoc}
+use Rattle.std.proofs.Common.{ℕ, zero, suc, cond, get_or, ◌+◌, ◌*◌, ◌<◌, ◌≤◌, ◌≡◌, Bool, true, false, List, [], ◌∷◌, ◌++◌, length, Option, None, Some, Ok, Err, Result, IfSome, refl, sym, ◌∙◌, ap, subst, arith, append_assoc}
 use Rattle.std.specs.Prelude.{IsErrAnd, is_some, position, slice_index_or, slice_set}
 use Rattle.std.specs.List.{count_by}
 use Rattle.std.specs.Option.{option_map, ForSome}
@@ -26,7 +26,7 @@ use Rattle.blk_headline.proofs.Closing.{few_names, least_closed, least_of_slots,
 use Rattle.blk_headline.proofs.CommandStates.{state_after-one}
 use Rattle.blk_headline.proofs.Composing.{stopped}
 use Rattle.blk_run.specs.Playing.{SoFar, StandsAt, state_now, with_more}
-use Rattle.blk_run.specs.Closings.{AreClosed, Closes, ClosesAll}
+use Rattle.blk_run.specs.Closings.{Closes, ClosesAll}
 use Rattle.blk_run.proofs.Parts.{handed_on, stands_fewer, stands_joined, stands_none}
 use Rattle.blk_headline.proofs.Turns.{clock_after-more}
 use Rattle.blk_run.proofs.RunLaws.{read_twice}

@@ -1,5 +1,5 @@
 -- Where nothing failed the whole output was printed.
-use Rattle.std.proofs.Common.{ℕ, ◌+◌, ◌≤◌, ◌≡◌, ◌⊎◌, List, [], ◌∷◌, ◌++◌, length, Option, refl, sym, ◌∙◌, ap, subst, arith}
+use Rattle.std.proofs.Common.{ℕ, ◌≤◌, ◌≡◌, List, ◌∷◌, ◌++◌, length, Option, refl, ◌∙◌, ap, arith}
 use Rattle.std.specs.Option.{option_map}
 use Rattle.std.proofs.lemmas.List.{length-append}
 use Rattle.blk_image.specs.Image.{Image}
@@ -12,7 +12,7 @@ use Rattle.blk_headline.specs.Script.{Script}
 use Rattle.blk_run.specs.declared.ending.Status.{Status}
 use Rattle.blk_run.specs.declared.ending.Status.TheVariants as status
 use Rattle.blk_run.specs.Inputs.{IsPastBudget}
-use Rattle.blk_run.specs.Session.{Ending, FixedMayEnd, FixedRuns, FixedScript, IsComplete, IsCompleteScript, MayEnd, Outside, Printed, Runs, Session, all_made, ended_run, fixed_run, session_run, taken, unprinted}
+use Rattle.blk_run.specs.Session.{Ending, FixedMayEnd, FixedScript, IsComplete, IsCompleteScript, MayEnd, Outside, Printed, Session, all_made, ended_run, fixed_run, session_run, taken, unprinted}
 
 printed_as : (run other : Run) (old new : Option (List ℕ)) → run ≡ other → new ≡ option_map (λ (w : List ℕ). w ++ text_of run.turns) old → new ≡ option_map (λ (w : List ℕ). w ++ text_of other.turns) old
 printed_as run other old new same printed = printed ∙ ap (λ (r : Run). option_map (λ (w : List ℕ). w ++ text_of r.turns) old) same

@@ -1,21 +1,21 @@
 -- Turns of a fixed script.
-use Rattle.std.proofs.Common.{ℕ, ◌+◌, ◌*◌, ◌<◌, ◌≤◌, ◌≡◌, Bool, ◌||◌, true, false, if◌then◌else◌, List, [], ◌∷◌, ◌++◌, length, take, Option, None, Some, Ok, Err, Result, drop, map, get_or, refl, sym, ◌∙◌, ap, subst, arith, append_assoc, add-one, drop-cons}
+use Rattle.std.proofs.Common.{ℕ, ◌+◌, ◌<◌, ◌≤◌, ◌≡◌, Bool, ◌||◌, true, false, if◌then◌else◌, List, [], ◌∷◌, ◌++◌, length, Option, None, Some, Ok, Err, Result, drop, map, get_or, refl, sym, ◌∙◌, ap, subst, append_assoc, add-one, drop-cons}
 use Rattle.std.specs.Option.{option_map, ForSome}
 use Rattle.std.specs.Prelude.{IsErrAnd}
 use Rattle.std.proofs.lemmas.List.{append-nil, drop_all, length-append}
 use Rattle.blk_image.specs.Image.{Image}
 use Rattle.blk_image.specs.Told.{Told}
-use Rattle.blk_io.specs.Streams.{Appends, Readings, reading_of, later_of}
+use Rattle.blk_io.specs.Streams.{Readings, reading_of, later_of}
 use Rattle.blk_model.specs.declared.Answer.{Answer}
 use Rattle.blk_model.specs.declared.Command.{Command}
 use Rattle.blk_model.specs.Request.{Request, request_of}
 use Rattle.blk_model.specs.State.{State}
 use Rattle.blk_headline.specs.Script.{Script, ended, until_refused, is_refused}
-use Rattle.blk_headline.specs.Run.{Stamped, Turn, clock_after, command_turn, commands_of, outcome_in, refuse, stamped_by, state_after, text_of, turns}
+use Rattle.blk_headline.specs.Run.{Stamped, Turn, clock_after, commands_of, outcome_in, stamped_by, state_after, turns}
 use Rattle.blk_cache.specs.declared.fault.StepFault.{StepFault}
 use Rattle.blk_cache.specs.declared.fault.StepFault.TheVariants as fault
 use Rattle.blk_run.specs.Fixed.{GoOn, PlaysUpTo}
-use Rattle.blk_run.specs.Playing.{SoFar, StandsAt, Around, AreMade, AreMadeTo, AreStopped, Asks, Plays, PlaysPart, asked_turn, has_refused, refuses, state_now, with_more}
+use Rattle.blk_run.specs.Playing.{SoFar, StandsAt, Around, AreMade, Asks, Plays, PlaysPart, asked_turn, refuses, state_now, with_more}
 use Rattle.blk_run.proofs.Asking.{around}
 use Rattle.blk_run.proofs.Parts.{made_then, made_then_to, made_then_stopped, made_to_only, stopped_only, stands_none}
 use Rattle.blk_run.proofs.RunLaws.{or_none}

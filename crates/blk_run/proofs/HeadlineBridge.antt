@@ -1,8 +1,7 @@
 -- What a cache promises, as the laws on runs take it.
-use Rattle.std.proofs.Common.{◌≡◌, ℕ, ◌<◌, ◌+◌, Bool, true, false, List, [], ◌∷◌, ◌++◌, length, Option, Some, None, inl, inr, refl, sym, ◌∙◌, ap, subst}
+use Rattle.std.proofs.Common.{◌≡◌, ℕ, Bool, true, false, List, [], ◌∷◌, ◌++◌, length, Option, Some, None, inl, inr, refl, sym, ◌∙◌, ap}
 use Rattle.std.specs.Prelude.{All, ◌&&◌, ◌==◌, is_some, slice_index_or}
 use Rattle.std.specs.List.{position}
-use Rattle.std.specs.Option.{ForSome}
 use Rattle.std.specs.Str.{bytes_eq}
 use Rattle.std.proofs.lemmas.Bool.{eqb-true}
 use Rattle.std.proofs.lemmas.List.Elements.{All-head, All-tail}
@@ -18,8 +17,8 @@ use Rattle.blk_volume.specs.Found.{found}
 use Rattle.blk_volume.specs.Layout.{Layout}
 use Rattle.blk_volume.specs.StandsFor.{StandsFor}
 use Rattle.blk_kept.proofs.Keeping.{kept-stands}
-use Rattle.blk_handles.specs.Bindings.{Binding, Bindings, binding_of}
-use Rattle.blk_repair.specs.Counters.{crash_place, is_in_crash_word, writes_crash_word}
+use Rattle.blk_handles.specs.Bindings.{Binding, binding_of}
+use Rattle.blk_repair.specs.Counters.{is_in_crash_word, writes_crash_word}
 use Rattle.blk_cache.specs.declared.cache.Cache.{Cache}
 use Rattle.blk_cache.specs.CacheKeeping.{IsBoundAs, KeepsState}
 use Rattle.blk_cache.specs.Opening as opening

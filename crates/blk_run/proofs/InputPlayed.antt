@@ -1,10 +1,9 @@
 -- The lines of an input are played piece after piece.
-use Rattle.std.proofs.Common.{ℕ, suc, get_or, ◌+◌, ◌-◌, ◌*◌, ◌<◌, ◌≤◌, ◌≡◌, Bool, true, false, List, [], ◌∷◌, ◌++◌, length, take, drop, Option, None, Some, Ok, Err, Result, refl, sym, ◌∙◌, ap, subst, arith, append_assoc}
+use Rattle.std.proofs.Common.{ℕ, get_or, ◌+◌, ◌-◌, ◌<◌, ◌≤◌, ◌≡◌, List, [], ◌∷◌, ◌++◌, length, take, drop, Option, Some, Ok, Err, Result, refl, sym, ◌∙◌, ap, subst, arith, append_assoc}
 use Rattle.std.specs.Option.{option_map, ForSome}
 use Rattle.std.specs.Prelude.{IsErrAnd}
 use Rattle.std.proofs.lemmas.List.{append-nil, length-append, length-take-le, take-append-drop, take-take, take_more}
 use Rattle.blk_image.specs.Image.{Image}
-use Rattle.blk_io.specs.Streams.{Readings}
 use Rattle.blk_model.specs.State.{State}
 use Rattle.blk_headline.specs.Lines.{Cut, cut, lines, nothing_cut, open_line, whole_lines, with_bytes}
 use Rattle.blk_headline.specs.Script.{session_script}
@@ -14,11 +13,11 @@ use Rattle.blk_cache.specs.declared.fault.StepFault.TheVariants as fault
 use Rattle.blk_run.specs.declared.input.InputEnd.{InputEnd}
 use Rattle.blk_run.specs.declared.input.InputEnd.TheVariants as end
 use Rattle.blk_run.specs.declared.line.Line.{Line}
-use Rattle.blk_run.specs.Inputs.{ArePlayedOf, IsPastBudget, IsReadWhole, IsTaken, IsTakenUpTo, PlaysInput}
+use Rattle.blk_run.specs.Inputs.{IsPastBudget, IsReadWhole, IsTakenUpTo, PlaysInput}
 use Rattle.blk_run.specs.Pending.{Holds}
 use Rattle.blk_run.specs.Playing.{SoFar, StandsAt, Around, Plays, PlaysPart, cut_behind}
 use Rattle.blk_run.proofs.Cuts.{behind_lines, cut_more, with_bytes-append}
-use Rattle.blk_run.proofs.Parts.{handed_on, part_fewer, part_none, part_only, part_then}
+use Rattle.blk_run.proofs.Parts.{handed_on, part_fewer, part_none, part_then}
 use Rattle.blk_run.proofs.BytesPlayed.{lines_part, lines_then}
 
 -- of an input these bytes were taken, and the others are left

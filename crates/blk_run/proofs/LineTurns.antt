@@ -1,5 +1,5 @@
 -- The turn of one line.
-use Rattle.std.proofs.Common.{ℕ, ◌+◌, ◌*◌, ◌<◌, ◌≤◌, ◌≡◌, ◌≢◌, Bool, ◌||◌, true, false, if◌then◌else◌, List, [], ◌∷◌, ◌++◌, length, take, Option, None, Some, Ok, Err, Result, OnOk, refl, sym, ◌∙◌, ap, subst, arith, nat_lt, ◌==◌}
+use Rattle.std.proofs.Common.{ℕ, ◌<◌, ◌≤◌, ◌≡◌, Bool, ◌||◌, true, false, if◌then◌else◌, List, [], ◌∷◌, ◌++◌, length, Option, None, Some, Ok, Err, Result, OnOk, refl, sym, ◌∙◌, ap, arith, ◌==◌}
 use Rattle.std.proofs.lemmas.Bool.{lt-ltb}
 use Rattle.blk_script.specs.Line.{by_fields}
 use Rattle.blk_script.specs.Fields.{line_fields}
@@ -8,7 +8,6 @@ use Rattle.std.proofs.lemmas.List.{append-nil}
 use Rattle.blk_image.specs.Image.{Image}
 use Rattle.blk_image.specs.Told.{Told}
 use Rattle.blk_io.specs.Streams.{Appends, Readings, reading_of}
-use Rattle.blk_io.specs.declared.fault.Damage.{Damage}
 use Rattle.blk_model.specs.declared.Answer.{Answer}
 use Rattle.blk_model.specs.Request.{Request}
 use Rattle.blk_model.specs.State.{State}
@@ -16,13 +15,13 @@ use Rattle.blk_script.specs.declared.fault.LineFault.{LineFault}
 use Rattle.blk_script.specs.declared.fault.LineFault.TheVariants as line_fault
 use Rattle.blk_script.specs.Line.{read_text}
 use Rattle.blk_script.specs.Reply.{line_fault_text}
-use Rattle.blk_headline.specs.Script.{Script, ended, errs, line_script, session_script}
-use Rattle.blk_headline.specs.Run.{Stamped, Turn, commands_of, text_of, error_turn, turns, command_turn, outcome_in, stamped_by, clock_after}
+use Rattle.blk_headline.specs.Script.{ended, line_script, session_script}
+use Rattle.blk_headline.specs.Run.{Turn, error_turn, turns, clock_after}
 use Rattle.blk_cache.specs.declared.fault.StepFault.{StepFault}
 use Rattle.blk_cache.specs.declared.fault.StepFault.TheVariants as fault
 use Rattle.blk_run.specs.Errors.{IsOnlySink}
-use Rattle.blk_run.specs.Playing.{SoFar, StandsAt, Around, AreMade, AreMadeTo, AreStopped, Asks, Plays, PlaysPart, asked_turn, has_refused, refuses, state_now, with_more}
-use Rattle.blk_run.proofs.Parts.{stands_fewer, stands_none}
+use Rattle.blk_run.specs.Playing.{SoFar, StandsAt, Around, AreMade, Asks, Plays, PlaysPart, asked_turn, refuses, state_now}
+use Rattle.blk_run.proofs.Parts.{stands_none}
 use Rattle.blk_run.proofs.Asking.{around}
 
 -- parts with the same turns

@@ -1,10 +1,10 @@
 -- What is asked for is done, by what the call that does it says.
-use Rattle.std.proofs.Common.{ℕ, ◌+◌, ◌^◌, ◌<◌, ◌≤◌, ◌≡◌, inr, inl, List, [], ◌∷◌, ◌++◌, length, take, Option, None, Some, Result, Ok, Err, refl, sym, ◌∙◌, ap, subst, arith, append_assoc}
+use Rattle.std.proofs.Common.{ℕ, ◌+◌, ◌<◌, ◌≤◌, ◌≡◌, inr, inl, List, [], ◌∷◌, ◌++◌, length, take, Option, Result, Ok, refl, sym, ◌∙◌, ap, subst, arith, append_assoc}
 use Rattle.std.specs.Option.{ForSome}
 use Rattle.std.proofs.lemmas.List.{append-nil, length-append, length-take}
 use Rattle.blk_image.specs.Checks.{Damage}
 use Rattle.blk_image.specs.Image.{Image}
-use Rattle.blk_image.specs.Told.{Rises, Stays}
+use Rattle.blk_image.specs.Told.{Rises}
 use Rattle.blk_io.specs.Streams.{Readings}
 use Rattle.blk_model.specs.State.{Bounds}
 use Rattle.blk_headline.specs.Opening.{IsUsable}

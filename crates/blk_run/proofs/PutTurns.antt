@@ -1,5 +1,5 @@
 -- Turns of the script of `put`.
-use Rattle.std.proofs.Common.{ℕ, ◌+◌, ◌*◌, ◌<◌, ◌≤◌, ◌≡◌, Bool, ◌||◌, ◌&&◌, true, false, not, if◌then◌else◌, List, [], ◌∷◌, ◌++◌, length, take, Option, None, Some, Ok, Err, Result, OnOk, refl, sym, ◌∙◌, ap, subst, arith}
+use Rattle.std.proofs.Common.{ℕ, ◌≡◌, Bool, ◌||◌, true, false, not, if◌then◌else◌, List, [], ◌∷◌, ◌++◌, Option, None, Some, Ok, Err, Result, refl, sym, ◌∙◌, ap, subst, arith}
 use Rattle.std.specs.Option.{option_map, ForSome}
 use Rattle.std.specs.Prelude.{IsErrAnd}
 use Rattle.std.proofs.lemmas.List.{append-nil}
@@ -7,7 +7,6 @@ use Rattle.blk_image.specs.Image.{Image}
 use Rattle.blk_image.specs.Told.{Told}
 use Rattle.blk_io.specs.Streams.{Appends, Readings, reading_of, later_of}
 use Rattle.blk_model.specs.declared.Answer.{Answer}
-use Rattle.blk_model.specs.declared.Answer.TheVariants as answer
 use Rattle.blk_model.specs.declared.Refusal.{Refusal}
 use Rattle.blk_model.specs.Refusals.{evicted, refused}
 use Rattle.blk_model.specs.Reply.{answer_of, answered}
@@ -16,13 +15,13 @@ use Rattle.blk_model.specs.State.{State}
 use Rattle.blk_model.specs.Step.{Outcome, outcome, reply, step}
 use Rattle.blk_script.specs.Reply.{reply_text}
 use Rattle.blk_headline.specs.Script.{Script, ended, is_missing, is_missing_refusal, is_refused, outcome_text, put_after, put_script, refusal_of, until_refused}
-use Rattle.blk_headline.specs.Run.{Stamped, Turn, clock_after, command_turn, commands_of, outcome_in, refuse, stamped_by, state_after, text_of, turns}
+use Rattle.blk_headline.specs.Run.{Stamped, Turn, clock_after, command_turn, commands_of, outcome_in, refuse, state_after, text_of, turns}
 use Rattle.blk_cache.specs.declared.fault.StepFault.{StepFault}
 use Rattle.blk_cache.specs.declared.fault.StepFault.TheVariants as fault
 use Rattle.blk_run.specs.Fixed.{GoOn, PlaysUpTo, opened_answer}
 use Rattle.blk_cache.specs.Stepping.{IfSink}
 use Rattle.blk_run.specs.Errors.{IsOnlySink}
-use Rattle.blk_run.specs.Playing.{SoFar, StandsAt, Around, AreMade, AreMadeTo, AreStopped, Asks, Plays, PlaysPart, asked_turn, has_refused, refuses, state_now, with_more}
+use Rattle.blk_run.specs.Playing.{SoFar, AreMade, AreMadeTo, Asks, Plays, PlaysPart, asked_turn, refuses, state_now, with_more}
 use Rattle.blk_run.proofs.Asking.{around}
 use Rattle.blk_run.proofs.FixedTurns.{fault_is, first_fault, no_more}
 use Rattle.blk_run.proofs.RunLaws.{or_none}

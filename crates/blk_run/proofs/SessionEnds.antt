@@ -1,5 +1,5 @@
 -- How a session ends, by how its input came to an end and how the folder was closed.
-use Rattle.std.proofs.Common.{ℕ, ◌+◌, ◌*◌, ◌^◌, ◌<◌, ◌≤◌, ◌≡◌, ◌≢◌, ◌⊎◌, inl, inr, Bool, true, false, List, [], ◌∷◌, ◌++◌, length, take, Option, None, Some, Result, Ok, Err, refl, sym, ◌∙◌, ap, subst, arith}
+use Rattle.std.proofs.Common.{ℕ, ◌+◌, ◌*◌, ◌^◌, ◌<◌, ◌≤◌, ◌≡◌, ◌≢◌, inl, Bool, true, false, List, Option, None, Some, Result, Ok, Err, refl, sym, ◌∙◌, subst, arith}
 use Rattle.std.specs.Prelude.{IsErrAnd, if◌then◌else◌}
 use Rattle.std.specs.Option.{option_map, ForSome}
 use Rattle.blk_image.specs.Image.{Image}
@@ -14,7 +14,6 @@ use Rattle.blk_model.specs.Sizes.{handle_names}
 use Rattle.blk_model.specs.State.{Bounds, State}
 use Rattle.blk_volume.specs.Found.{found}
 use Rattle.blk_headline.specs.Opening.{IsUsable}
-use Rattle.blk_headline.specs.Run.{Run, commands_of}
 use Rattle.blk_cache.specs.declared.fault.StepFault.{StepFault}
 use Rattle.blk_cache.specs.declared.fault.StepFault.TheVariants as step_fault
 use Rattle.blk_cache.specs.declared.fault.OpenFault.{OpenFault}
@@ -30,7 +29,7 @@ use Rattle.blk_run.specs.declared.input.InputEnd.TheVariants as end
 use Rattle.blk_run.specs.Count.{IsDamaged}
 use Rattle.blk_run.specs.Ending.{EndsRun}
 use Rattle.blk_run.specs.Inputs.{IfFailed, IfTooLong, IsTakenUpTo, PlaysInput}
-use Rattle.blk_run.specs.Playing.{Around, Plays, SoFar, StandsAt}
+use Rattle.blk_run.specs.Playing.{Around, SoFar, StandsAt}
 use Rattle.blk_run.specs.Session.{Ending, MayEnd, Outside, Runs, Session, all_made, taken, unprinted}
 use Rattle.blk_run.specs.Statuses.{CauseOf, may_close, status_after}
 use Rattle.blk_run.proofs.Assembling.{begins, begun_far, exit_device, exit_long, exit_long_device, exit_ok, exit_refused, exit_sink, exit_sink_device, exit_source, exit_source_device, exit_whole_device}

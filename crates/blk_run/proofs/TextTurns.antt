@@ -1,11 +1,11 @@
 -- The turn of a text of the state.
-use Rattle.std.proofs.Common.{ℕ, ◌+◌, ◌<◌, ◌≤◌, ◌≡◌, Bool, ◌||◌, true, false, List, [], ◌∷◌, ◌++◌, length, take, Option, None, Some, Ok, Err, Result, OnOk, refl, sym, ◌∙◌, ap, subst, arith}
-use Rattle.std.specs.Option.{option_map, ForSome}
+use Rattle.std.proofs.Common.{ℕ, ◌≡◌, Bool, List, [], ◌∷◌, ◌++◌, Option, None, Some, Ok, Err, Result, OnOk, refl, sym, ◌∙◌, ap, arith}
+use Rattle.std.specs.Option.{option_map}
 use Rattle.std.proofs.lemmas.List.{append-nil}
 use Rattle.blk_image.specs.Image.{Image}
 use Rattle.blk_image.specs.Told.{Told}
 use Rattle.blk_io.specs.Streams.{Appends, Readings}
-use Rattle.blk_model.specs.Room.{items, total}
+use Rattle.blk_model.specs.Room.{total}
 use Rattle.blk_model.specs.State.{State}
 use Rattle.blk_headline.specs.Script.{ended, says, totals_line, totals_text}
 use Rattle.blk_headline.specs.Run.{clock_after, text_turn, turns}

@@ -1,12 +1,11 @@
 -- A run that finds no memory for its words does nothing.
-use Rattle.std.proofs.Common.{◌≡◌, ◌≢◌, ◌≤◌, ◌+◌, ℕ, List, [], length, Option, None, Some, option_map, ◌⊎◌, inl, inr, refl, sym, ◌∙◌, ap, subst, arith}
+use Rattle.std.proofs.Common.{◌≡◌, ℕ, List, [], Option, Some, option_map, inl, inr, refl, sym, ◌∙◌, ap, subst, arith}
 use Rattle.blk_image.specs.Image.{Image}
 use Rattle.blk_image.specs.Told.{Told}
 use Rattle.blk_image.proofs.Runs.{passes_none}
 use Rattle.blk_io.specs.Streams.{later_of}
 use Rattle.blk_model.specs.State.{Bounds}
 use Rattle.blk_cache.specs.Opening.{HoldsStill}
-use Rattle.blk_run.specs.declared.ending.Status.{Status}
 use Rattle.blk_run.specs.declared.ending.Status.TheVariants as status
 use Rattle.blk_run.specs.Counting.{Counts, IsDoneOrSink}
 use Rattle.blk_run.specs.Inputs.{IsTakenUpTo}

@@ -1,7 +1,5 @@
 -- What is kept of the line of which a part has come.
 use Rattle.std.specs.Prelude.{ℕ, ◌≡◌, ◌<◌, Bool, true, false, if◌then◌else◌, List, length, take}
-use Rattle.std.specs.declared.option.Option.{Option}
-use Rattle.std.specs.declared.option.Option.TheVariants.{None, Some}
 use Rattle.blk_run.specs.declared.line.Line.{Line}
 
 -- the bytes of a line are those that are kept, or they are more than a line may have

@@ -1,5 +1,5 @@
 -- The status of a session, and its cause.
-use Rattle.std.specs.Prelude.{◌≡◌, ◌⊎◌, Bool, true, false, if◌then◌else◌, Result, Ok, Err}
+use Rattle.std.specs.Prelude.{Bool, true, false, if◌then◌else◌, Result, Ok, Err}
 use Rattle.std.specs.Option.{ForSome}
 use Rattle.std.specs.declared.option.Option.{Option}
 use Rattle.blk_image.specs.Image.{Image}

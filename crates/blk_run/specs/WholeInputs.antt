@@ -2,7 +2,7 @@
 use Rattle.std.specs.Prelude.{ℕ, ◌≡◌, ◌≤◌, List, [], length, take, drop, Result, Ok, Err}
 use Rattle.std.specs.Option.{ForSome}
 use Rattle.std.specs.declared.option.Option.{Option}
-use Rattle.std.specs.declared.option.Option.TheVariants.{None, Some}
+use Rattle.std.specs.declared.option.Option.TheVariants.{Some}
 use Rattle.blk_run.specs.declared.whole_input.InputFault.{InputFault}
 use Rattle.blk_run.specs.declared.whole_input.InputFault.TheVariants as fault
 use Rattle.blk_run.specs.Inputs.{IsTakenPast, IsTakenUpTo}

@@ -1,7 +1,5 @@
-use Rattle.std.proofs.Common.{◌≡◌, ◌≤◌, ◌<◌, ◌+◌, ℕ, Bool, true, false, cond, List, Option, None, Some, Ok, Err, IfSome, refl, sym, ◌∙◌, ap, subst, arith}
+use Rattle.std.proofs.Common.{◌≡◌, None, sym, ◌∙◌, arith}
 use Rattle.std.specs.Prelude.{is_some, position, slice_set}
-use Rattle.blk_image.specs.Image.{Image}
-use Rattle.blk_model.specs.State.{State}
 use Rattle.blk_run.proofs.ClosingAll.{all_closed, close_failed, close_handed, fewer_bound, name_at, no_name, none_so_far, of_some, one_closed}
 use Rattle.blk_run.proofs.HeadlineBridge.{names_bound}
 use Rattle.blk_cache.specs.CacheKeeping.{KeepsState}

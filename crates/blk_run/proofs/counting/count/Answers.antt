@@ -1,4 +1,4 @@
-use Rattle.std.proofs.Common.{◌≡◌, sym, subst}
+use Rattle.std.proofs.Common.{subst}
 use Rattle.blk_image.specs.Told.{Rises}
 use Rattle.blk_headline.specs.Script.{count_script}
 use Rattle.blk_cache.proofs.CreationTimes.{crash-moment}

@@ -1,5 +1,5 @@
 use Rattle.blk_cache.specs.CacheKeeping.{KeepsState}
-use Rattle.std.proofs.Common.{◌≡◌, ◌≤◌, ◌+◌, ◌∷◌, ℕ, Result, Err, sym, ◌∙◌, subst, arith}
+use Rattle.std.proofs.Common.{◌+◌, ◌∷◌, Result, sym, ◌∙◌, subst, arith}
 use Rattle.blk_headline.specs.Script.{put_script, until_refused}
 use Rattle.blk_headline.specs.Run.{commands_of, turns}
 use Rattle.blk_model.specs.Request.{to_create}

@@ -1,10 +1,10 @@
 use Rattle.blk_cache.specs.CacheKeeping.{KeepsState}
-use Rattle.std.proofs.Common.{◌≡◌, ◌*◌, ◌≤◌, ◌+◌, ◌-◌, ◌||◌, ℕ, Bool, List, [], true, false, Result, Ok, Err, length, drop, map, refl, sym, ◌∙◌, ap, subst, arith}
+use Rattle.std.proofs.Common.{◌≡◌, ◌*◌, ◌+◌, ◌-◌, Bool, List, [], Result, Ok, Err, length, drop, map, refl, sym, ◌∙◌, ap, subst, arith}
 use Rattle.blk_model.specs.Request.{Request, request_of}
 use Rattle.blk_headline.specs.Script.{until_refused}
 use Rattle.blk_headline.specs.Run.{turns}
 use Rattle.blk_cache.specs.declared.fault.StepFault.{StepFault}
-use Rattle.blk_run.specs.Playing.{PlaysPart, SoFar, StandsAt, state_now, with_more}
+use Rattle.blk_run.specs.Playing.{PlaysPart, SoFar, state_now, with_more}
 use Rattle.blk_headline.specs.Run.{commands_of}
 use Rattle.blk_run.proofs.Asking.{around}
 use Rattle.blk_run.proofs.Parts.{stands_fewer}

@@ -1,8 +1,8 @@
-use Rattle.std.proofs.Common.{◌≤◌, ◌≡◌, ◌+◌, ◌^◌, ◌<◌, ℕ, List, [], length, Ok}
+use Rattle.std.proofs.Common.{◌≤◌, ◌≡◌, ◌+◌, length}
 use Rattle.std.specs.Option.{ForSome}
 use Rattle.blk_disk.specs.Open.{IsOpen}
 use Rattle.blk_cache.specs.CacheKeeping.{KeepsState}
-use Rattle.blk_run.specs.Pending.{Holds, pending}
+use Rattle.blk_run.specs.Pending.{pending}
 use Rattle.blk_run.proofs.InputPlayed.{IsInputPlayed}
 use Rattle.blk_run.proofs.Asking.{around}
 use Rattle.blk_run.proofs.input.play_input.Given as goal

@@ -1,4 +1,4 @@
-use Rattle.std.proofs.Common.{◌≤◌, ◌≡◌, ◌+◌, ◌^◌, ◌<◌, ℕ, List, [], length, Ok}
+use Rattle.std.proofs.Common.{◌≤◌, ◌≡◌, ◌+◌, ℕ, List, length}
 use Rattle.std.specs.Option.{ForSome}
 use Rattle.blk_disk.specs.Open.{IsOpen}
 use Rattle.blk_cache.specs.CacheKeeping.{KeepsState}

@@ -1,8 +1,7 @@
-use Rattle.std.proofs.Common.{◌≡◌, ◌≤◌, ◌||◌, Bool, true, false, Ok, Err, refl, sym, ◌∙◌, ap, subst, arith, ◌+◌}
+use Rattle.std.proofs.Common.{◌≡◌, ◌||◌, Bool, true, false, refl, sym, ◌∙◌, ap}
 use Rattle.blk_model.specs.Request.{request_of}
 use Rattle.blk_cache.specs.CacheKeeping.{KeepsState}
-use Rattle.blk_run.specs.Playing.{refuses}
-use Rattle.blk_run.proofs.Parts.{part_handed, stands_fewer}
+use Rattle.blk_run.proofs.Parts.{part_handed}
 use Rattle.blk_run.proofs.LineTurns.{command_fault, command_part}
 use Rattle.blk_run.proofs.playing.play_command.Goals as goal
 

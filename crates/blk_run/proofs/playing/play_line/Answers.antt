@@ -1,4 +1,4 @@
-use Rattle.std.proofs.Common.{◌≡◌, ◌≤◌, ◌+◌, ◌<◌, ℕ, List, Ok, Err, length, refl, sym, ◌∙◌, ap, subst, arith}
+use Rattle.std.proofs.Common.{◌≡◌, ◌+◌, Ok, Err, length, refl, sym, ◌∙◌, ap, arith}
 use Rattle.blk_model.specs.Request.{request_of}
 use Rattle.blk_script.specs.Line.{read_text}
 use Rattle.blk_script.specs.declared.fault.LineFault.TheVariants as line_fault

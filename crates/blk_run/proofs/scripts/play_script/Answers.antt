@@ -1,5 +1,5 @@
 use Rattle.blk_cache.specs.CacheKeeping.{KeepsState}
-use Rattle.std.proofs.Common.{◌≡◌, ◌*◌, [], Err, refl, sym, ◌∙◌, subst}
+use Rattle.std.proofs.Common.{◌*◌, [], Err, refl, sym, ◌∙◌, subst}
 use Rattle.std.specs.Option.{ForSome}
 use Rattle.blk_image.specs.Told.{Rises}
 use Rattle.blk_disk.specs.Open.{IsOpen}

@@ -1,4 +1,4 @@
-use Rattle.std.proofs.Common.{◌≡◌, ◌≤◌, ◌+◌, ◌*◌, ℕ, Bool, true, false, List, Option, None, Some, Result, Ok, Err, refl, sym, ◌∙◌, ap}
+use Rattle.std.proofs.Common.{◌≡◌, ◌*◌, true, false, Result, Ok, Err, refl, sym, ◌∙◌}
 use Rattle.std.specs.Option.{ForSome}
 use Rattle.blk_disk.specs.Open.{IsOpen}
 use Rattle.blk_cache.specs.declared.fault.StepFault.{StepFault}

@@ -1,13 +1,10 @@
-use Rattle.std.proofs.Common.{◌≡◌, ◌≤◌, ◌<◌, ◌+◌, ◌*◌, ◌^◌, ◌⊎◌, inr, ℕ, List, [], Option, None, Some, refl, sym, ◌∙◌, ap, arith}
-use Rattle.blk_image.specs.Image.{Image}
-use Rattle.blk_io.specs.Streams.{Readings}
+use Rattle.std.proofs.Common.{◌+◌, ◌*◌, inr, [], None, Some, refl, arith}
 use Rattle.blk_model.specs.Bounds.{bounds_of}
 use Rattle.blk_model.specs.Holding.{open_state}
 use Rattle.blk_model.specs.Sizes.{handle_names}
 use Rattle.blk_volume.specs.Found.{found}
 use Rattle.blk_cache.specs.CacheKeeping.{KeepsState}
 use Rattle.blk_cache.proofs.Ends.{kept-open}
-use Rattle.blk_run.specs.Session.{Outside}
 use Rattle.blk_run.proofs.Assembling.{exit_unopened}
 use Rattle.blk_run.proofs.HeadlineBridge.{failed_by_start}
 use Rattle.blk_run.proofs.SessionEnds.{begins_at, cause_since, device_cause, first_of, opened_at, rises_since, session_of_runs, sink_cause, source_cause}

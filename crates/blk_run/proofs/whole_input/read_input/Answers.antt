@@ -1,4 +1,4 @@
-use Rattle.std.proofs.Common.{◌≡◌, ◌≤◌, ◌<◌, ◌+◌, ◌-◌, ℕ, length, refl, sym, ◌∙◌, ap, arith}
+use Rattle.std.proofs.Common.{◌∙◌, arith}
 use Rattle.blk_run.proofs.WholeReading.{placed_length, room_left, taken_all, taken_front, taken_more, taken_past}
 use Rattle.blk_run.proofs.whole_input.read_input.Goals as goal
 

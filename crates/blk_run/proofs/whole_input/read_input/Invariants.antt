@@ -1,5 +1,5 @@
-use Rattle.std.proofs.Common.{◌≡◌, ◌≤◌, ◌+◌, ◌-◌, ℕ, length, take, drop}
-use Rattle.std.specs.Option.{ForSome, option_map}
+use Rattle.std.proofs.Common.{◌≡◌, ◌≤◌, ◌-◌, length}
+use Rattle.std.specs.Option.{ForSome}
 use Rattle.blk_run.specs.WholeInputs.{IsTakenSoFar}
 use Rattle.blk_run.proofs.whole_input.read_input.Given as goal
 
