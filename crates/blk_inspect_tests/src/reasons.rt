@@ -12,9 +12,19 @@ const BUCKET: u32 = 0x191A;
 
 const NODE: u32 = 0x9000_0002;
 
-// Changes to the folder, and what is printed of what is dropped then: a line for each reason.
-const CASES: [(&[Change], &str); 17] = [
+// Changes to the folder, and what is printed of what is dropped then: a line for each reason; and none for a doomed record, which is
+// neither in the list nor in its chain.
+const CASES: [(&[Change], &str); 18] = [
     (&[], "kept 8\nitems 8 bytes 55097\n"),
+    (
+        &[
+            Word(0x9000_0001, NODE_NEXT, 0x9000_0003),
+            Word(0x9000_0003, PREV, 0x9000_0001),
+            Bucket(BUCKET, 0),
+            Word(STREAMS, STATE, 2),
+        ],
+        "kept 7\nitems 7 bytes 31790\n",
+    ),
     (
         &[Word(NODE, CONTENTS, 0), Bucket(BUCKET, 0)],
         "kept 7\ndropped 90000002 1 Contents\nitems 7 bytes 31790\n",
