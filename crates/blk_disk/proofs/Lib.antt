@@ -19,4 +19,5 @@ pub mod SealedWrites
 pub mod MissingSeals
 pub mod Once
 pub mod KeptOnce
+pub mod WholeHeaders
 mod TakingUp
