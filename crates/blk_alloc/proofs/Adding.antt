@@ -68,6 +68,10 @@ module _ (mid : Image) (kind n : ℕ) (file : mid (Block n) ≡ Some (new_header
   pub new_hints : HasNoHints mid n
   new_hints i small = ap (λ (l : List ℕ). word_at (content l) (40 + 4 * i)) bytes_new ∙ zero_word kind n (40 + 4 * i) (omega arith)
 
+  -- nor any group that is counted
+  pub new_counts : (i : ℕ) → empty_of (byte mid (Block n)) i ≡ 0
+  new_counts i = ap (λ (l : List ℕ). empty_of (content l) i) bytes_new ∙ zero_word kind n (24 + 4 * i) (omega arith)
+
   no_blocks : max_entries_in mid n ≡ 0
   unfolding max_entries_in
   no_blocks = ap (λ (l : List ℕ). max_entries_of (content l)) bytes_new ∙ zero_word kind n 20 (omega arith)
@@ -75,8 +79,7 @@ module _ (mid : Image) (kind n : ℕ) (file : mid (Block n) ≡ Some (new_header
   pub new_empty : EmptyAgrees mid n
   unfolding EmptyAgrees groups_with
   new_empty i small =
-      let none : empty_of (byte mid (Block n)) i ≡ 0 = ap (λ (l : List ℕ). empty_of (content l) i) bytes_new ∙ zero_word kind n (24 + 4 * i) (omega arith) in
-      none ∙ ap (λ (m : ℕ). groups_with (is_block_marked mid n) (m / 4) (i + 1)) (sym no_blocks)
+      new_counts i ∙ ap (λ (m : ℕ). groups_with (is_block_marked mid n) (m / 4) (i + 1)) (sym no_blocks)
 
   pub new_counters : HasCounters mid n
   new_counters = record { words = []; are = new_allocations; empty = new_empty; room = let none = new_allocations.counted in omega (arith, none) }

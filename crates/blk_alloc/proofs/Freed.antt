@@ -18,7 +18,7 @@ use Rattle.blk_alloc.proofs.Lists.{IsBlocks, LeavesOut, leaves_out, claims_block
 use Rattle.blk_format.proofs.LinkedHeads.{HasHead, linked_checked, count_whole}
 use Rattle.blk_alloc.proofs.Formed.{stands_kept, other_kept, file_kept}
 use Rattle.blk_alloc.proofs.Standing.{StandsHere, stands_here, all_among}
-use Rattle.blk_alloc.proofs.Members.{all_head}
+use Rattle.blk_disk.proofs.WholeHeaders.{all_head}
 use Rattle.blk_alloc.proofs.Sparing.{formed_spared, grown_spared, map_spares}
 use Rattle.blk_disk.proofs.Ranges.{stands_linked}
 use Rattle.blk_disk.specs.declared.tables.BlockFiles.{BlockFiles}

@@ -13,7 +13,6 @@ use Rattle.blk_format.specs.Headers.{allocations_of}
 use Rattle.blk_format.specs.BlockFiles.{max_entries_in, stands_in, most_blocks}
 use Rattle.blk_format.specs.Maps.{is_block_marked, are_free, groups_of, AreAllocations}
 use Rattle.blk_addr.proofs.ClaimLemmas.{has_claim-append}
-use Rattle.blk_alloc.specs.Fitting.{HasNoRoom}
 use Rattle.blk_alloc.specs.Owning.{is_of}
 use Rattle.blk_alloc.specs.Places.{is_place}
 use Rattle.blk_alloc.proofs.Addresses.{in_group}
@@ -116,8 +115,8 @@ groups_owned (w ∷ ws) n =
     let split = count-or (λ g. first_block w / 4 == g) (λ g. list_any (λ x. first_block x / 4 == g) ws) 0 n in
     omega (arith, rest, once, split)
 
--- a file without room for some blocks has an allocation for each group
-pub full_counts : (image : Image) (n count : ℕ) (words : List ℕ) → count ≤ 4 → max_entries_in image n % 4 ≡ 0 → max_entries_in image n ≤ most_blocks → AreAllocations image n words → HasNoRoom image count n → groups_of (max_entries_in image n) ≤ allocations_of (byte image (Block n))
+-- a file where some blocks fit at the front of no group has an allocation for each group
+pub full_counts : (image : Image) (n count : ℕ) (words : List ℕ) → count ≤ 4 → max_entries_in image n % 4 ≡ 0 → max_entries_in image n ≤ most_blocks → AreAllocations image n words → ((g : ℕ) → g < groups_of (max_entries_in image n) → is_place (is_block_marked image n) count (4 * g) ≡ false) → groups_of (max_entries_in image n) ≤ allocations_of (byte image (Block n))
 full_counts image n count words few whole most are full =
     let hit : ℕ → Bool = λ g. list_any (λ w. first_block w / 4 == g) words in
     let all : count_by hit (range_with_len 0 (groups_of (max_entries_in image n))) ≡ groups_of (max_entries_in image n) = count-all hit 0 (groups_of (max_entries_in image n)) (λ g low high. owned g (omega (arith, high))) in
@@ -127,7 +126,7 @@ full_counts image n count words few whole most are full =
   where
     owned : (g : ℕ) → g < groups_of (max_entries_in image n) → list_any (λ w. first_block w / 4 == g) words ≡ true
     owned g there =
-        let found = group_marked (is_block_marked image n) count g few (full (4 * g) (omega arith) (omega (arith, there, whole))) in
+        let found = group_marked (is_block_marked image n) count g few (full g there) in
         let small = found.1 in
         let b : ℕ = 4 * g + found.0 in
         let claimed : has_claim (claims_of_all words) (BlockOf n b) ≡ true = sym (are.marks b (omega (arith, there, whole, most, small))) ∙ found.2 in

@@ -91,7 +91,7 @@ count-none p s zero none = refl
 count-none p s (suc n) none = let rest = count-none p (s + 1) n (λ i low high. none i (omega arith) (omega arith)) in let a = first_counted p s n in let e : one (p s) ≡ 0 = ap one (none s (omega arith) (omega arith)) in omega (arith, rest, a, e)
 
 -- a group of which no block is marked has a longest run of four
-free_group : (marked : ℕ → Bool) (g : ℕ) → ((i : ℕ) → i < 4 → marked (4 * g + i) ≡ false) → longest_run marked g ≡ 4
+pub free_group : (marked : ℕ → Bool) (g : ℕ) → ((i : ℕ) → i < 4 → marked (4 * g + i) ≡ false) → longest_run marked g ≡ 4
 unfolding longest_run has_run are_free
 free_group marked g free = longest_run-same marked (λ b. false) g 0 free ∙ refl
 

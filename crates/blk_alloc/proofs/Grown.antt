@@ -33,6 +33,17 @@ free_all p s count none = all_from 0 count (λ i low high. none (s + i) (omega a
     all_from a zero free = refl
     all_from a (suc n) free = ap₂ (λ (x y : Bool). x && y) (ap not (free a (omega arith) (omega arith))) (all_from (a + 1) n (λ i low high. free i (omega arith) (omega arith)))
 
+-- the counter of the groups of which all blocks are free, after a growth
+pub raise_is : (old : BlockFiles) (from mid : Image) (n : ℕ) → Agrees old from → is_among (all_files old) n ≡ true → blocks_of old n < most_blocks → mid ≡ after (grow_steps old n from) from → empty_of (byte mid (Block n)) 3 ≡ raised from n (new_groups (blocks_of old n))
+raise_is old from mid n agrees among below is =
+    let counter : ℕ = raised from n (new_groups (blocks_of old n)) in
+    let blocks : ℕ = grown (blocks_of old n) in
+    let long : Image = after (lengthen_steps old n (grown_length old n)) from in
+    ap (λ (i : Image). word_at (content (bytes_of i (Block n))) 36) (is ∙ after-append (lengthen_steps old n (grown_length old n)) (word_steps (Block n) ((36, counter) ∷ (20, blocks) ∷ [])) from)
+    ∙ ap (λ (l : List ℕ). word_at (content l) 36) (bytes_after (Block n) ((36, counter) ∷ (20, blocks) ∷ []) long)
+    ∙ word-beside 36 20 blocks (with_word 36 counter (bytes_of long (Block n))) (inr (omega arith))
+    ∙ word-there 36 counter (bytes_of long (Block n)) (omega arith) (long_room old from n agrees among below)
+
 module _ (old new : BlockFiles) (from mid : Image) (n : ℕ) (agrees : Agrees old from) (agrees_new : Agrees new mid) (among : is_among (all_files old) n ≡ true)
     (enlarges : Enlarges old new n (grown (blocks_of old n)) (max (length_in old n) (grown_length old n))) (below : blocks_of old n < most_blocks)
     (head : HasHead from n) (same : SameOutside (growth_of n) from mid) (is : mid ≡ after (grow_steps old n from) from) (counters : HasCounters from n) where
@@ -42,15 +53,8 @@ module _ (old new : BlockFiles) (from mid : Image) (n : ℕ) (agrees : Agrees ol
   abbrev counter : ℕ
   counter = raised from n (new_groups (blocks_of old n))
 
-  abbrev long : Image
-  long = after (lengthen_steps old n (grown_length old n)) from
-
   raise : empty_of (byte mid (Block n)) 3 ≡ counter
-  raise =
-      ap (λ (i : Image). word_at (content (bytes_of i (Block n))) 36) (is ∙ after-append (lengthen_steps old n (grown_length old n)) (word_steps (Block n) ((36, counter) ∷ (20, blocks) ∷ [])) from)
-      ∙ ap (λ (l : List ℕ). word_at (content l) 36) (bytes_after (Block n) ((36, counter) ∷ (20, blocks) ∷ []) long)
-      ∙ word-beside 36 20 blocks (with_word 36 counter (bytes_of long (Block n))) (inr (omega arith))
-      ∙ word-there 36 counter (bytes_of long (Block n)) (omega arith) (long_room old from n agrees among below)
+  raise = raise_is old from mid n agrees among below is
 
   whole : max_entries_in from n % 4 ≡ 0
   whole = (count_whole _ head.count).0

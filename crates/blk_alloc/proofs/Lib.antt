@@ -22,6 +22,11 @@ pub mod Growing
 pub mod Grown
 pub mod Fullness
 pub mod Hints
+pub mod Searches
+pub mod Rounds
+pub mod Takings
+pub mod Hinted
+pub mod MadeRoom
 pub mod Adding
 pub mod Rooms
 pub mod Sparing

@@ -1,5 +1,5 @@
 -- The files of a kind that are kept, and those that are linked.
-use Rattle.std.proofs.Common.{◌≡◌, ◌≢◌, ℕ, ◌+◌, ◌<◌, ◌≤◌, ◌⊎◌, inl, inr, List, [], ◌∷◌, ◌++◌, length, Bool, true, false, ◌||◌, None, Some, refl, sym, ◌∙◌, ap, subst, arith, take, drop, get_or, ⊎_elim}
+use Rattle.std.proofs.Common.{◌≡◌, ◌≢◌, ℕ, ◌+◌, ◌<◌, ◌≤◌, ◌⊎◌, inl, inr, List, [], ◌∷◌, ◌++◌, length, Bool, true, false, ◌||◌, None, Some, refl, sym, ◌∙◌, ap, subst, arith, take, drop, get_or}
 use Rattle.std.specs.Prelude.{◌==◌, slice_get}
 use Rattle.std.proofs.lemmas.Option.{get_or_from_slice_get, slice_get_cases}
 use Rattle.std.proofs.lemmas.List.{drop_more, take-append-drop}
@@ -83,20 +83,3 @@ member_middle (b ∷ before) x behind = or_right (b == x) (is_among (before ++ x
 -- one between two parts of a list
 pub member_split : (xs before : List ℕ) (x : ℕ) (behind : List ℕ) → xs ≡ before ++ x ∷ behind → is_among xs x ≡ true
 member_split xs before x behind split = ap (λ (l : List ℕ). is_among l x) split ∙ member_middle before x behind
-
-or_cases : (a b : Bool) → (a || b) ≡ true → (a ≡ true) ⊎ (b ≡ true)
-or_cases true b e = inl refl
-or_cases false b e = inr e
-
--- what the header of any file that is kept has
-pub all_head : (files : BlockFiles) (image : Image) (n : ℕ) → Agrees files image → is_among (all_files files) n ≡ true → HasHead image n
-all_head files image n agrees among =
-    ⊎_elim
-    (λ three.
-    ⊎_elim (λ two. ⊎_elim (of_type 1 refl) (of_type 2 refl) (or_cases (is_among (files_of files 1) n) (is_among (files_of files 2) n) two)) (of_type 3 refl)
-    (or_cases (is_among (files_of files 1) n || is_among (files_of files 2) n) (is_among (files_of files 3) n) three))
-    (of_type 4 refl)
-    (or_cases ((is_among (files_of files 1) n || is_among (files_of files 2) n) || is_among (files_of files 3) n) (is_among (files_of files 4) n) (sym (among_kinds files n) ∙ among))
-  where
-    of_type : (kind : ℕ) → is_block_kind kind ≡ true → is_among (files_of files kind) n ≡ true → HasHead image n
-    of_type kind block_kind there = linked_checked image kind n agrees.undamaged block_kind (subst (λ (l : List ℕ). is_among l n ≡ true) (agrees.links kind block_kind) there)

@@ -17,6 +17,7 @@ use Rattle.blk_alloc.specs.Allocating.{Allocates, ExtendsAnd, ExtendsAndAllocate
 use Rattle.blk_alloc.specs.declared.blocks.Blocks.{Blocks}
 use Rattle.blk_format.specs.Address.{block_word, file_selector}
 use Rattle.blk_alloc.proofs.Staying.{taking_whole}
+use Rattle.blk_alloc.proofs.Taken.{quiet_of}
 use Rattle.blk_alloc.proofs.Rooms.{room_added, room_begun, room_grown, room_marked}
 
 -- a file grows
@@ -43,7 +44,7 @@ grown_count n m from image same = same_word_outside (growth_of n) from image (Bl
 -- room is made, and its blocks aren't marked yet
 pub room_moment : (files : BlockFiles) (kind : ℕ) (from image : Image) → MakesRoomInProgress files kind from image → ExtendsInProgress files kind from image × StaysWhole from image
 room_moment files kind from image room =
-    (record { file = room.file; within = room_marked files kind room.file from image image room.within (outside-refl (taking_of room.file) image); updating = inr room.within }, room.stays)
+    (record { file = room.file; within = room_marked files kind room.file from image image room.within (outside-refl (taking_of room.file) image); updating = inr (room_begun files kind room.file from image image room.within (outside-refl (quiet_of room.file) image)) }, room.stays)
 
 -- its blocks are being marked
 pub mark_moment : (files : BlockFiles) (kind n : ℕ) (from mid image : Image) → ExtendsAnd updating_word files kind from n mid → StaysWhole from mid → MarksUsedInProgress n mid image → ExtendsInProgress files kind from image × StaysWhole from image
@@ -57,7 +58,7 @@ mark_moment files kind n from mid image room stays marks = (
 )
 
 -- its blocks are marked
-pub marked_moment : (files new : BlockFiles) (kind count : ℕ) (place : Blocks) (from mid image : Image) → file_selector (block_word kind place.file place.start count) ≡ place.file → IsGrownPlace files kind place ⊎ IsAddedPlace files kind place → ExtendsAnd updating_word files kind from place.file mid → StaysWhole from mid
+pub marked_moment : (files new : BlockFiles) (kind count : ℕ) (place : Blocks) (from mid image : Image) → file_selector (block_word kind place.file place.start count) ≡ place.file → IsGrownPlace files kind count from place ⊎ IsAddedPlace files kind place → ExtendsAnd updating_word files kind from place.file mid → StaysWhole from mid
     → MarksUsed new mid (block_word kind place.file place.start count) image → Allocates files from (block_word kind place.file place.start count) image → ExtendsAndAllocates files kind count from image × StaysWhole from image
 marked_moment files new kind count place from mid image file chosen room stays used allocates = (
   record {

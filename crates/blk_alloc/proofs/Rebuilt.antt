@@ -18,7 +18,7 @@ use Rattle.blk_alloc.specs.Mending.{PassesNeeded}
 use Rattle.blk_alloc.specs.Rebuilding.{is_block_file, AreItsAllocations, AreRight, IsRebuilding, IsRebuilt}
 use Rattle.blk_io.proofs.Carried.{told_at_end}
 use Rattle.blk_alloc.proofs.Fitted.{HasFitted, long_still, none_fitted, none_more, one_fitted}
-use Rattle.blk_alloc.proofs.Members.{all_head}
+use Rattle.blk_disk.proofs.WholeHeaders.{all_head}
 use Rattle.blk_alloc.proofs.Owned.{allocations_are, stands_still}
 use Rattle.blk_alloc.proofs.Remade.{one_more, others_kept, rebuilding_begin, rebuilt_same}
 use Rattle.blk_format.proofs.Growths.{grown_blocks}

@@ -1,5 +1,5 @@
 -- Room for blocks: files that are counted never lack it, and what is given in a file that was made ready.
-use Rattle.std.proofs.Common.{◌≡◌, ◌≢◌, ◌⊎◌, inl, inr, ℕ, ◌+◌, ◌*◌, ◌%◌, ◌<◌, ◌≤◌, List, [], ◌∷◌, length, Bool, true, false, ◌&&◌, ◌||◌, nat_le, if◌then◌else◌, Option, None, Some, Result, Ok, Err, refl, sym, ◌∙◌, ap, subst, arith, ⊎_elim, get_or}
+use Rattle.std.proofs.Common.{◌≡◌, ◌≢◌, ◌⊎◌, inl, inr, ℕ, ◌+◌, ◌*◌, ◌%◌, ◌<◌, ◌≤◌, List, [], ◌∷◌, length, Bool, true, false, ◌&&◌, ◌||◌, if◌then◌else◌, Option, None, Some, Result, Ok, Err, refl, sym, ◌∙◌, ap, subst, arith, ⊎_elim, get_or}
 use Rattle.std.specs.Prelude.{◌==◌, IfOk}
 use Rattle.std.specs.List.{All, sum_by}
 use Rattle.std.specs.Option.{ForSome, option_map}
@@ -25,17 +25,19 @@ use Rattle.blk_disk.specs.declared.tables.BlockFiles.{BlockFiles}
 use Rattle.blk_disk.specs.Tables.{Agrees, all_files, files_of}
 use Rattle.blk_disk.specs.Growth.{addition_of, free_number, growth_of}
 use Rattle.blk_alloc.specs.declared.blocks.Blocks.{Blocks}
-use Rattle.blk_alloc.specs.Fitting.{HasNoRoom, IsFirstFit, IsPlace}
+use Rattle.blk_alloc.specs.Fitting.{HasNoRoom, IsFit, IsPlace}
 use Rattle.blk_alloc.specs.Owning.{is_of}
 use Rattle.blk_alloc.specs.Places.{is_place}
 use Rattle.blk_alloc.specs.Extending.{HasCounters, HasMostBlocks, HasNoHints, IsFirstGrowing, KeepsAll}
-use Rattle.blk_alloc.specs.Marking.{CanBeMarked, MarksUsed, taking_of}
+use Rattle.blk_alloc.specs.Marking.{CanBeMarked, MarksUsed, hints_and_updating, hints_of_file, taking_of}
 use Rattle.blk_alloc.specs.Allocating.{AreCounted, HaveNoRoom, Allocates, Extends, ExtendsAnd, updating_word}
 use Rattle.blk_format.proofs.LinkedHeads.{count_whole}
-use Rattle.blk_alloc.specs.Changes.{map_of}
+use Rattle.blk_alloc.specs.Changes.{map_of, CanChangeMarks}
+use Rattle.blk_alloc.proofs.Pieces.{place_free}
 use Rattle.blk_alloc.proofs.Changing.{at_updating, within-trans}
 use Rattle.blk_alloc.proofs.Fullness.{full_counts, many_full}
-use Rattle.blk_alloc.proofs.Hints.{taken_hints}
+use Rattle.blk_alloc.proofs.Searches.{none_at_front}
+use Rattle.blk_alloc.proofs.Taken.{map_taken, quiet_of}
 use Rattle.blk_alloc.proofs.Members.{kind_blocky, kind_small, member_all, member_head}
 
 or_true : (a b : Bool) → (a || b) ≡ true → (a ≡ true) ⊎ (b ≡ true)
@@ -70,9 +72,9 @@ at_member xs k d small = list_any_at (λ m. m == get_or xs k d) xs k d small (sa
     same x = grind (arith, nat_tests)
 
 -- 60 full files of a kind would hold more allocations than there are
-pub never_full : (files : BlockFiles) (image : Image) (k : Kind) (count : ℕ) → kind_number k ≢ external → count ≤ 4 → Agrees files image → AreCounted files (kind_number k) image
+pub never_full : (files : BlockFiles) (image : Image) (k : Kind) (count : ℕ) → kind_number k ≢ external → 0 < count → count ≤ 4 → Agrees files image → AreCounted files (kind_number k) image
     → HaveNoRoom files (kind_number k) count image → All (HasMostBlocks files) (files_of files (kind_number k)) → 60 ≤ length (files_of files (kind_number k)) → ⊥
-never_full files image k count block_kind few agrees counted none full sixty =
+never_full files image k count block_kind some few agrees counted none full sixty =
     let list : List ℕ = files_of files (kind_number k) in
     let f : ℕ → ℕ = λ n. allocations_of (byte image (Block n)) in
     let each : All (λ n. 16224 ≤ f n) list = (λ i d small. holds (get_or list i d) (at_member list i d small) (none i d small) (full i d small)) in
@@ -86,7 +88,7 @@ never_full files image k count block_kind few agrees counted none full sixty =
         let head = member_head files image k n block_kind agrees among in
         let whole = count_whole _ head.count in
         let is = agrees.blocks n (member_all files k n block_kind among) in
-        let groups = full_counts image n count has.words few whole.0 whole.1 has.are refuses in
+        let groups = full_counts image n count has.words few whole.0 whole.1 has.are (λ g there. none_at_front image n count g few some has.empty refuses there) in
         omega (arith, groups, is, big)
 
 -- more is touched
@@ -111,7 +113,7 @@ extends_then one other F files kind n from mid image within last extends same =
     extends
 
 updating_within : (n : ℕ) → IsWithin (updating_word n) (taking_of n)
-updating_within n = within-trans (updating_word n) (map_of n) (taking_of n) (at_updating n) (within_right (size_of (Block n)) (map_of n))
+updating_within n = within-trans (updating_word n) (map_of n) (taking_of n) (at_updating n) (map_taken n)
 
 within-refl : (F : Footprint) → IsWithin F F
 within-refl F = record { bytes = λ file i e. e; sizes = λ file e. e }
@@ -134,16 +136,16 @@ room_added files kind n from image is full same =
           (subst (λ (m : ℕ). SameOutside (either A (growth_of m)) from image) (sym is) same),
     )
 
--- before its blocks are marked no more than updating differs besides
-pub room_begun : (files : BlockFiles) (kind n : ℕ) (from mid image : Image) → ExtendsAnd updating_word files kind from n mid → SameOutside (either (size_of (Block n)) (updating_word n)) mid image → ExtendsAnd updating_word files kind from n image
+-- before its blocks are marked no more than hints and updating differ besides
+pub room_begun : (files : BlockFiles) (kind n : ℕ) (from mid image : Image) → ExtendsAnd updating_word files kind from n mid → SameOutside (quiet_of n) mid image → ExtendsAnd hints_and_updating files kind from n image
 room_begun files kind n from mid image room same =
     let words = either (one_word (Block n) 36) (one_word (Block n) 20) in
-    let G = either (growth_of n) (updating_word n) in
-    extends_then updating_word updating_word (either (size_of (Block n)) (updating_word n)) files kind n from mid image (within-refl (updating_word n))
-    (within_both (size_of (Block n)) (updating_word n) G (within-trans (size_of (Block n)) (growth_of n) G (within_left (size_of (Block n)) words) (within_left (growth_of n) (updating_word n))) (within_right (growth_of n) (updating_word n)))
+    let G = either (growth_of n) (hints_and_updating n) in
+    extends_then updating_word hints_and_updating (quiet_of n) files kind n from mid image (within_right (hints_of_file n) (updating_word n))
+    (within_both (size_of (Block n)) (hints_and_updating n) G (within-trans (size_of (Block n)) (growth_of n) G (within_left (size_of (Block n)) words) (within_left (growth_of n) (hints_and_updating n))) (within_right (growth_of n) (hints_and_updating n)))
     room same
 
--- then its length, map and counters
+-- then its length, hints, map and counters
 pub room_marked : (files : BlockFiles) (kind n : ℕ) (from mid image : Image) → ExtendsAnd updating_word files kind from n mid → SameOutside (taking_of n) mid image → ExtendsAnd taking_of files kind from n image
 room_marked files kind n from mid image room same = extends_then updating_word taking_of (taking_of n) files kind n from mid image (updating_within n) (within_right (growth_of n) (taking_of n)) room same
 
@@ -178,13 +180,13 @@ word_address files k count place block_kind some node is =
     is_address-block_word (kind_number k) place.file place.start place.count fields (kind_blocky k block_kind) (omega (arith, group, counted)) (λ e. counted ∙ node e)
 
 -- blocks that are taken where room was made are given
-pub given_made : (old new : BlockFiles) (from mid image : Image) (place : Blocks) (w : ℕ) → file_selector w ≡ place.file → KeepsAll old new → Extends old from place mid → MarksUsed new mid w image → Allocates old from w image
-given_made old new from mid image place w file all made taken = record {
+pub given_made : (old new : BlockFiles) (from mid image : Image) (place : Blocks) (w : ℕ) → file_selector w ≡ place.file → KeepsAll old new → Extends old from place mid → MarksUsed new mid w image → (is_among (all_files old) (file_selector w) ≡ false → HasNoHints image (file_selector w)) → Allocates old from w image
+given_made old new from mid image place w file all made taken hints = record {
   free = λ among b of. sym (made.marks (file_selector w) b among) ∙ taken.free b of;
   marks = λ n b among small. taken.marks n b small ∙ ap (λ (t : Bool). if is_of w n b then true else t) (made.marks n b among);
   allocations = λ among words are. taken.allocations words ((made.keeps (file_selector w) among).allocations words are);
   fresh = λ none. taken.allocations [] (subst (λ (n : ℕ). AreAllocations mid n []) (sym file) (made.fresh (ap (is_among (all_files old)) (sym file) ∙ none)));
-  hints = λ none. taken_hints (file_selector w) (file_selector w) mid image taken.same (subst (HasNoHints mid) (sym file) (made.hints (ap (is_among (all_files old)) (sym file) ∙ none)));
+  hints = hints;
   elsewhere = λ n among differs. record {
     allocations = λ words are. taken.elsewhere n (all n among) differs words ((made.keeps n among).allocations words are);
     empty = λ was. taken.empty_elsewhere n differs ((made.keeps n among).empty was);
@@ -240,16 +242,29 @@ second_of_two : (a b : Bool) → (a && b) ≡ true → b ≡ true
 second_of_two true b e = e
 second_of_two false b e = absurd (clash e)
 
--- the first fit may be taken
-pub fit_takeable : (files : BlockFiles) (image : Image) (k : Kind) (count : ℕ) (place : Blocks) → kind_number k ≢ external → count ≤ 4 → Agrees files image → AreCounted files (kind_number k) image
-    → IsPlace files (kind_number k) count place → IsFirstFit image (files_of files (kind_number k)) count place → CanBeMarked image place
-unfolding is_place
-fit_takeable files image k count place block_kind few agrees counted is fit =
+-- blocks that are found where others could be taken may be taken
+pub takeable_there : (image : Image) (room place : Blocks) (count : ℕ) → place.file ≡ room.file → place.count ≡ count → place.start < max_entries_in image room.file → place.start % 4 + count ≤ 4 → is_place (is_block_marked image room.file) count place.start ≡ true → CanBeMarked image room → CanBeMarked image place
+takeable_there image room place count file counted below group is can =
+    let ready = can.ready in
+    let whole = ready.whole in
+    record {
+      ready = subst (λ (n : ℕ). CanChangeMarks image n place.start place.count true) (sym file)
+          (record { header = ready.header; whole = ready.whole; most = ready.most; below = in_group place.start place.count count (max_entries_in image room.file) below whole group counted; empty = ready.empty; more = ready.more; less = ready.less });
+      free = subst (λ (n : ℕ). are_free (is_block_marked image n) place.start place.count ≡ true) (sym file) (subst (λ (m : ℕ). are_free (is_block_marked image room.file) place.start m ≡ true) (sym counted) (place_free (is_block_marked image room.file) count place.start is));
+    }
+  where
+    in_group : (start n count max : ℕ) → start < max → max % 4 ≡ 0 → start % 4 + count ≤ 4 → n ≡ count → start + n ≤ max
+    in_group start n count max below whole group at = omega (arith, below, whole, group, at)
+
+-- what is found by counters and hints may be taken
+pub fit_takeable : (files : BlockFiles) (image : Image) (k : Kind) (count : ℕ) (place : Blocks) → kind_number k ≢ external → Agrees files image → AreCounted files (kind_number k) image
+    → IsPlace files (kind_number k) count place → IsFit image (files_of files (kind_number k)) count place → CanBeMarked image place
+fit_takeable files image k count place block_kind agrees counted is fit =
     let has = has_counters files image (kind_number k) place.file counted is.linked in
     let head = member_head files image k place.file block_kind agrees is.linked in
     let whole = count_whole _ head.count in
-    let free = second_of_two (nat_le (place.start % 4 + count) 4) (are_free (is_block_marked image place.file) place.start count) fit.least.1 in
-    let below = fit.least.0 in
+    let there = fit.blocks.there in
+    let below : place.start < max_entries_in image place.file = omega (arith, there) in
     let group = is.group in
     let room = has.room in
     let at = is.counted in
@@ -263,7 +278,7 @@ fit_takeable files image k count place block_kind few agrees counted is fit =
         more = λ e. room;
         less = λ e. absurd (clash (sym e));
       };
-      free = subst (λ (m : ℕ). are_free (is_block_marked image place.file) place.start m ≡ true) (sym at) free;
+      free = subst (λ (m : ℕ). are_free (is_block_marked image place.file) place.start m ≡ true) (sym at) (place_free (is_block_marked image place.file) count place.start fit.blocks.least.place);
     }
   where
     in_group : (start n count max : ℕ) → start < max → max % 4 ≡ 0 → start % 4 + count ≤ 4 → n ≡ count → start + n ≤ max

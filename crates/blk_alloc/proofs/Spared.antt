@@ -19,7 +19,7 @@ use Rattle.blk_alloc.specs.Laws.{AllocatedMayBeFreed, CountedFilesStay, MayBeFre
 use Rattle.blk_alloc.proofs.Adding.{new_allocations, new_empty}
 use Rattle.blk_format.proofs.Groups.{groups_same}
 use Rattle.blk_format.proofs.LinkedHeads.{HasHead, count_whole, linked_checked}
-use Rattle.blk_alloc.proofs.Members.{all_head}
+use Rattle.blk_disk.proofs.WholeHeaders.{all_head}
 use Rattle.blk_alloc.proofs.Widening.{mark_kept}
 
 module _ (F : Footprint) (from image : Image) (spares : SparesHeadersAndSizes F) (same : SameOutside F from image) where

@@ -2,13 +2,14 @@
 use Rattle.std.proofs.Common.{◌≡◌, ℕ, ◌+◌, ◌-◌, ◌*◌, ◌<◌, ◌≤◌, ◌⊎◌, inl, inr, List, Bool, true, false, ◌&&◌, ◌||◌, nat_le, nat_lt, refl, ◌∙◌, ap, arith}
 use Rattle.std.proofs.lemmas.Bool.Decides.{nat_tests}
 use Rattle.blk_image.specs.Image.{Image, Index, Block, External, byte, length_of, same_file}
-use Rattle.blk_image.specs.Footprint.{Footprint, SameOutside, size_of}
+use Rattle.blk_image.specs.Footprint.{Footprint, SameOutside, either, size_of}
 use Rattle.blk_format.specs.BlockFiles.{linked, kind_among, files_along, next_file_in, max_entries_in, is_block_count, IsWellFormed}
 use Rattle.blk_format.specs.Growth.{HaveGrown}
 use Rattle.blk_image.proofs.Footprints.{same_file_outside}
 use Rattle.blk_format.proofs.Keeping.{KeepsHead, undamaged_still}
 use Rattle.blk_disk.proofs.Enlarging.{well_formed_still}
 use Rattle.blk_alloc.specs.Changes.{map_of}
+use Rattle.blk_alloc.specs.Marking.{hints_of_file}
 
 -- of a header only num_entries and what lies behind max_entries is touched, of blocks nothing, and of the index nothing
 pub record SparesFields (F : Footprint) : Type 0 where
@@ -42,6 +43,35 @@ map_spares n = record {
 pub size_spares : (n : ℕ) → SparesFields (size_of (Block n))
 size_spares n = record { fields = λ m i field. refl; blocks = λ m i past. refl; index = λ i. refl; index_size = refl; externals = λ m i. refl; external_sizes = λ m. refl }
 
+pub hints_spares : (n : ℕ) → SparesFields (hints_of_file n)
+hints_spares n = record {
+  fields = λ m i field. fields_of i field (same_file (Block n) (Block m));
+  blocks = λ m i past. blocks_of i past (same_file (Block n) (Block m));
+  index = λ i. refl;
+  index_size = refl;
+  externals = λ m i. refl;
+  external_sizes = λ m. refl;
+}
+  where
+    fields_of : (i : ℕ) → (i < 16) ⊎ ((20 ≤ i) × (i < 24)) → (t : Bool) → (t && (nat_le 40 i && nat_lt i 56)) ≡ false
+    fields_of i field true = grind (arith, nat_tests)
+    fields_of i field false = refl
+
+    blocks_of : (i : ℕ) → 8192 ≤ i → (t : Bool) → (t && (nat_le 40 i && nat_lt i 56)) ≡ false
+    blocks_of i past true = grind (arith, nat_tests)
+    blocks_of i past false = refl
+
+-- what two footprints spare they spare together
+pub both_spare : (F G : Footprint) → SparesFields F → SparesFields G → SparesFields (either F G)
+both_spare F G a b = record {
+  fields = λ m i field. let x = a.fields m i field in let y = b.fields m i field in rw (x, y) refl;
+  blocks = λ m i past. let x = a.blocks m i past in let y = b.blocks m i past in rw (x, y) refl;
+  index = λ i. let x = a.index i in let y = b.index i in rw (x, y) refl;
+  index_size = let x = a.index_size in let y = b.index_size in rw (x, y) refl;
+  externals = λ m i. let x = a.externals m i in let y = b.externals m i in rw (x, y) refl;
+  external_sizes = λ m. let x = a.external_sizes m in let y = b.external_sizes m in rw (x, y) refl;
+}
+
 module _ (F : Footprint) (from image : Image) (spares : SparesFields F) (same : SameOutside F from image) (longer : (m : ℕ) → length_of from (Block m) ≤ length_of image (Block m)) where
   kept : (m i : ℕ) → (i < 16) ⊎ ((20 ≤ i) × (i < 24)) → byte image (Block m) i ≡ byte from (Block m) i
   kept m i field = same.bytes (Block m) i (spares.fields m i field)
@@ -58,7 +88,7 @@ module _ (F : Footprint) (from image : Image) (spares : SparesFields F) (same : 
   unfolding linked
   linked_spared = λ j kind. files_along (next_spared j) 59 (kind - 1)
 
-  heads_spared : (m : ℕ) → KeepsHead from image m
+  pub heads_spared : (m : ℕ) → KeepsHead from image m
   heads_spared m = record {
     longer = longer m;
     magic = λ j. kept m 0 (inl (omega arith)) j + 256 * kept m 1 (inl (omega arith)) j + 65536 * kept m 2 (inl (omega arith)) j + 16777216 * kept m 3 (inl (omega arith)) j;

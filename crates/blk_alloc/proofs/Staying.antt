@@ -1,9 +1,9 @@
 -- Folders that stay whole while files grow and their maps change.
-use Rattle.std.proofs.Common.{◌≡◌, ℕ, ◌≤◌, ◌||◌, Bool, false, refl, sym, ap, subst, arith, ⊎_elim}
+use Rattle.std.proofs.Common.{◌≡◌, ℕ, ◌≤◌, ◌||◌, Bool, false, sym, ap, subst, arith, ⊎_elim}
 use Rattle.std.specs.Option.{ForSome}
 use Rattle.std.proofs.lemmas.Bool.{cases_eq}
 use Rattle.blk_image.specs.Image.{Block, Image, length_of}
-use Rattle.blk_image.specs.Footprint.{Footprint, SameOutside, IsWithin, either}
+use Rattle.blk_image.specs.Footprint.{Footprint, SameOutside, IsWithin, either, size_of}
 use Rattle.blk_image.specs.Told.{Told, Passes}
 use Rattle.blk_image.proofs.Footprints.{outside-trans, outside_wider, within_left, within_right}
 use Rattle.blk_image.proofs.Runs.{passes_weaker}
@@ -12,8 +12,9 @@ use Rattle.blk_format.proofs.Growths.{whole_then}
 use Rattle.blk_format.proofs.SpareHeaders.{other_file}
 use Rattle.blk_disk.specs.declared.tables.BlockFiles.{BlockFiles}
 use Rattle.blk_disk.specs.Growth.{addition_of, free_number, growth_of}
-use Rattle.blk_alloc.specs.Marking.{taking_of}
-use Rattle.blk_alloc.proofs.Sparing.{SparesFields, formed_spared, grown_spared, map_spares}
+use Rattle.blk_alloc.specs.Changes.{map_of}
+use Rattle.blk_alloc.specs.Marking.{hints_of_file, taking_of}
+use Rattle.blk_alloc.proofs.Sparing.{SparesFields, both_spare, formed_spared, grown_spared, hints_spares, map_spares, size_spares}
 use Rattle.blk_alloc.proofs.Written.{passes_on}
 
 -- a wider footprint
@@ -40,9 +41,9 @@ added_then {a} {b} {c} files kind n is first second from there =
     passes_weaker (second mid now) keeps keeps)
 
 taking_spares : (n : ℕ) → SparesFields (taking_of n)
-taking_spares n = let map = map_spares n in record { fields = map.fields; blocks = map.blocks; index = λ i. refl; index_size = refl; externals = λ m i. refl; external_sizes = λ m. refl }
+taking_spares n = both_spare (size_of (Block n)) (either (hints_of_file n) (map_of n)) (size_spares n) (both_spare (hints_of_file n) (map_of n) (hints_spares n) (map_spares n))
 
--- a file whose length, map and counters change, and which gets no shorter
+-- a file whose length, hints, map and counters change, and which gets no shorter
 pub taking_whole : (n : ℕ) (from image : Image) → SameOutside (taking_of n) from image → length_of from (Block n) ≤ length_of image (Block n) → StaysWhole from image
 taking_whole n from image same longer = record {
   grown = grown_spared (taking_of n) from image (taking_spares n) same lengths;

@@ -5,7 +5,7 @@ use Rattle.std.proofs.lemmas.Bool.{cases_eq}
 use Rattle.std.proofs.lemmas.Bool.Decides.{nat_tests}
 use Rattle.blk_image.specs.Image.{Image, Block, byte, length_of}
 use Rattle.blk_image.specs.Steps.{SetLength, applied}
-use Rattle.blk_image.specs.Footprint.{SameOutside, size_of, one_word, either}
+use Rattle.blk_image.specs.Footprint.{Footprint, IsWithin, SameOutside, size_of, one_word, either}
 use Rattle.blk_image.specs.Told.{Told, Applies, PassesTo, Until, IsQuiet}
 use Rattle.blk_image.proofs.Footprints.{outside-refl, outside-trans, outside_wider, outside_longer, within_left, within_right}
 use Rattle.blk_image.proofs.Images.{length-after_set_len}
@@ -17,7 +17,8 @@ use Rattle.blk_disk.specs.declared.tables.BlockFiles.{BlockFiles}
 use Rattle.blk_disk.specs.Tables.{Agrees, all_files, length_in}
 use Rattle.blk_disk.specs.Growth.{fit_steps, whole_length}
 use Rattle.blk_alloc.specs.Changes.{map_of, CanChangeMarks, IsMapInProgress}
-use Rattle.blk_alloc.specs.Marking.{taking_of, MarksUsedInProgress}
+use Rattle.blk_alloc.specs.Marking.{hints_and_updating, hints_of_file, taking_of, MarksUsedInProgress}
+use Rattle.blk_alloc.proofs.Changing.{within-trans}
 
 clash : true ≡ false → ⊥
 clash e = cc
@@ -66,25 +67,42 @@ ready_kept from mid n start count used same longer ready =
       less = subst (λ (f : ℕ → ℕ). used ≡ false → 0 < allocations_of f) bytes ready.less;
     }
 
+-- what is touched by marks, and by updating, is among what is touched
+pub map_taken : (n : ℕ) → IsWithin (map_of n) (taking_of n)
+map_taken n = within-trans (map_of n) (either (hints_of_file n) (map_of n)) (taking_of n) (within_right (hints_of_file n) (map_of n)) (within_right (size_of (Block n)) (either (hints_of_file n) (map_of n)))
+
+pub hints_taken : (n : ℕ) → IsWithin (hints_of_file n) (taking_of n)
+hints_taken n = within-trans (hints_of_file n) (either (hints_of_file n) (map_of n)) (taking_of n) (within_left (hints_of_file n) (map_of n)) (within_right (size_of (Block n)) (either (hints_of_file n) (map_of n)))
+
+-- what is touched while updating needn't be 1
+abbrev pub quiet_of : ℕ → Footprint
+quiet_of n = either (size_of (Block n)) (hints_and_updating n)
+
+updating_quiet : (n : ℕ) → IsWithin (one_word (Block n) 56) (quiet_of n)
+updating_quiet n = within-trans (one_word (Block n) 56) (hints_and_updating n) (quiet_of n) (within_right (hints_of_file n) (one_word (Block n) 56)) (within_right (size_of (Block n)) (hints_and_updating n))
+
+pub hints_quiet : (n : ℕ) → IsWithin (hints_of_file n) (quiet_of n)
+hints_quiet n = within-trans (hints_of_file n) (hints_and_updating n) (quiet_of n) (within_left (hints_of_file n) (one_word (Block n) 56)) (within_right (size_of (Block n)) (hints_and_updating n))
+
 -- a moment after the file was lengthened
 pub taking_fit : (n : ℕ) (from mid : Image) → SameOutside (size_of (Block n)) from mid → length_of from (Block n) ≤ length_of mid (Block n) → MarksUsedInProgress n from mid
-taking_fit n from mid same longer = record {
-  longer = longer;
-  same = outside_wider (size_of (Block n)) (taking_of n) from mid (within_left (size_of (Block n)) (map_of n)) same;
-  updating = inr (outside_wider (size_of (Block n)) (either (size_of (Block n)) (one_word (Block n) 56)) from mid (within_left (size_of (Block n)) (one_word (Block n) 56)) same);
+taking_fit n from mid same grows = record {
+  longer = grows;
+  same = outside_wider (size_of (Block n)) (taking_of n) from mid (within_left (size_of (Block n)) (either (hints_of_file n) (map_of n))) same;
+  updating = inr (outside_wider (size_of (Block n)) (quiet_of n) from mid (within_left (size_of (Block n)) (hints_and_updating n)) same);
 }
 
 pub taking_midst : (n : ℕ) (from mid image : Image) → SameOutside (size_of (Block n)) from mid → length_of from (Block n) ≤ length_of mid (Block n) → IsMapInProgress n mid image → MarksUsedInProgress n from image
-taking_midst n from mid image same longer midst =
-    let first = taking_fit n from mid same longer in
+taking_midst n from mid image same grows midst =
+    let first = taking_fit n from mid same grows in
     let kept = midst.same.lengths (Block n) refl in
     record {
-      longer = omega (arith, longer, kept);
-      same = outside-trans (taking_of n) from mid image first.same (outside_wider (map_of n) (taking_of n) mid image (within_right (size_of (Block n)) (map_of n)) midst.same);
+      longer = omega (arith, grows, kept);
+      same = outside-trans (taking_of n) from mid image first.same (outside_wider (map_of n) (taking_of n) mid image (map_taken n) midst.same);
       updating = ⊎_elim (λ one. inl one)
-          (λ word. inr (outside-trans (either (size_of (Block n)) (one_word (Block n) 56)) from mid image
-          (outside_wider (size_of (Block n)) (either (size_of (Block n)) (one_word (Block n) 56)) from mid (within_left (size_of (Block n)) (one_word (Block n) 56)) same)
-          (outside_wider (one_word (Block n) 56) (either (size_of (Block n)) (one_word (Block n) 56)) mid image (within_right (size_of (Block n)) (one_word (Block n) 56)) word))) midst.updating;
+          (λ word. inr (outside-trans (quiet_of n) from mid image
+          (outside_wider (size_of (Block n)) (quiet_of n) from mid (within_left (size_of (Block n)) (hints_and_updating n)) same)
+          (outside_wider (one_word (Block n) 56) (quiet_of n) mid image (updating_quiet n) word))) midst.updating;
     }
 
 -- free blocks are not marked

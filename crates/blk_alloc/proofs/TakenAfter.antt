@@ -1,5 +1,5 @@
 -- Blocks that are taken, in two calls: the file is lengthened, and then the marks change.
-use Rattle.std.proofs.Common.{◌≡◌, ◌≢◌, ◌⊎◌, inl, inr, ℕ, List, ◌+◌, ◌%◌, ◌/◌, ◌<◌, ◌≤◌, true, Option, None, Some, refl, sym, ◌∙◌, ap, subst, arith, ⊎_elim, max}
+use Rattle.std.proofs.Common.{◌≡◌, ◌≢◌, ◌⊎◌, inl, inr, ℕ, List, ◌+◌, ◌*◌, ◌%◌, ◌/◌, ◌<◌, ◌≤◌, true, Option, None, Some, refl, sym, ◌∙◌, ap, subst, arith, ⊎_elim, max}
 use Rattle.std.specs.Option.{ForSome, option_map}
 use Rattle.blk_image.specs.Image.{Image, Block, byte, length_of}
 use Rattle.blk_image.specs.Steps.{after}
@@ -20,8 +20,10 @@ use Rattle.blk_disk.specs.Tables.{Agrees, Resizes, all_files, files_of, length_i
 use Rattle.blk_disk.specs.Growth.{fit_steps, whole_length}
 use Rattle.blk_alloc.specs.declared.blocks.Blocks.{Blocks}
 use Rattle.blk_alloc.specs.Changes.{IsMapInProgress, CanChangeMarks, IsChanged}
-use Rattle.blk_alloc.specs.Fitting.{IsPlace}
-use Rattle.blk_alloc.specs.Marking.{CanBeMarked, CountsUsed, MarksUsedInProgress, MarksUsed}
+use Rattle.blk_image.specs.Bytes.{range_at, word_bytes}
+use Rattle.blk_alloc.specs.Fitting.{IsMapWord, IsPlace}
+use Rattle.blk_alloc.specs.Marking.{CanBeMarked, CountsUsed, KeepsHints, MarksUsedInProgress, MarksUsed}
+use Rattle.blk_alloc.proofs.Hints.{map_keeps, size_keeps}
 use Rattle.blk_alloc.proofs.Lists.{IsBlocks}
 use Rattle.blk_alloc.proofs.Members.{kind_blocky}
 use Rattle.blk_alloc.proofs.Taken.{fit_passes, ready_kept, taking_fit, taking_midst}
@@ -73,6 +75,19 @@ module _ (a b : Told) (old new : BlockFiles) (place : Blocks) (agrees : ForSome 
         counts = λ i small. subst (λ (f : ℕ → ℕ). empty_of (byte image (Block n)) i + counted (longest_run (is_block_marked_at f) (start / 4)) i ≡ empty_of f i + counted (longest_run (is_block_marked image n) (start / 4)) i) bytes (is.counts i small);
       }
 
+  -- a word of the map is as it was read
+  pub word_after : (number w : ℕ) → ForSome a.files (λ from. IsMapWord from n number w) → ForSome b.files (λ mid. IsMapWord mid n number w)
+  word_after number w read mid now =
+      let was = from_of mid now in
+      let bytes : byte was.0 (Block n) ≡ byte mid (Block n) = (λ j i. sym (was.2.same.bytes (Block n) i refl) j) in
+      subst (λ (f : ℕ → ℕ). word_bytes w ≡ range_at f (80 + 4 * number) 4) bytes (read was.0 was.1)
+
+  -- no hint changes
+  pub hints_after : (start count : ℕ) (c : Told) → ForSome b.files (λ mid. ForSome c.files (IsChanged mid n start count true)) → ForSome a.files (λ from. ForSome c.files (KeepsHints from))
+  hints_after start count c changed from there image now m i small =
+      let found = mid_of from there in
+      map_keeps n found.0 image (changed found.0 found.1.now image now).same m i small ∙ size_keeps n from found.0 found.1.same m i small
+
   module _ (k : Kind) (block_kind : kind_number k ≢ external) (some : 0 < place.count) (node : kind_number k ≡ rankings → place.count ≡ 1) (is : IsPlace old (kind_number k) place.count place) (takeable : ForSome a.files (λ image. CanBeMarked image place)) where
     abbrev w : ℕ
     w = block_word (kind_number k) n place.start place.count
@@ -109,13 +124,13 @@ module _ (a b : Told) (old new : BlockFiles) (place : Blocks) (agrees : ForSome 
         image (at_word (λ f s m. IsChanged found.0 f s m true image) (changed found.0 found.1.now)) (at_word (λ f s m. are_free (is_block_marked from f) s m ≡ true) (takeable from there).free) (at_word (λ f s m. EmptyAgrees from f) ready.empty)
 
     pub stops_after : (c : Told) → ForSome b.files (λ mid. PassesTo b c (IsMapInProgress n mid) (λ image. IsMapInProgress n mid image ⊎ IsChanged mid n place.start place.count true image))
-        → ForSome a.files (λ from. PassesTo a c (MarksUsedInProgress n from) (λ image. MarksUsedInProgress n from image ⊎ MarksUsed old from w image))
+        → ForSome a.files (λ from. PassesTo a c (MarksUsedInProgress n from) (λ image. MarksUsedInProgress n from image ⊎ (MarksUsed old from w image × KeepsHints from image)))
     stops_after c stops from there =
         let found = mid_of from there in
         let mid = found.0 in
         let first : PassesTo a b (MarksUsedInProgress n from) (MarksUsedInProgress n from) = fit_passes old n from (agrees from there) all (MarksUsedInProgress n from) there fitted (λ i same longer. taking_fit n from i same longer) in
         let keeps : (i : Image) → IsMapInProgress n mid i → MarksUsedInProgress n from i = λ i midst. taking_midst n from mid i found.1.same found.1.longer midst in
-        let second : PassesTo b c (MarksUsedInProgress n from) (λ image. MarksUsedInProgress n from image ⊎ MarksUsed old from w image) =
+        let second : PassesTo b c (MarksUsedInProgress n from) (λ image. MarksUsedInProgress n from image ⊎ (MarksUsed old from w image × KeepsHints from image)) =
         passes_weaker (stops mid found.1.now) keeps
-        (λ i. ⊎_elim (λ midst. inl (keeps i midst)) (λ changed. inr (taken_after from there i (λ m now. subst (λ (x : Image). IsChanged x n place.start place.count true i) (some_inj (sym found.1.now ∙ now)) changed)))) in
+        (λ i. ⊎_elim (λ midst. inl (keeps i midst)) (λ changed. inr (taken_after from there i (λ m now. subst (λ (x : Image). IsChanged x n place.start place.count true i) (some_inj (sym found.1.now ∙ now)) changed), λ m j small. map_keeps n mid i changed.same m j small ∙ size_keeps n from mid found.1.same m j small))) in
         passes_then first second

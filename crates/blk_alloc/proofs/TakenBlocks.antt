@@ -8,7 +8,7 @@ use Rattle.std.proofs.lemmas.Bool.{cases_eq}
 use Rattle.std.proofs.lemmas.Bool.Decides.{nat_tests}
 use Rattle.blk_image.specs.Image.{Image, Block, External, has_file, byte, length_of}
 use Rattle.blk_image.specs.Footprint.{SameOutside, size_of}
-use Rattle.blk_image.proofs.Footprints.{outside-trans, outside_wider, within_right}
+use Rattle.blk_image.proofs.Footprints.{outside-trans, outside_wider}
 use Rattle.blk_format.specs.Address.{kind_of, external, external_number, file_selector, first_block, block_count, is_address}
 use Rattle.blk_format.specs.Claims.{Claim, BlockOf, ExternalOf, claims_of, claims_of_all, has_claim, is_in_file}
 use Rattle.blk_format.specs.Headers.{empty_of, max_entries_of}
@@ -30,7 +30,7 @@ use Rattle.blk_alloc.proofs.Formed.{stands_kept, other_kept, file_kept}
 use Rattle.blk_alloc.proofs.Lists.{IsBlocks, claims_blocks, claims_no_external, one_more_once}
 use Rattle.blk_alloc.proofs.Members.{member_all}
 use Rattle.blk_alloc.proofs.Widening.{Widens, fit_widens, allocations_more}
-use Rattle.blk_alloc.proofs.Taken.{taking_fit, free_at}
+use Rattle.blk_alloc.proofs.Taken.{map_taken, taking_fit, free_at}
 
 clash : true ≡ false → ⊥
 clash e = cc
@@ -132,7 +132,7 @@ module _ (old new : BlockFiles) (from mid : Image) (k : Kind) (w : ℕ)
     pub taken_is : MarksUsed old from w image
     taken_is = record {
       longer = longer_last;
-      same = outside-trans (taking_of n) from mid image (taking_fit n from mid same longer_mid).same (outside_wider (map_of n) (taking_of n) mid image (within_right (size_of (Block n)) (map_of n)) changed.same);
+      same = outside-trans (taking_of n) from mid image (taking_fit n from mid same longer_mid).same (outside_wider (map_of n) (taking_of n) mid image (map_taken n) changed.same);
       free = free_blocks;
       marks = marks_are;
       allocations = λ words are.

@@ -21,6 +21,10 @@ pub record HasCounters (image : Image) (n : ℕ) : Type 0 where
 abbrev pub HasNoHints : Image → ℕ → Type 0
 HasNoHints image n = (i : ℕ) → i < 4 → hints_of (byte image (Block n)) i ≡ 0
 
+-- each file that is kept has its hints as before
+abbrev pub KeepsHintsOf : BlockFiles → Image → Image → Type 0
+KeepsHintsOf files from image = (n i : ℕ) → is_among (all_files files) n ≡ true → i < 4 → hints_of (byte image (Block n)) i ≡ hints_of (byte from (Block n)) i
+
 -- each file that is kept has its allocations as before, and its counters are as true as they were
 abbrev pub KeepsFiles : BlockFiles → Image → Image → Type 0
 KeepsFiles files from image = (n : ℕ) → is_among (all_files files) n ≡ true → KeepsFile from image n
@@ -32,6 +36,10 @@ KeepsMarks files from image = (n b : ℕ) → is_among (all_files files) n ≡ t
 -- each file that is kept is kept still
 abbrev pub KeepsAll : BlockFiles → BlockFiles → Type 0
 KeepsAll old new = (n : ℕ) → is_among (all_files old) n ≡ true → is_among (all_files new) n ≡ true
+
+-- each file has as many blocks as before
+abbrev pub KeepsBlockCounts : BlockFiles → BlockFiles → Type 0
+KeepsBlockCounts old new = (n : ℕ) → blocks_of new n ≡ blocks_of old n
 
 -- the files of each kind are the old ones
 abbrev pub KeepsLists : BlockFiles → BlockFiles → Type 0

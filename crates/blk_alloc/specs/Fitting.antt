@@ -1,48 +1,69 @@
--- The first place where blocks fit: the files of a kind in the order of their links, and in a file the least place.
-use Rattle.std.specs.Prelude.{◌≡◌, ℕ, ◌+◌, ◌-◌, ◌*◌, ◌/◌, ◌%◌, min, ◌<◌, ◌≤◌, List, ◌∷◌, ◌++◌, true, Option, None, Some}
+-- Where blocks fit: in the first file of a kind that has room by its counters, in the group to which its hints lead.
+use Rattle.std.specs.Prelude.{◌≡◌, ◌≢◌, ◌⊎◌, ℕ, ◌+◌, ◌*◌, ◌/◌, ◌%◌, ◌<◌, ◌≤◌, Bool, List, ◌∷◌, ◌++◌, true}
 use Rattle.std.specs.List.{All}
-use Rattle.blk_image.specs.Image.{Block, Image, length_of}
+use Rattle.std.specs.Option.{ForSome}
+use Rattle.blk_image.specs.Bytes.{range_at, word_bytes}
+use Rattle.blk_image.specs.Image.{Block, Image, byte}
 use Rattle.blk_image.specs.Told.{Told}
 use Rattle.blk_format.specs.BlockFiles.{is_among, max_entries_in, most_blocks}
-use Rattle.blk_format.specs.Maps.{is_block_marked, group_size, map_place}
+use Rattle.blk_format.specs.Headers.{block_fields_length, empty_of, empty_place, hints_of}
+use Rattle.blk_format.specs.Maps.{is_block_marked, group_size, groups_of, longest_run, map_place}
 use Rattle.blk_io.specs.declared.folder.FileId.TheVariants as names
 use Rattle.blk_io.specs.declared.fault.Damage.{Damage}
 use Rattle.blk_io.specs.Faults.{IsShort}
 use Rattle.blk_disk.specs.declared.tables.BlockFiles.{BlockFiles}
 use Rattle.blk_disk.specs.Tables.{blocks_of, files_of}
 use Rattle.blk_alloc.specs.declared.blocks.Blocks.{Blocks}
-use Rattle.blk_alloc.specs.Places.{is_place, AreNoPlaces, IsLeastPlace}
+use Rattle.blk_alloc.specs.Places.{is_place, AreNoPlaces}
 
--- a file has no place for so many blocks
+-- The file.
+
+-- a file has no room for so many blocks: `empty` counts no group with a longest free run of so many or more
 abbrev pub HasNoRoom : Image → ℕ → ℕ → Type 0
-HasNoRoom image count n = AreNoPlaces (is_block_marked image n) count 0 (max_entries_in image n)
+HasNoRoom image count n = (i : ℕ) → i < 4 → count ≤ i + 1 → empty_of (byte image (Block n)) i ≡ 0
 
--- the map of a file is there, as far as so many blocks go
-abbrev pub HasMapOf : Image → ℕ → ℕ → Type 0
-HasMapOf image n blocks = 0 < blocks → map_place + (blocks + 7) / 8 ≤ length_of image (Block n)
+-- a file has room for so many blocks, and i + 1 is the length of the free run that is sought for them: the least, from so many on, of which `empty` counts a group
+pub record IsSought (image : Image) (n count i : ℕ) : Type 0 where
+  pub small : i < 4
+  pub enough : count ≤ i + 1
+  pub counted : 0 < empty_of (byte image (Block n)) i
+  pub least : (j : ℕ) → j < i → count ≤ j + 1 → empty_of (byte image (Block n)) j ≡ 0
 
--- the map of each file of a list is there, as far as its blocks go
-abbrev pub HaveMaps : BlockFiles → Image → List ℕ → Type 0
-HaveMaps files image list = All (λ n. HasMapOf image n (min (blocks_of files n) most_blocks)) list
+-- The group.
 
--- the least place among the blocks from `low` on and below `end`, or none
-abbrev pub IsLeastFrom : Image → ℕ → ℕ → ℕ → ℕ → Option ℕ → Type 0
-IsLeastFrom image n count low end None = AreNoPlaces (is_block_marked image n) count low end
-IsLeastFrom image n count low end (Some b) = (low ≤ b) × (b < end) × (is_place (is_block_marked image n) count b ≡ true) × AreNoPlaces (is_block_marked image n) count low b
+-- the group that is met after so many others, from a hint on and round to the front
+abbrev pub group_after : (groups hint turns : ℕ) → ℕ
+group_after groups hint turns = (hint + turns) % groups
 
--- the first file of a list that has room gives its least place
-pub record IsFirstFit (image : Image) (files : List ℕ) (count : ℕ) (place : Blocks) : Type 0 where
+-- the first group that is met, from a hint on and round to the front, whose longest free run is so long
+pub record IsFirstMet (marked : ℕ → Bool) (groups hint run group : ℕ) : Type 0 where
+  pub turns : ℕ
+  pub few : turns < groups
+  pub met : group ≡ group_after groups hint turns
+  pub longest : longest_run marked group ≡ run
+  pub none_before : (k : ℕ) → k < turns → longest_run marked (group_after groups hint k) ≢ run
+
+-- block `start` is the least of its group where so many free blocks begin
+pub record IsLeastOfGroup (marked : ℕ → Bool) (count start : ℕ) : Type 0 where
+  pub place : is_place marked count start ≡ true
+  pub least : AreNoPlaces marked count (group_size * (start / group_size)) start
+
+-- so many blocks from `start` on lie in the first group with a longest free run of i + 1, of so many groups of a file from hint i on, and at the least place there
+pub record IsByHint (image : Image) (n groups count i start : ℕ) : Type 0 where
+  pub there : start / group_size < groups
+  pub first : IsFirstMet (is_block_marked image n) groups (hints_of (byte image (Block n)) i) (i + 1) (start / group_size)
+  pub least : IsLeastOfGroup (is_block_marked image n) count start
+
+-- the first file of a list that has room gives the blocks to which its counters and hints lead
+pub record IsFit (image : Image) (files : List ℕ) (count : ℕ) (place : Blocks) : Type 0 where
   pub before : List ℕ
   pub behind : List ℕ
   pub split : files ≡ before ++ place.file ∷ behind
   pub full : All (HasNoRoom image count) before
-  pub least : IsLeastPlace (is_block_marked image place.file) count (max_entries_in image place.file) (Some place.start)
+  pub i : ℕ
+  pub sought : IsSought image place.file count i
+  pub blocks : IsByHint image place.file (groups_of (max_entries_in image place.file)) count i place.start
   pub counted : place.count ≡ count
-
--- the first fit, or none where no file of the list has room
-abbrev pub IsFitting : Image → List ℕ → ℕ → Option Blocks → Type 0
-IsFitting image files count None = All (HasNoRoom image count) files
-IsFitting image files count (Some place) = IsFirstFit image files count place
 
 -- blocks in a file of a kind, so many and in one group, of which the first is below the file's number of blocks
 pub record IsPlace (files : BlockFiles) (kind count : ℕ) (place : Blocks) : Type 0 where
@@ -53,14 +74,42 @@ pub record IsPlace (files : BlockFiles) (kind count : ℕ) (place : Blocks) : Ty
   pub group : place.start % 4 + count ≤ group_size
   pub counted : place.count ≡ count
 
--- the map of a file of so many blocks is read 8192 blocks at a time: a read of those, or of the fewer that are left, gave too few bytes
-pub record IsShortPiece (told : Told) (n blocks : ℕ) (damage : Damage) : Type 0 where
-  pub piece : ℕ
-  pub inside : piece * 8192 < blocks
-  pub short : IsShort told (names.Block n) (map_place + piece * 1024) ((min (blocks - piece * 8192) 8192 + 7) / 8) damage
+-- What is read, and why none are found.
 
--- the same, of the map of one of the files of a kind
-pub record IsShortOf (files : BlockFiles) (kind : ℕ) (told : Told) (damage : Damage) : Type 0 where
+-- this is word `number` of the map of a file
+abbrev pub IsMapWord : Image → (n number word : ℕ) → Type 0
+IsMapWord image n number w = word_bytes w ≡ range_at (byte image (Block n)) (map_place + 4 * number) 4
+
+-- the place of hint i
+abbrev pub hint_place : ℕ → ℕ
+hint_place i = 40 + 4 * i
+
+-- what the search of a file of so many blocks reads of its header, by place and number of bytes: its fields, one of its hints, and words of its map
+abbrev pub IsSearchRead : (blocks place count : ℕ) → Type 0
+IsSearchRead blocks place count =
+    ((place ≡ 0) × (count ≡ block_fields_length))
+    ⊎ ((i : ℕ) × (i < 4) × (place ≡ hint_place i) × (count ≡ 4))
+    ⊎ ((number : ℕ) × (32 * number < blocks) × (place ≡ map_place + 4 * number) × (count ≡ 4))
+
+-- such a read of a file gave too few bytes
+pub record IsShortSearch (files : BlockFiles) (n : ℕ) (told : Told) (damage : Damage) : Type 0 where
+  pub place : ℕ
+  pub count : ℕ
+  pub read : IsSearchRead (blocks_of files n) place count
+  pub short : IsShort told (names.Block n) place count damage
+
+-- `empty` counts a group that one round of the map doesn't have: the damage has the place of the word that counts it, and finds this word
+pub record IsMiscount (files : BlockFiles) (n : ℕ) (told : Told) (damage : Damage) : Type 0 where
+  pub i : ℕ
+  pub small : i < 4
+  pub of_file : damage.file ≡ names.Block n
+  pub at : damage.at ≡ empty_place i
+  pub counts : 0 < damage.found
+  pub found : ForSome told.files (λ image. damage.found ≡ empty_of (byte image (Block n)) i)
+  pub none : ForSome told.files (λ image. (g : ℕ) → g < groups_of (blocks_of files n) → longest_run (is_block_marked image n) g ≢ i + 1)
+
+-- why no blocks are found in one of the files of a kind, whether or not it has room
+pub record IsSearchDamage (files : BlockFiles) (kind : ℕ) (told : Told) (damage : Damage) : Type 0 where
   pub file : ℕ
   pub linked : is_among (files_of files kind) file ≡ true
-  pub short : IsShortPiece told file (min (blocks_of files file) most_blocks) damage
+  pub why : IsShortSearch files file told damage ⊎ IsMiscount files file told damage

@@ -1,15 +1,16 @@
 -- Blocks of a file are taken: the file is lengthened to its blocks, and the blocks are marked.
 use Rattle.std.specs.Prelude.{◌≡◌, ◌≢◌, ◌⊎◌, ℕ, ◌+◌, ◌/◌, ◌<◌, ◌≤◌, List, ◌∷◌, true, false, if◌then◌else◌}
 use Rattle.blk_image.specs.Image.{Block, Image, byte, length_of}
-use Rattle.blk_image.specs.Footprint.{Footprint, SameOutside, either, one_word, size_of}
+use Rattle.blk_image.specs.Footprint.{Footprint, SameOutside, either, one_word, range, size_of}
 use Rattle.blk_format.specs.Address.{file_selector}
-use Rattle.blk_format.specs.Headers.{allocations_of, empty_of, updating_of, updating_place}
+use Rattle.blk_format.specs.Headers.{allocations_of, empty_of, hints_of, updating_of, updating_place}
 use Rattle.blk_format.specs.BlockFiles.{is_among, most_blocks}
 use Rattle.blk_format.specs.Maps.{is_block_marked, are_free, longest_run, AreAllocations, EmptyAgrees}
 use Rattle.blk_disk.specs.declared.tables.BlockFiles.{BlockFiles}
 use Rattle.blk_disk.specs.Tables.{all_files}
 use Rattle.blk_alloc.specs.declared.blocks.Blocks.{Blocks}
 use Rattle.blk_alloc.specs.Changes.{map_of, CanChangeMarks}
+use Rattle.blk_alloc.specs.Fitting.{hint_place}
 use Rattle.blk_alloc.specs.Counting.{counted, IsCounted}
 use Rattle.blk_alloc.specs.Owning.{is_of}
 
@@ -18,15 +19,23 @@ pub record CanBeMarked (image : Image) (place : Blocks) : Type 0 where
   pub ready : CanChangeMarks image place.file place.start place.count true
   pub free : are_free (is_block_marked image place.file) place.start place.count ≡ true
 
--- what is touched: the length of the file, its map and its counters
-abbrev pub taking_of : ℕ → Footprint
-taking_of n = either (size_of (Block n)) (map_of n)
+-- the four hints of a file
+abbrev pub hints_of_file : ℕ → Footprint
+hints_of_file n = range (Block n) (hint_place 0) 16
 
--- in the midst of it: nothing else differs, the file is no shorter, and where more than the length and updating differ, updating is 1
+-- what is touched: the length of the file, its hints, its map and its counters
+abbrev pub taking_of : ℕ → Footprint
+taking_of n = either (size_of (Block n)) (either (hints_of_file n) (map_of n))
+
+-- what says nothing of blocks: the hints and updating
+abbrev pub hints_and_updating : ℕ → Footprint
+hints_and_updating n = either (hints_of_file n) (one_word (Block n) updating_place)
+
+-- in the midst of it: nothing else differs, the file is no shorter, and where more than the length, hints and updating differ, updating is 1
 pub record MarksUsedInProgress (n : ℕ) (from image : Image) : Type 0 where
   pub same : SameOutside (taking_of n) from image
   pub longer : length_of from (Block n) ≤ length_of image (Block n)
-  pub updating : (updating_of (byte image (Block n)) ≡ 1) ⊎ SameOutside (either (size_of (Block n)) (one_word (Block n) updating_place)) from image
+  pub updating : (updating_of (byte image (Block n)) ≡ 1) ⊎ SameOutside (either (size_of (Block n)) (hints_and_updating n)) from image
 
 -- the blocks of an address are taken: they were free and are marked now, no other mark has changed, each file has its allocations and its file one more, the counters are true, and updating is 0
 pub record MarksUsed (files : BlockFiles) (from : Image) (w : ℕ) (image : Image) : Type 0 where
@@ -45,3 +54,17 @@ pub record CountsUsed (n start : ℕ) (from image : Image) : Type 0 where
   pub allocations : IsCounted true (allocations_of (byte from (Block n))) (allocations_of (byte image (Block n)))
   pub counts : (i : ℕ) → i < 4 → empty_of (byte image (Block n)) i + counted (longest_run (is_block_marked from n) (start / 4)) i
       ≡ empty_of (byte from (Block n)) i + counted (longest_run (is_block_marked image n) (start / 4)) i
+
+-- the hints of all files are as before
+abbrev pub KeepsHints : Image → Image → Type 0
+KeepsHints from image = (n i : ℕ) → i < 4 → hints_of (byte image (Block n)) i ≡ hints_of (byte from (Block n)) i
+
+-- hint i of a file is a number now, and nothing else differs
+pub record HasHint (n i number : ℕ) (from image : Image) : Type 0 where
+  pub same : SameOutside (one_word (Block n) (hint_place i)) from image
+  pub set : hints_of (byte image (Block n)) i ≡ number
+
+-- hint i of a file is a number now, and each other hint of each file is as before
+pub record HasHintAmong (n i number : ℕ) (from image : Image) : Type 0 where
+  pub set : hints_of (byte image (Block n)) i ≡ number
+  pub others : (m j : ℕ) → j < 4 → (m ≢ n) ⊎ (j ≢ i) → hints_of (byte image (Block m)) j ≡ hints_of (byte from (Block m)) j

@@ -1,33 +1,39 @@
 // Blocks are allocated.
-ghost use Rattle.std.specs.Prelude.{◌≡◌, ◌≢◌, ◌⊎◌, ◌≤◌, ◌<◌, true, None, IfOk, OnOk, IsTrue, length};
+ghost use Rattle.std.specs.Prelude.{◌≡◌, ◌≢◌, ◌⊎◌, ◌≤◌, ◌<◌, ◌+◌, ◌-◌, ◌/◌, ◌%◌, [], true, false, None, IfOk, OnOk, IsTrue, length};
 ghost use Rattle.std.specs.List.{All};
 ghost use Rattle.std.specs.Option.{ForSome};
 ghost use Rattle.blk_image.specs.Image.{Block as block, byte};
 ghost use Rattle.blk_image.specs.Told.{Passes, PassesTo, Rises, Stays};
 ghost use Rattle.blk_format.specs.Address.{block_count, external, file_selector, is_address, kind_of, rankings};
 ghost use Rattle.blk_format.specs.BlockFiles.{is_among, most_files};
-ghost use Rattle.blk_format.specs.Headers.{allocations_of};
-ghost use Rattle.blk_format.specs.Maps.{group_size};
+ghost use Rattle.blk_format.specs.Headers.{allocations_of, empty_of};
+ghost use Rattle.blk_format.specs.Maps.{group_size, AreAllocations, EmptyAgrees};
 ghost use Rattle.blk_addr.specs.Kind.{kind_number};
 ghost use Rattle.blk_io.specs.Faults.{IfDamaged, IfDevice};
-ghost use Rattle.blk_disk.specs.Tables.{Agrees, all_files, files_of, stands_among};
+ghost use Rattle.blk_disk.specs.Tables.{Agrees, all_files, blocks_of, files_of, stands_among};
+ghost use Rattle.blk_disk.specs.Growth.{grown};
 ghost use Rattle.blk_alloc.specs.Fitting.{IsPlace};
-ghost use Rattle.blk_alloc.specs.Extending.{HasItsBlocks, HasMostBlocks, KeepsAll, KeepsLinks, KeepsStanding};
+ghost use Rattle.blk_alloc.specs.Extending.{HasItsBlocks, HasMostBlocks, HasNoHints, KeepsAll, KeepsHintsOf, KeepsLinks, KeepsMarks, KeepsStanding};
 ghost use Rattle.blk_alloc.specs.Marking.{taking_of};
-ghost use Rattle.blk_alloc.specs.Allocating.{AllocatesIn, AreCounted, ExtendsAnd, HaveNoRoom, IsAddedPlace, IsChosen, IsCountedOnce, IsKindFull, Allocates, AllocatesInProgress, AllocatesOrStops, IsGrownPlace, Extends, ExtendsAndAllocates, ExtendsInProgress, IsRefusal, MakesRoomInProgress, updating_word};
+ghost use Rattle.blk_alloc.specs.Allocating.{AllocatesIn, AreCounted, ExtendsAnd, HaveNoRoom, IsAddedPlace, IsChosen, IsCountedOnce, IsGrownRoom, IsKindFull, LiesAtHint, SetsHint, most_words, Allocates, AllocatesInProgress, AllocatesOrStops, Extends, ExtendsAndAllocates, ExtendsInProgress, IsRefusal, MakesRoomInProgress, updating_word};
 ghost use Rattle.blk_format.specs.Growth.{StaysWhole};
 
 use crate::blocks::Blocks;
 use crate::extending::{add_room, grow_room, growing_file};
-use crate::fitting::first_fit;
-use crate::marking::mark;
-use blk_addr::{Addr, Kind};
-use blk_disk::BlockFiles;
+use crate::fitting::{blocks_in, find, find_by_hint};
+use crate::taking::take;
+use blk_addr::{Addr, GROUP, Kind};
+use blk_disk::{BlockFiles, Steps};
 use blk_io::{Damage, Fault, FileId, Folder, read_word};
 use blk_record::BlockHead;
+use std::marker::Brand;
+use std::sync::ledger::{Blank, Ledger};
 
 // The most files of one kind.
 const MOST_FILES: u8 = blk_disk::MOST_FILES as u8;
+
+// The hint by which groups are sought of which all four blocks are free.
+const WHOLE_GROUP: u32 = 3;
 
 // The last word of a map.
 const LAST_PLACE: u64 = BlockHead::HEADER_LEN - 4;
@@ -68,10 +74,16 @@ fn new_room<F: Folder>(
     requires agrees { ForSome (F.told f.old).files (Agrees files.old) }
     requires full { ForSome (F.told f.old).files (HaveNoRoom files.old (kind_number kind) count) }
     ensures fits { IfOk result (IsPlace files.new (kind_number kind) count) }
-    ensures place { IfOk result (λ place. ForSome (F.told f.old).files (λ _. IsGrownPlace files.old (kind_number kind) place ⊎ IsAddedPlace files.old (kind_number kind) place)) }
+    ensures place { IfOk result (λ place. ForSome (F.told f.old).files (λ _. IsGrownRoom files.old (kind_number kind) place ⊎ IsAddedPlace files.old (kind_number kind) place)) }
     ensures made { IfOk result (λ place. ForSome (F.told f.old).files (λ from. AreCounted files.old (kind_number kind) from → ForSome (F.told f.new).files (Extends files.old from place))) }
     ensures within { IfOk result (λ place. ForSome (F.told f.old).files (λ from. ForSome (F.told f.new).files (ExtendsAnd updating_word files.old (kind_number kind) from place.file))) }
     ensures counts { IfOk result (λ place. ForSome (F.told f.old).files (λ from. ForSome (F.told f.new).files (λ image. is_among (all_files files.old) place.file ≡ true → allocations_of (byte image (block place.file)) ≡ allocations_of (byte from (block place.file))))) }
+    ensures raised { IfOk result (λ place. ForSome (F.told f.old).files (λ from. ForSome (F.told f.new).files (λ image. empty_of (byte image (block place.file)) 3 ≡ (blocks_of files.new place.file - place.start) / 4))) }
+    ensures whole { IfOk result (λ place. place.start % 4 ≡ 0) }
+    ensures grown { IfOk result (λ place. is_among (all_files files.old) place.file ≡ true → blocks_of files.new place.file ≡ grown (blocks_of files.old place.file)) }
+    ensures fresh { IfOk result (λ place. ForSome (F.told f.old).files (λ from. ForSome (F.told f.new).files (λ image. is_among (all_files files.old) place.file ≡ false → AreAllocations image place.file [] × (EmptyAgrees image place.file × HasNoHints image place.file)))) }
+    ensures marks { OnOk result (ForSome (F.told f.old).files (λ from. ForSome (F.told f.new).files (KeepsMarks files.old from))) }
+    ensures hints { OnOk result (ForSome (F.told f.old).files (λ from. ForSome (F.told f.new).files (KeepsHintsOf files.old from))) }
     ensures all { OnOk result (KeepsAll files.old files.new) }
     ensures links { IfOk result (λ place. KeepsLinks files.old files.new place.file) }
     ensures standing { KeepsStanding files.old files.new }
@@ -97,11 +109,12 @@ fn new_room<F: Folder>(
 }
 
 // Gives blocks where no file of a kind has room for them.
-fn allocate_new<F: Folder>(
+fn allocate_new<F: Folder, L: Ledger>(
     f: &mut F,
     files: &mut BlockFiles,
     kind: Kind,
     count: u32,
+    steps: &mut Steps<L>,
 ) -> Result<Addr, Fault>
     requires some { 0 < count }
     requires few { count ≤ group_size }
@@ -110,6 +123,9 @@ fn allocate_new<F: Folder>(
     requires agrees { ForSome (F.told f.old).files (Agrees files.old) }
     requires full { ForSome (F.told f.old).files (HaveNoRoom files.old (kind_number kind) count) }
     ensures chosen { IfOk result (λ addr. ForSome (F.told f.old).files (λ from. IsChosen files.old from (kind_number kind) count addr)) }
+    ensures hints { IfOk result (λ addr. ForSome (F.told f.old).files (λ from. ForSome (F.told f.new).files (SetsHint files.old (kind_number kind) count from addr))) }
+    ensures most { IfOk result (λ addr. steps.new ≤ steps.old + most_words files.new (file_selector addr)) }
+    ensures once { IfOk result (λ addr. ForSome (F.told f.old).files (λ from. LiesAtHint files.old files.new (kind_number kind) count from addr → steps.new ≡ steps.old + 1)) }
     ensures kind { IfOk result (λ addr. (kind_of addr ≡ kind_number kind) × (block_count addr ≡ count)) }
     ensures address { IfOk result (λ addr. IsTrue (is_address addr)) }
     ensures stands { IfOk result (λ addr. IsTrue (stands_among files.new addr)) }
@@ -126,19 +142,125 @@ fn allocate_new<F: Folder>(
     ensures later { F.faults f.old ≤ F.faults f.new }
     ensures device { IfDevice result (Rises (F.faults f.old) (F.faults f.new)) }
 {
-    let place = new_room(f, files, kind, count)?;
-    mark(f, files, kind, place)
+    let room = new_room(f, files, kind, count)?;
+    let groups = (blocks_in(files, room.file) - room.start) / GROUP;
+    let found = find_by_hint(f, files, kind, room, WHOLE_GROUP, groups, steps)?;
+    take(f, files, kind, found)
 }
 
-/// Gives 1 to 4 blocks of a block kind, and 1 of `Rankings`, which nobody owned, and marks them.
+/// Gives 1 to 4 blocks of a block kind, and 1 of `Rankings`, which nobody owned, marks them, and counts the words of maps that are read.
 ///
-/// They lie inside one group of four. The files of the kind are tried in the order of their links,
-/// and in a file the least place is taken. Where no file has room, the first file with fewer than
-/// 64896 blocks grows, and where there is none, a file is added and grows; the new blocks are given.
+/// They lie inside one group of four. The files of the kind are tried in the order of their links. By its
+/// counters a file has room where some group has a longest free run of as many blocks or more. The
+/// shortest such run is sought, from the group at its hint on and round to the front; the first group that has it gives
+/// its least place, and the hint becomes its number. Where no file has room, the first file with fewer than
+/// 64896 blocks grows, and where there is none, a file is added and grows; then it is searched in this way.
 ///
 /// A damage is a read of a file's header that gave too few bytes, a counter that would leave its
-/// range, or 60 full files of the kind; then it finds the last word of the last map. Where the files of
-/// the kind have true counters and at most 655362 allocations, all of these need a folder that tells nothing.
+/// range or that counts a group which one round of the map doesn't have, or 60 full files of the kind; then it
+/// finds the last word of the last map. Where the files of the kind have true counters and at most 655362
+/// allocations, all of these need a folder that tells nothing.
+pub fn allocate_counted<F: Folder, L: Ledger>(
+    f: &mut F,
+    files: &mut BlockFiles,
+    kind: Kind,
+    blocks: u32,
+    steps: &mut Steps<L>,
+) -> Result<Addr, Fault>
+    requires some { 0 < blocks }
+    requires few { blocks ≤ group_size }
+    requires block_kind { kind_number kind ≢ external }
+    requires node { kind_number kind ≡ rankings → blocks ≡ 1 }
+    requires agrees { ForSome (F.told f.old).files (Agrees files.old) }
+
+    // The blocks are of the kind, as many as asked for, and stand; their file has all its blocks.
+    ensures kind { IfOk result (λ addr. (kind_of addr ≡ kind_number kind) × (block_count addr ≡ blocks)) }
+    ensures address { IfOk result (λ addr. IsTrue (is_address addr)) }
+    ensures stands { IfOk result (λ addr. IsTrue (stands_among files.new addr)) }
+    ensures long { IfOk result (λ addr. HasItsBlocks files.new (file_selector addr)) }
+
+    // What stood still does, and the other files are linked as before.
+    ensures keeps { KeepsStanding files.old files.new }
+    ensures links { IfOk result (λ addr. KeepsLinks files.old files.new (file_selector addr)) }
+
+    // The blocks to which counters and hints lead, in the first file with room, or where no file of the kind has room, in one that grows, or in a new one only where none may grow.
+    ensures chosen { IfOk result (λ addr. ForSome (F.told f.old).files (λ from. IsChosen files.old from (kind_number kind) blocks addr)) }
+    ensures hints { IfOk result (λ addr. ForSome (F.told f.old).files (λ from. ForSome (F.told f.new).files (SetsHint files.old (kind_number kind) blocks from addr))) }
+    ensures counted { IfOk result (λ addr. ForSome (F.told f.old).files (λ from. ForSome (F.told f.new).files (IsCountedOnce files.old from addr))) }
+    ensures allocates { IfOk result (λ addr. ForSome (F.told f.old).files (λ from. AreCounted files.old (kind_number kind) from → ForSome (F.told f.new).files (Allocates files.old from addr))) }
+    ensures within { IfOk result (λ addr. ForSome (F.told f.old).files (λ from. AreCounted files.old (kind_number kind) from → ForSome (F.told f.new).files (AllocatesIn files.old (kind_number kind) from (file_selector addr)))) }
+    ensures agrees { OnOk result (ForSome (F.told f.new).files (Agrees files.new)) }
+
+    // At each word only one file of the kind differs, in its length, map, counters and hints, and where it grows or is added in what these touch; updating is 1 until the last word, with which the allocation is done; files have grown at most, and a well-formed folder is well formed.
+    ensures stops { ForSome (F.told f.old).files (λ from. AreCounted files.old (kind_number kind) from → PassesTo (F.told f.old) (F.told f.new) (AllocatesInProgress files.old (kind_number kind) blocks from) (AllocatesOrStops files.old (kind_number kind) blocks from)) }
+
+    // At most each word of the map of the file that gives the blocks is read, and one of them again; and exactly one where the group at the hint is taken. Of a file without room none is read.
+    ensures most { IfOk result (λ addr. steps.new ≤ steps.old + most_words files.new (file_selector addr)) }
+    ensures once { IfOk result (λ addr. ForSome (F.told f.old).files (λ from. LiesAtHint files.old files.new (kind_number kind) blocks from addr → steps.new ≡ steps.old + 1)) }
+
+    // Of a damage of a file that was there, by its counters and hints, and of full files nothing is written.
+    ensures cause { IfDamaged result (IsRefusal files.old files.new (kind_number kind) blocks (F.told f.old) (F.told f.new)) }
+    ensures untold { ForSome (F.told f.old).files (AreCounted files.old (kind_number kind)) → IfDamaged result (λ _. (F.told f.old).files ≡ None) }
+    ensures silent { (F.told f.old).files ≡ None → (F.told f.new).files ≡ None }
+    ensures later { F.faults f.old ≤ F.faults f.new }
+    ensures device { IfDevice result (Rises (F.faults f.old) (F.faults f.new)) }
+{
+    match find(f, files, kind, blocks, steps)? {
+        Some(found) => take(f, files, kind, found),
+        None => allocate_new(f, files, kind, blocks, steps),
+    }
+}
+
+// The same with a count of its own.
+fn allocate_from<F: Folder, L: Ledger>(
+    f: &mut F,
+    files: &mut BlockFiles,
+    kind: Kind,
+    blocks: u32,
+    blank: Blank,
+) -> Result<Addr, Fault>
+    requires name { blank.name ≡ L.name }
+    requires parts { blank.parts ≡ L.parts }
+    requires one { 0 < blank.parts }
+    requires some { 0 < blocks }
+    requires few { blocks ≤ group_size }
+    requires block_kind { kind_number kind ≢ external }
+    requires node { kind_number kind ≡ rankings → blocks ≡ 1 }
+    requires agrees { ForSome (F.told f.old).files (Agrees files.old) }
+
+    // The blocks are of the kind, as many as asked for, and stand; their file has all its blocks.
+    ensures kind { IfOk result (λ addr. (kind_of addr ≡ kind_number kind) × (block_count addr ≡ blocks)) }
+    ensures address { IfOk result (λ addr. IsTrue (is_address addr)) }
+    ensures stands { IfOk result (λ addr. IsTrue (stands_among files.new addr)) }
+    ensures long { IfOk result (λ addr. HasItsBlocks files.new (file_selector addr)) }
+
+    // What stood still does, and the other files are linked as before.
+    ensures keeps { KeepsStanding files.old files.new }
+    ensures links { IfOk result (λ addr. KeepsLinks files.old files.new (file_selector addr)) }
+
+    // The blocks to which counters and hints lead, in the first file with room, or where no file of the kind has room, in one that grows, or in a new one only where none may grow.
+    ensures chosen { IfOk result (λ addr. ForSome (F.told f.old).files (λ from. IsChosen files.old from (kind_number kind) blocks addr)) }
+    ensures hints { IfOk result (λ addr. ForSome (F.told f.old).files (λ from. ForSome (F.told f.new).files (SetsHint files.old (kind_number kind) blocks from addr))) }
+    ensures counted { IfOk result (λ addr. ForSome (F.told f.old).files (λ from. ForSome (F.told f.new).files (IsCountedOnce files.old from addr))) }
+    ensures allocates { IfOk result (λ addr. ForSome (F.told f.old).files (λ from. AreCounted files.old (kind_number kind) from → ForSome (F.told f.new).files (Allocates files.old from addr))) }
+    ensures within { IfOk result (λ addr. ForSome (F.told f.old).files (λ from. AreCounted files.old (kind_number kind) from → ForSome (F.told f.new).files (AllocatesIn files.old (kind_number kind) from (file_selector addr)))) }
+    ensures agrees { OnOk result (ForSome (F.told f.new).files (Agrees files.new)) }
+
+    // At each word only one file of the kind differs, in its length, map, counters and hints, and where it grows or is added in what these touch; updating is 1 until the last word, with which the allocation is done; files have grown at most, and a well-formed folder is well formed.
+    ensures stops { ForSome (F.told f.old).files (λ from. AreCounted files.old (kind_number kind) from → PassesTo (F.told f.old) (F.told f.new) (AllocatesInProgress files.old (kind_number kind) blocks from) (AllocatesOrStops files.old (kind_number kind) blocks from)) }
+
+    // Of a damage of a file that was there, by its counters and hints, and of full files nothing is written.
+    ensures cause { IfDamaged result (IsRefusal files.old files.new (kind_number kind) blocks (F.told f.old) (F.told f.new)) }
+    ensures untold { ForSome (F.told f.old).files (AreCounted files.old (kind_number kind)) → IfDamaged result (λ _. (F.told f.old).files ≡ None) }
+    ensures silent { (F.told f.old).files ≡ None → (F.told f.new).files ≡ None }
+    ensures later { F.faults f.old ≤ F.faults f.new }
+    ensures device { IfDevice result (Rises (F.faults f.old) (F.faults f.new)) }
+{
+    let mut steps = Steps::<L>::start(blank);
+    allocate_counted(f, files, kind, blocks, &mut steps)
+}
+
+/// Gives blocks as `allocate_counted` does, of which it does the work.
 pub fn allocate<F: Folder>(
     f: &mut F,
     files: &mut BlockFiles,
@@ -161,25 +283,23 @@ pub fn allocate<F: Folder>(
     ensures keeps { KeepsStanding files.old files.new }
     ensures links { IfOk result (λ addr. KeepsLinks files.old files.new (file_selector addr)) }
 
-    // The first fit, or where no file of the kind has room, the first blocks of a growth, and of a new file only where none may grow.
+    // The blocks to which counters and hints lead, in the first file with room, or where no file of the kind has room, in one that grows, or in a new one only where none may grow.
     ensures chosen { IfOk result (λ addr. ForSome (F.told f.old).files (λ from. IsChosen files.old from (kind_number kind) blocks addr)) }
+    ensures hints { IfOk result (λ addr. ForSome (F.told f.old).files (λ from. ForSome (F.told f.new).files (SetsHint files.old (kind_number kind) blocks from addr))) }
     ensures counted { IfOk result (λ addr. ForSome (F.told f.old).files (λ from. ForSome (F.told f.new).files (IsCountedOnce files.old from addr))) }
     ensures allocates { IfOk result (λ addr. ForSome (F.told f.old).files (λ from. AreCounted files.old (kind_number kind) from → ForSome (F.told f.new).files (Allocates files.old from addr))) }
     ensures within { IfOk result (λ addr. ForSome (F.told f.old).files (λ from. AreCounted files.old (kind_number kind) from → ForSome (F.told f.new).files (AllocatesIn files.old (kind_number kind) from (file_selector addr)))) }
     ensures agrees { OnOk result (ForSome (F.told f.new).files (Agrees files.new)) }
 
-    // At each word only one file of the kind differs, in its length, map and counters, and where it grows or is added in what these touch; updating is 1 until the last word, with which the allocation is done; files have grown at most, and a well-formed folder is well formed.
+    // At each word only one file of the kind differs, in its length, map, counters and hints, and where it grows or is added in what these touch; updating is 1 until the last word, with which the allocation is done; files have grown at most, and a well-formed folder is well formed.
     ensures stops { ForSome (F.told f.old).files (λ from. AreCounted files.old (kind_number kind) from → PassesTo (F.told f.old) (F.told f.new) (AllocatesInProgress files.old (kind_number kind) blocks from) (AllocatesOrStops files.old (kind_number kind) blocks from)) }
 
-    // Of a damage of a map or of full files nothing is written.
+    // Of a damage of a file that was there, by its counters and hints, and of full files nothing is written.
     ensures cause { IfDamaged result (IsRefusal files.old files.new (kind_number kind) blocks (F.told f.old) (F.told f.new)) }
     ensures untold { ForSome (F.told f.old).files (AreCounted files.old (kind_number kind)) → IfDamaged result (λ _. (F.told f.old).files ≡ None) }
     ensures silent { (F.told f.old).files ≡ None → (F.told f.new).files ≡ None }
     ensures later { F.faults f.old ≤ F.faults f.new }
     ensures device { IfDevice result (Rises (F.faults f.old) (F.faults f.new)) }
 {
-    match first_fit(f, files, kind, blocks)? {
-        Some(place) => mark(f, files, kind, place),
-        None => allocate_new(f, files, kind, blocks),
-    }
+    allocate_from::<F, Brand>(f, files, kind, blocks, Blank::new(1))
 }

@@ -13,6 +13,14 @@ pub(crate) struct Blocks {
     pub count: u32,
 }
 
+// Blocks that were found free, the number of the hint that led there, and the word of the map that has them.
+#[derive(Clone, Copy)]
+pub(crate) struct Found {
+    pub place: Blocks,
+    pub i: u32,
+    pub word: u32,
+}
+
 // The blocks that an address names, which lie in one group.
 pub(crate) fn blocks_of(addr: Addr) -> Blocks
     requires { kind_of addr ≢ external }

@@ -1,5 +1,5 @@
 // The marks of blocks in one group of a file change, and the counters with them.
-ghost use Rattle.std.specs.Prelude.{◌≡◌, ◌⊎◌, ◌≤◌, ◌<◌, ◌+◌, ◌%◌, ◌^◌, None, OnOk};
+ghost use Rattle.std.specs.Prelude.{◌≡◌, ◌⊎◌, ◌≤◌, ◌<◌, ◌+◌, ◌/◌, ◌%◌, ◌^◌, None, OnOk};
 ghost use Rattle.std.specs.Option.{ForSome};
 ghost use Rattle.blk_image.specs.Image.{Block as block, length_of};
 ghost use Rattle.blk_image.specs.Told.{PassesTo, Rises, Stays};
@@ -7,13 +7,47 @@ ghost use Rattle.blk_format.specs.BlockFiles.{most_blocks};
 ghost use Rattle.blk_format.specs.Maps.{group_size};
 ghost use Rattle.blk_io.specs.Faults.{IfDamaged, IfDevice};
 ghost use Rattle.blk_alloc.specs.Changes.{CanChangeMarks, IsMapInProgress, IsChanged};
+ghost use Rattle.blk_alloc.specs.Fitting.{IsMapWord};
 ghost use Rattle.blk_alloc.specs.Owning.{IsCause};
 
+use crate::map::word_of;
 use crate::plan::Plan;
-use blk_io::{Fault, Folder};
+use blk_io::{Fault, FileId, Folder, read_exact};
+use blk_record::BlockHead;
 
-// Marks so many blocks from one on, which lie in one group, or frees them.
+const BITS_OF_WORD: u32 = 32;
+
+// Marks so many blocks from one on, which lie in one group, or frees them, in a word of the map that was read.
 pub(crate) fn change<F: Folder>(
+    f: &mut F,
+    file: u8,
+    start: u32,
+    count: u32,
+    used: bool,
+    word: u32,
+) -> Result<(), Fault>
+    requires some { 0 < count }
+    requires group { start % 4 + count ≤ group_size }
+    requires small { start + count < 2 ^ 32 }
+    requires header { ForSome (F.told f.old).files (λ image. 8192 ≤ length_of image (block file)) }
+    requires inside { ForSome (F.told f.old).files (λ image. start + count ≤ most_blocks) }
+    requires word { ForSome (F.told f.old).files (λ image. IsMapWord image file (start / 32) word) }
+    ensures changed { OnOk result (ForSome (F.told f.old).files (λ from. ForSome (F.told f.new).files (IsChanged from file start count used))) }
+    ensures stops { ForSome (F.told f.old).files (λ from. PassesTo (F.told f.old) (F.told f.new) (IsMapInProgress file from) (λ image. IsMapInProgress file from image ⊎ IsChanged from file start count used image)) }
+    ensures silent { (F.told f.old).files ≡ None → (F.told f.new).files ≡ None }
+    ensures cause { IfDamaged result (IsCause (F.told f.old) file start count used) }
+    ensures unwritten { IfDamaged result (λ _. Stays (F.told f.old) (F.told f.new)) }
+    ensures untold { IfDamaged result (λ _. ForSome (F.told f.old).files (λ image. CanChangeMarks image file start count used) → (F.told f.old).files ≡ None) }
+    ensures later { F.faults f.old ≤ F.faults f.new }
+    ensures device { IfDevice result (Rises (F.faults f.old) (F.faults f.new)) }
+{
+    let plan = Plan::read(f, file, start, count, used, word)?;
+    plan.write(f, file)?;
+    Ok(())
+}
+
+// The same, where the word of the map that has the blocks isn't read yet.
+pub(crate) fn read_and_change<F: Folder>(
     f: &mut F,
     file: u8,
     start: u32,
@@ -34,7 +68,9 @@ pub(crate) fn change<F: Folder>(
     ensures later { F.faults f.old ≤ F.faults f.new }
     ensures device { IfDevice result (Rises (F.faults f.old) (F.faults f.new)) }
 {
-    let plan = Plan::read(f, file, start, count, used)?;
-    plan.write(f, file)?;
-    Ok(())
+    let at = BlockHead::MAP + 4 * u64::from(start / BITS_OF_WORD);
+    let mut bytes = [0u8; 4];
+    read_exact(f, FileId::Block(file), at, &mut bytes)?;
+    let word = word_of(&bytes);
+    change(f, file, start, count, used, word)
 }

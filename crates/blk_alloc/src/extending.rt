@@ -2,17 +2,19 @@
 ghost use Rattle.std.specs.Prelude.{◌≡◌, ◌≢◌, ◌*◌, ◌/◌, ◌≤◌, ◌<◌, [], None, length, IfOk, OnOk, OnErr, IsTrue};
 ghost use Rattle.std.specs.Option.{ForSome};
 ghost use Rattle.blk_image.specs.Footprint.{either};
+ghost use Rattle.blk_image.specs.Image.{Block as block, byte};
+ghost use Rattle.blk_format.specs.Headers.{empty_of};
 ghost use Rattle.blk_image.specs.Told.{Passes, Rises};
 ghost use Rattle.blk_format.specs.BlockFiles.{is_among, most_blocks, most_files};
 ghost use Rattle.blk_format.specs.Address.{external};
 ghost use Rattle.blk_format.specs.Growth.{StaysWholeOutside};
 ghost use Rattle.blk_addr.specs.Kind.{kind_number};
-ghost use Rattle.blk_format.specs.Maps.{group_size, AreAllocations};
+ghost use Rattle.blk_format.specs.Maps.{group_size, AreAllocations, EmptyAgrees};
 ghost use Rattle.blk_disk.specs.Tables.{Agrees, blocks_of, files_of};
-ghost use Rattle.blk_disk.specs.Growth.{IsLeastFileNumber, addition_of, free_number, growth_of};
+ghost use Rattle.blk_disk.specs.Growth.{IsLeastFileNumber, addition_of, free_number, grown, growth_of, new_groups, raised};
 ghost use Rattle.blk_alloc.specs.Fitting.{IsPlace};
-ghost use Rattle.blk_alloc.specs.Extending.{HasCounters, HasNoHints, IsGrowing, KeepsAll, KeepsFiles, KeepsLinks, KeepsLists, KeepsMarks, KeepsStanding};
-ghost use Rattle.blk_alloc.specs.Marking.{CanBeMarked};
+ghost use Rattle.blk_alloc.specs.Extending.{HasCounters, HasNoHints, IsGrowing, KeepsAll, KeepsFiles, KeepsHintsOf, KeepsLinks, KeepsLists, KeepsMarks, KeepsStanding};
+ghost use Rattle.blk_alloc.specs.Marking.{CanBeMarked, KeepsHints};
 
 use crate::blocks::Blocks;
 use crate::fitting::blocks_in;
@@ -41,6 +43,9 @@ pub(crate) fn grow_room<F: Folder>(
     ensures standing { KeepsStanding files.old files.new }
     ensures marks { OnOk result (ForSome (F.told f.old).files (λ from. ForSome (F.told f.new).files (KeepsMarks files.old from))) }
     ensures markable { IfOk result (λ place. ForSome (F.told f.old).files (λ from. HasCounters from file → ForSome (F.told f.new).files (λ image. CanBeMarked image place))) }
+    ensures raised { OnOk result (ForSome (F.told f.old).files (λ from. ForSome (F.told f.new).files (λ image. empty_of (byte image (block file)) 3 ≡ raised from file (new_groups (blocks_of files.old file))))) }
+    ensures blocks { OnOk result (blocks_of files.new file ≡ grown (blocks_of files.old file)) }
+    ensures hints { OnOk result (ForSome (F.told f.old).files (λ from. ForSome (F.told f.new).files (KeepsHints from))) }
     ensures keeps { OnOk result (ForSome (F.told f.old).files (λ from. HasCounters from file → ForSome (F.told f.new).files (KeepsFiles files.old from))) }
     ensures agrees { OnOk result (ForSome (F.told f.new).files (Agrees files.new)) }
     ensures same { OnErr result (files.new ≡ files.old) }
@@ -73,6 +78,10 @@ pub(crate) fn add_room<F: Folder>(
     ensures standing { KeepsStanding files.old files.new }
     ensures marks { OnOk result (ForSome (F.told f.old).files (λ from. ForSome (F.told f.new).files (KeepsMarks files.old from))) }
     ensures fresh { OnOk result (ForSome (F.told f.old).files (λ from. ForSome (F.told f.new).files (λ image. AreAllocations image (free_number files.old) []))) }
+    ensures raised { OnOk result (ForSome (F.told f.old).files (λ from. ForSome (F.told f.new).files (λ image. empty_of (byte image (block (free_number files.old))) 3 ≡ 256))) }
+    ensures blocks { OnOk result (blocks_of files.new (free_number files.old) ≡ 1024) }
+    ensures kept_hints { OnOk result (ForSome (F.told f.old).files (λ from. ForSome (F.told f.new).files (KeepsHintsOf files.old from))) }
+    ensures empty { OnOk result (ForSome (F.told f.old).files (λ from. ForSome (F.told f.new).files (λ image. EmptyAgrees image (free_number files.old)))) }
     ensures hints { OnOk result (ForSome (F.told f.old).files (λ from. ForSome (F.told f.new).files (λ image. HasNoHints image (free_number files.old)))) }
     ensures least { OnOk result (IsLeastFileNumber files.old (free_number files.old)) }
     ensures markable { IfOk result (λ place. ForSome (F.told f.old).files (λ from. ForSome (F.told f.new).files (λ image. CanBeMarked image place))) }

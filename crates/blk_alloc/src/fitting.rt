@@ -1,87 +1,31 @@
-// The first place where blocks fit.
-ghost use Rattle.std.specs.Prelude.{◌≡◌, ◌≢◌, ◌≤◌, ◌<◌, ◌+◌, ◌*◌, ◌/◌, ◌%◌, min, true, length, None, IfOk, OnOk};
+// The blocks to which counters and hints lead.
+ghost use Rattle.std.specs.Prelude.{◌≡◌, ◌≢◌, ◌≤◌, ◌<◌, ◌+◌, ◌*◌, ◌/◌, ◌%◌, ℕ, min, true, None, IfOk, IfSome, length, slice_index};
 ghost use Rattle.std.specs.Option.{ForSome};
-ghost use Rattle.blk_image.specs.Image.{Block as block, length_of};
+ghost use Rattle.blk_image.specs.Image.{Block as block, byte};
 ghost use Rattle.blk_image.specs.Told.{Stays, Rises};
-ghost use Rattle.blk_format.specs.BlockFiles.{is_among, most_blocks};
-ghost use Rattle.blk_format.specs.Maps.{group_size, map_place};
-ghost use Rattle.blk_addr.specs.Kind.{kind_number};
-ghost use Rattle.blk_io.specs.Faults.{IfDamaged, IfDevice, IsShort};
-ghost use Rattle.blk_disk.specs.Tables.{Agrees, all_files, blocks_of, files_of};
-ghost use Rattle.blk_alloc.specs.Fitting.{HasMapOf, HaveMaps, IsFitting, IsLeastFrom, IsPlace, IsShortOf, IsShortPiece};
 ghost use Rattle.blk_format.specs.Address.{external};
+ghost use Rattle.blk_format.specs.BlockFiles.{is_among, most_blocks};
+ghost use Rattle.blk_format.specs.Headers.{empty_of, hints_of};
+ghost use Rattle.blk_format.specs.Maps.{group_size, groups_of, EmptyAgrees};
+ghost use Rattle.blk_addr.specs.Kind.{kind_number};
+ghost use Rattle.blk_io.specs.Faults.{IfDamaged, IfDevice};
+ghost use Rattle.blk_disk.specs.Tables.{Agrees, all_files, blocks_of, files_of};
+ghost use Rattle.blk_alloc.specs.Fitting.{HasNoRoom, IsByHint, IsFit, IsMapWord, IsPlace, IsSearchDamage, IsSought};
+ghost use Rattle.blk_alloc.specs.Allocating.{AreCounted, HaveNoRoom, most_words};
 
-use crate::blocks::Blocks;
-use crate::map::least_place;
-use blk_addr::Kind;
-use blk_disk::BlockFiles;
-use blk_io::{Fault, FileId, Folder, read_exact};
+use crate::blocks::{Blocks, Found};
+use crate::counters::Counters;
+use crate::searching::{first_met, least_of_group};
+use blk_addr::{GROUP, Kind};
+use blk_disk::{BlockFiles, Steps};
+use blk_io::{Damage, Fault, FileId, Folder, read_word};
 use blk_record::BlockHead;
+use std::sync::ledger::Ledger;
 
-// The bytes of the map that are read at once, and their blocks.
-const PIECE_LEN: usize = 1024;
+// The place of the first hint.
+pub(crate) const HINTS: u64 = BlockHead::EMPTY + 16;
 
-const PIECE: u32 = 8192;
-
-// The least place among so many blocks of a file, from one on, whose bytes of the map are read into a piece.
-fn least_in_piece<F: Folder>(
-    f: &mut F,
-    file: u8,
-    first: u32,
-    blocks: u32,
-    count: u32,
-    piece: &mut [u8],
-) -> Result<Option<u32>, Fault>
-    requires few { count ≤ group_size }
-    requires whole { first % 8 ≡ 0 }
-    requires small { first + blocks ≤ most_blocks }
-    requires fits { blocks ≤ 8 * length piece.old }
-    requires none_more { 8 * length piece.old < blocks + 8 }
-    ensures least { IfOk result (λ found. ForSome (F.told f.old).files (λ image. IsLeastFrom image file count first (first + blocks) found)) }
-    ensures inside { IfOk result (λ found. ForSome found (λ b. (b % 4 + count ≤ group_size) × (b < first + blocks))) }
-    ensures whole { OnOk result (ForSome (F.told f.old).files (λ image. 0 < blocks → HasMapOf image file (first + blocks))) }
-    ensures short { IfDamaged result (IsShort (F.told f.old) (FileId.Block file) (map_place + first / 8) ((blocks + 7) / 8)) }
-    ensures untold { IfDamaged result (λ _. ForSome (F.told f.old).files (λ image. 8192 ≤ length_of image (block file)) → (F.told f.old).files ≡ None) }
-    ensures stays { Stays (F.told f.old) (F.told f.new) }
-    ensures later { F.faults f.old ≤ F.faults f.new }
-    ensures device { IfDevice result (Rises (F.faults f.old) (F.faults f.new)) }
-{
-    read_exact(
-        f,
-        FileId::Block(file),
-        BlockHead::MAP + u64::from(first / 8),
-        piece,
-    )?;
-    match least_place(piece, blocks, count) {
-        Some(b) => Ok(Some(first + b)),
-        None => Ok(None),
-    }
-}
-
-// The least place among the first blocks of a file. The map is read in pieces.
-fn least_in_file<F: Folder>(f: &mut F, file: u8, end: u32, count: u32) -> Result<Option<u32>, Fault>
-    requires few { count ≤ group_size }
-    requires small { end ≤ most_blocks }
-    ensures least { IfOk result (λ found. ForSome (F.told f.old).files (λ image. IsLeastFrom image file count 0 end found)) }
-    ensures inside { IfOk result (λ found. ForSome found (λ b. (b % 4 + count ≤ group_size) × (b < end))) }
-    ensures whole { IfOk result (λ found. ForSome (F.told f.old).files (λ image. found ≡ None → HasMapOf image file end)) }
-    ensures cause { IfDamaged result (IsShortPiece (F.told f.old) file end) }
-    ensures untold { IfDamaged result (λ _. ForSome (F.told f.old).files (λ image. 8192 ≤ length_of image (block file)) → (F.told f.old).files ≡ None) }
-    ensures stays { Stays (F.told f.old) (F.told f.new) }
-    ensures later { F.faults f.old ≤ F.faults f.new }
-    ensures device { IfDevice result (Rises (F.faults f.old) (F.faults f.new)) }
-{
-    let mut bytes = [0u8; PIECE_LEN];
-    for piece in 0..end.div_ceil(PIECE) {
-        let first = piece * PIECE;
-        let blocks = (end - first).min(PIECE);
-        let len = blocks.div_ceil(8) as usize;
-        if let Some(b) = least_in_piece(f, file, first, blocks, count, &mut bytes[..len])? {
-            return Ok(Some(b));
-        }
-    }
-    Ok(None)
-}
+const BITS_OF_WORD: u32 = 32;
 
 // The number of blocks of a file, which a map has room for.
 pub(crate) fn blocks_in(files: &BlockFiles, file: u8) -> u32
@@ -95,32 +39,145 @@ pub(crate) fn blocks_in(files: &BlockFiles, file: u8) -> u32
     }
 }
 
-// The first place of the files of a kind where `count` free blocks lie inside one group: in the order of
-// the links, and in a file the least.
-pub(crate) fn first_fit<F: Folder>(
+// Which word of `empty` counts the shortest free runs of so many blocks or more, where some group has one.
+fn sought(empty: &[u32; 4], count: u32) -> Option<u32>
+    requires four { length empty.now ≡ 4 }
+    requires some { 0 < count }
+    ensures sought { IfSome result (λ i. (i < 4) × (count ≤ i + 1) × (0 < slice_index empty.now i) × ((j : ℕ) → j < i → count ≤ j + 1 → slice_index empty.now j ≡ 0)) }
+    ensures none { result ≡ None → (j : ℕ) → j < 4 → count ≤ j + 1 → slice_index empty.now j ≡ 0 }
+{
+    for i in count - 1..4 {
+        if empty[i as usize] > 0 {
+            return Some(i);
+        }
+    }
+    None
+}
+
+// The damage of a counter of groups that one round of the map doesn't have.
+fn miscount(file: u8, i: u32, found: u32) -> Damage
+    ensures { result ≡ record { file = FileId.Block file; at = 24 + 4 * i; found = found } }
+{
+    Damage {
+        file: FileId::Block(file),
+        at: BlockHead::EMPTY + 4 * u64::from(i),
+        found,
+    }
+}
+
+// The blocks of a file to which hint i leads, of which `counted` groups have a longest free run of i + 1.
+pub(crate) fn find_by_hint<F: Folder, L: Ledger>(
     f: &mut F,
     files: &BlockFiles,
     kind: Kind,
-    count: u32,
-) -> Result<Option<Blocks>, Fault>
-    requires few { count ≤ group_size }
+    blocks: Blocks,
+    i: u32,
+    counted: u32,
+    steps: &mut Steps<L>,
+) -> Result<Found, Fault>
     requires block_kind { kind_number kind ≢ external }
-    ensures fit { IfOk result (λ found. ForSome (F.told f.old).files (λ image. Agrees files.now image → IsFitting image (files_of files.now (kind_number kind)) count found)) }
-    ensures whole { IfOk result (λ found. ForSome (F.told f.old).files (λ image. found ≡ None → HaveMaps files.now image (files_of files.now (kind_number kind)))) }
-    ensures place { IfOk result (λ found. ForSome found (IsPlace files.now (kind_number kind) count)) }
-    ensures cause { IfDamaged result (IsShortOf files.now (kind_number kind) (F.told f.old)) }
-    ensures untold { ForSome (F.told f.old).files (Agrees files.now) → IfDamaged result (λ _. (F.told f.old).files ≡ None) }
+    requires some { 0 < blocks.count }
+    requires enough { blocks.count ≤ i + 1 }
+    requires few { blocks.count ≤ group_size }
+    requires small { i < 4 }
+    requires number { blocks.file < 256 }
+    requires linked { is_among (files_of files.now (kind_number kind)) blocks.file ≡ true }
+    requires counts { 0 < counted }
+    requires counted { ForSome (F.told f.old).files (λ image. counted ≡ empty_of (byte image (block blocks.file)) i) }
+    ensures found { IfOk result (λ found. ForSome (F.told f.old).files (λ image. IsByHint image blocks.file (groups_of (blocks_of files.now blocks.file)) blocks.count i found.place.start)) }
+    ensures word { IfOk result (λ found. ForSome (F.told f.old).files (λ image. IsMapWord image blocks.file (found.place.start / 32) found.word)) }
+    ensures place { IfOk result (λ found. IsPlace files.now (kind_number kind) blocks.count found.place) }
+    ensures file { IfOk result (λ found. (found.place.file ≡ blocks.file) × (found.i ≡ i)) }
+    ensures most { steps.new ≤ steps.old + most_words files.now blocks.file }
+    ensures once { IfOk result (λ found. ForSome (F.told f.old).files (λ image. found.place.start / group_size ≡ hints_of (byte image (block blocks.file)) i % groups_of (blocks_of files.now blocks.file) → steps.new ≡ steps.old + 1)) }
+    ensures cause { IfDamaged result (IsSearchDamage files.now (kind_number kind) (F.told f.old)) }
+    ensures untold { ForSome (F.told f.old).files (λ image. Agrees files.now image × EmptyAgrees image blocks.file) → IfDamaged result (λ _. (F.told f.old).files ≡ None) }
     ensures stays { Stays (F.told f.old) (F.told f.new) }
     ensures later { F.faults f.old ≤ F.faults f.new }
     ensures device { IfDevice result (Rises (F.faults f.old) (F.faults f.new)) }
 {
-    for i in 0..files.count(kind) {
-        let Some(file) = files.file_at(kind, i) else {
+    let file = blocks.file;
+    let count = blocks.count;
+    let hint = read_word(f, FileId::Block(file), HINTS + 4 * u64::from(i))?;
+    let Some(group) = first_met(f, files, file, hint, i + 1, steps)? else {
+        return Err(Fault::Damaged(miscount(file, i, counted)));
+    };
+    let word = group.word;
+    let bytes = word.to_le_bytes();
+    let start = BITS_OF_WORD * group.number + least_of_group(&bytes, group.place, count);
+    let place = Blocks { file, start, count };
+    Ok(Found { place, i, word })
+}
+
+// The blocks of a file to which its counters and hints lead, where it has room for so many.
+fn find_in_file<F: Folder, L: Ledger>(
+    f: &mut F,
+    files: &BlockFiles,
+    kind: Kind,
+    file: u8,
+    count: u32,
+    steps: &mut Steps<L>,
+) -> Result<Option<Found>, Fault>
+    requires block_kind { kind_number kind ≢ external }
+    requires some { 0 < count }
+    requires few { count ≤ group_size }
+    requires linked { is_among (files_of files.now (kind_number kind)) file ≡ true }
+    ensures full { IfOk result (λ found. found ≡ None → ForSome (F.told f.old).files (λ image. HasNoRoom image count file)) }
+    ensures fit { IfOk result (λ found. IfSome found (λ x. ForSome (F.told f.old).files (λ image. IsSought image file count x.i × IsByHint image file (groups_of (blocks_of files.now file)) count x.i x.place.start))) }
+    ensures word { IfOk result (λ found. IfSome found (λ x. ForSome (F.told f.old).files (λ image. IsMapWord image file (x.place.start / 32) x.word))) }
+    ensures place { IfOk result (λ found. IfSome found (λ x. IsPlace files.now (kind_number kind) count x.place × (x.place.file ≡ file) × (x.i < 4))) }
+    ensures none { IfOk result (λ found. found ≡ None → steps.new ≡ steps.old) }
+    ensures most { steps.new ≤ steps.old + most_words files.now file }
+    ensures once { IfOk result (λ found. IfSome found (λ x. ForSome (F.told f.old).files (λ image. x.place.start / group_size ≡ hints_of (byte image (block file)) x.i % groups_of (blocks_of files.now file) → steps.new ≡ steps.old + 1))) }
+    ensures cause { IfDamaged result (IsSearchDamage files.now (kind_number kind) (F.told f.old)) }
+    ensures untold { ForSome (F.told f.old).files (λ image. Agrees files.now image × EmptyAgrees image file) → IfDamaged result (λ _. (F.told f.old).files ≡ None) }
+    ensures stays { Stays (F.told f.old) (F.told f.new) }
+    ensures later { F.faults f.old ≤ F.faults f.new }
+    ensures device { IfDevice result (Rises (F.faults f.old) (F.faults f.new)) }
+{
+    let counters = Counters::read(f, file)?;
+    let empty = counters.empty;
+    let Some(i) = sought(&empty, count) else {
+        return Ok(None);
+    };
+    let start = 0;
+    let blocks = Blocks { file, start, count };
+    let found = find_by_hint(f, files, kind, blocks, i, empty[i as usize], steps)?;
+    Ok(Some(found))
+}
+
+// The blocks of the first file of a kind that has room for so many, by its counters and hints.
+pub(crate) fn find<F: Folder, L: Ledger>(
+    f: &mut F,
+    files: &BlockFiles,
+    kind: Kind,
+    count: u32,
+    steps: &mut Steps<L>,
+) -> Result<Option<Found>, Fault>
+    requires block_kind { kind_number kind ≢ external }
+    requires some { 0 < count }
+    requires few { count ≤ group_size }
+    requires agrees { ForSome (F.told f.old).files (Agrees files.now) }
+    ensures full { IfOk result (λ found. found ≡ None → ForSome (F.told f.old).files (HaveNoRoom files.now (kind_number kind) count)) }
+    ensures fit { IfOk result (λ found. IfSome found (λ x. ForSome (F.told f.old).files (λ image. IsFit image (files_of files.now (kind_number kind)) count x.place))) }
+    ensures sought { IfOk result (λ found. IfSome found (λ x. ForSome (F.told f.old).files (λ image. IsSought image x.place.file count x.i))) }
+    ensures word { IfOk result (λ found. IfSome found (λ x. ForSome (F.told f.old).files (λ image. IsMapWord image x.place.file (x.place.start / 32) x.word))) }
+    ensures place { IfOk result (λ found. IfSome found (λ x. IsPlace files.now (kind_number kind) count x.place × (x.i < 4))) }
+    ensures none { IfOk result (λ found. found ≡ None → steps.new ≡ steps.old) }
+    ensures most { IfOk result (λ found. IfSome found (λ x. steps.new ≤ steps.old + most_words files.now x.place.file)) }
+    ensures once { IfOk result (λ found. IfSome found (λ x. ForSome (F.told f.old).files (λ image. x.place.start / group_size ≡ hints_of (byte image (block x.place.file)) x.i % groups_of (blocks_of files.now x.place.file) → steps.new ≡ steps.old + 1))) }
+    ensures cause { IfDamaged result (IsSearchDamage files.now (kind_number kind) (F.told f.old)) }
+    ensures untold { ForSome (F.told f.old).files (AreCounted files.now (kind_number kind)) → IfDamaged result (λ _. (F.told f.old).files ≡ None) }
+    ensures stays { Stays (F.told f.old) (F.told f.new) }
+    ensures later { F.faults f.old ≤ F.faults f.new }
+    ensures device { IfDevice result (Rises (F.faults f.old) (F.faults f.new)) }
+{
+    for k in 0..files.count(kind) {
+        let Some(file) = files.file_at(kind, k) else {
             unreachable!();
         };
-        let end = blocks_in(files, file);
-        if let Some(start) = least_in_file(f, file, end, count)? {
-            return Ok(Some(Blocks { file, start, count }));
+        if let Some(found) = find_in_file(f, files, kind, file, count, steps)? {
+            return Ok(Some(found));
         }
     }
     Ok(None)

@@ -5,10 +5,11 @@ ghost use Rattle.blk_image.specs.Told.{PassesTo, Rises, Stays};
 ghost use Rattle.blk_format.specs.Address.{block_count, file_selector, first_block};
 ghost use Rattle.blk_io.specs.Faults.{IfDamaged, IfDevice};
 ghost use Rattle.blk_disk.specs.Tables.{Agrees, stands_among};
+ghost use Rattle.blk_alloc.specs.Marking.{KeepsHints};
 ghost use Rattle.blk_alloc.specs.Owning.{CanBeFreed, FreesInProgress, FreesOrStops, IsFreed, IsCause};
 
 use crate::blocks::blocks_of;
-use crate::change::change;
+use crate::change::read_and_change;
 use blk_addr::Addr;
 use blk_disk::BlockFiles;
 use blk_io::{Fault, Folder};
@@ -27,6 +28,9 @@ pub fn free<F: Folder>(f: &mut F, files: &BlockFiles, addr: Addr) -> Result<(), 
     // At each word only map, counters and updating of the file have changed, and updating is 1 until the last word, with which all of it is done; each block that stood still stands with its bytes, and a well-formed folder is well formed.
     ensures stops { ForSome (F.told f.old).files (λ from. PassesTo (F.told f.old) (F.told f.new) (FreesInProgress addr from) (FreesOrStops addr from)) }
 
+    // Whatever it answers, no hint has changed.
+    ensures hints { ForSome (F.told f.old).files (λ from. ForSome (F.told f.new).files (KeepsHints from)) }
+
     ensures cause { IfDamaged result (IsCause (F.told f.old) (file_selector addr) (first_block addr) (block_count addr) false) }
     ensures unwritten { IfDamaged result (λ _. Stays (F.told f.old) (F.told f.new)) }
     ensures untold { ForSome (F.told f.old).files (λ image. CanBeFreed image addr) → IfDamaged result (λ _. (F.told f.old).files ≡ None) }
@@ -35,5 +39,5 @@ pub fn free<F: Folder>(f: &mut F, files: &BlockFiles, addr: Addr) -> Result<(), 
     ensures device { IfDevice result (Rises (F.faults f.old) (F.faults f.new)) }
 {
     let blocks = blocks_of(addr);
-    change(f, blocks.file, blocks.start, blocks.count, false)
+    read_and_change(f, blocks.file, blocks.start, blocks.count, false)
 }

@@ -5,7 +5,6 @@ ghost use Rattle.blk_format.specs.Maps as maps;
 ghost use Rattle.blk_format.specs.Maps.{group_size};
 ghost use Rattle.blk_addr.specs.Bits.{has_bit, is_between};
 ghost use Rattle.blk_alloc.specs.Places as places;
-ghost use Rattle.blk_alloc.specs.Places.{IsLeastPlace};
 
 use blk_addr::GROUP;
 
@@ -64,26 +63,12 @@ pub(crate) fn longest_run(bytes: &[u8], group: u32) -> u32
 
 // Whether `count` blocks from one on lie inside one group and are free.
 #[tactic(auto, unfolding(crate::specs::Places::is_place))]
-fn is_place(bytes: &[u8], b: u32, count: u32) -> bool
+pub(crate) fn is_place(bytes: &[u8], b: u32, count: u32) -> bool
     requires few { count ≤ group_size }
     requires small { b < 2 ^ 17 }
     ensures { result ≡ places.is_place (has_bit bytes.now) count b }
 {
     b % GROUP + count <= GROUP && are_free(bytes, b, count)
-}
-
-// The least place below `end` where `count` free blocks lie inside one group.
-pub(crate) fn least_place(bytes: &[u8], end: u32, count: u32) -> Option<u32>
-    requires few { count ≤ group_size }
-    requires small { end ≤ 2 ^ 17 }
-    ensures { IsLeastPlace (has_bit bytes.now) count end result }
-{
-    for b in 0..end {
-        if is_place(bytes, b, count) {
-            return Some(b);
-        }
-    }
-    None
 }
 
 // Marks a block, or clears its mark.

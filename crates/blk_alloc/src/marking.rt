@@ -1,5 +1,5 @@
 // Blocks of a file are marked as used.
-ghost use Rattle.std.specs.Prelude.{◌≡◌, ◌≢◌, ◌⊎◌, ◌≤◌, ◌<◌, true, None, IfOk, OnOk, IsTrue};
+ghost use Rattle.std.specs.Prelude.{◌≡◌, ◌≢◌, ◌⊎◌, ◌≤◌, ◌<◌, ◌/◌, true, None, IfOk, OnOk, IsTrue};
 ghost use Rattle.std.specs.Option.{ForSome};
 ghost use Rattle.blk_image.specs.Told.{PassesTo, Rises};
 ghost use Rattle.blk_format.specs.Address as address;
@@ -7,10 +7,10 @@ ghost use Rattle.blk_format.specs.Address.{external, rankings};
 ghost use Rattle.blk_addr.specs.Kind.{kind_number};
 ghost use Rattle.blk_io.specs.Faults.{IfDamaged, IfDevice};
 ghost use Rattle.blk_disk.specs.Tables.{Agrees, stands_among};
-ghost use Rattle.blk_alloc.specs.Fitting.{IsPlace};
-ghost use Rattle.blk_alloc.specs.Extending.{HasItsBlocks, KeepsLists, KeepsStanding};
+ghost use Rattle.blk_alloc.specs.Fitting.{IsMapWord, IsPlace};
+ghost use Rattle.blk_alloc.specs.Extending.{HasItsBlocks, KeepsBlockCounts, KeepsLists, KeepsStanding};
 ghost use Rattle.blk_alloc.specs.Owning.{IsCause};
-ghost use Rattle.blk_alloc.specs.Marking.{CountsUsed, CanBeMarked, MarksUsedInProgress, MarksUsed};
+ghost use Rattle.blk_alloc.specs.Marking.{CountsUsed, CanBeMarked, KeepsHints, MarksUsedInProgress, MarksUsed};
 
 use crate::blocks::Blocks;
 use crate::change::change;
@@ -18,29 +18,34 @@ use blk_addr::{Addr, Kind};
 use blk_disk::BlockFiles;
 use blk_io::{Fault, Folder};
 
-// Marks blocks of a file as used: lengthens the file to all its blocks, where it is shorter, and marks them.
+// Marks blocks of a file as used: lengthens the file to all its blocks, where it is shorter, and marks them, where
+// the word of the map that has them was read.
 pub(crate) fn mark<F: Folder>(
     f: &mut F,
     files: &mut BlockFiles,
     kind: Kind,
     place: Blocks,
+    word: u32,
 ) -> Result<Addr, Fault>
     requires block_kind { kind_number kind ≢ external }
     requires some { 0 < place.count }
     requires node { kind_number kind ≡ rankings → place.count ≡ 1 }
     requires place { IsPlace files.old (kind_number kind) place.count place }
     requires agrees { ForSome (F.told f.old).files (Agrees files.old) }
+    requires read { ForSome (F.told f.old).files (λ image. IsMapWord image place.file (place.start / 32) word) }
     ensures word { IfOk result (λ addr. addr ≡ address.block_word (kind_number kind) place.file place.start place.count) }
     ensures stands { IfOk result (λ addr. IsTrue (stands_among files.new addr)) }
     ensures keeps { KeepsStanding files.old files.new }
     ensures counted { OnOk result (ForSome (F.told f.old).files (λ from. ForSome (F.told f.new).files (CountsUsed place.file place.start from))) }
+    ensures hints { OnOk result (ForSome (F.told f.old).files (λ from. ForSome (F.told f.new).files (KeepsHints from))) }
     ensures used { IfOk result (λ addr. ForSome (F.told f.old).files (λ from. CanBeMarked from place → ForSome (F.told f.new).files (MarksUsed files.old from addr))) }
     ensures agrees { ForSome (F.told f.new).files (Agrees files.new) }
     ensures links { OnOk result (KeepsLists files.old files.new) }
+    ensures blocks { OnOk result (KeepsBlockCounts files.old files.new) }
     ensures long { OnOk result (HasItsBlocks files.new place.file) }
 
     // At each word only the length, the map and the counters of the file have changed, it is no shorter, and updating is 1 until the map and the counters are done.
-    ensures stops { ForSome (F.told f.old).files (λ from. CanBeMarked from place → PassesTo (F.told f.old) (F.told f.new) (MarksUsedInProgress place.file from) (λ image. MarksUsedInProgress place.file from image ⊎ MarksUsed files.old from (address.block_word (kind_number kind) place.file place.start place.count) image)) }
+    ensures stops { ForSome (F.told f.old).files (λ from. CanBeMarked from place → PassesTo (F.told f.old) (F.told f.new) (MarksUsedInProgress place.file from) (λ image. MarksUsedInProgress place.file from image ⊎ (MarksUsed files.old from (address.block_word (kind_number kind) place.file place.start place.count) image × KeepsHints from image))) }
     ensures silent { (F.told f.old).files ≡ None → (F.told f.new).files ≡ None }
     ensures place { IsPlace files.new (kind_number kind) place.count place }
     ensures cause { IfDamaged result (IsCause (F.told f.new) place.file place.start place.count true) }
@@ -50,6 +55,6 @@ pub(crate) fn mark<F: Folder>(
 {
     files.fit(f, place.file)?;
     let addr = Addr::of_blocks(kind, place.file, place.start, place.count);
-    change(f, place.file, place.start, place.count, true)?;
+    change(f, place.file, place.start, place.count, true, word)?;
     Ok(addr)
 }

@@ -1,5 +1,5 @@
 // The plan of a change of marks: what is read of a header, and what is to be written.
-ghost use Rattle.std.specs.Prelude.{◌≡◌, ◌≤◌, ◌<◌, ◌+◌, ◌*◌, ◌%◌, ◌^◌, ℕ, None, slice_index, IfOk, OnOk, OnErr};
+ghost use Rattle.std.specs.Prelude.{◌≡◌, ◌≤◌, ◌<◌, ◌+◌, ◌*◌, ◌/◌, ◌%◌, ◌^◌, ℕ, None, slice_index, IfOk, OnOk, OnErr};
 ghost use Rattle.std.specs.Option.{ForSome};
 ghost use Rattle.blk_image.specs.Image.{Block as block, length_of};
 ghost use Rattle.blk_image.specs.Steps.{word_steps};
@@ -11,7 +11,7 @@ use crate::counters::Counters;
 use crate::finishing::finish;
 use crate::map::{longest_run, set_marks, word_of};
 use blk_addr::GROUP;
-use blk_io::{Failed, Fault, FileId, Folder, read_exact, write_words};
+use blk_io::{Failed, Fault, FileId, Folder, write_words};
 use blk_record::BlockHead;
 
 const BITS_OF_WORD: u32 = 32;
@@ -26,19 +26,23 @@ pub(crate) struct Plan {
 
 impl Plan {
     ghost use Rattle.blk_alloc.specs.Changes.{IsPlan, CanChangeMarks, plan_words};
+    ghost use Rattle.blk_alloc.specs.Fitting.{IsMapWord};
     ghost use Rattle.blk_alloc.specs.Owning.{IsCause};
 
-    // The plan by which so many blocks from one on, which lie in one group, are all marked or all freed.
+    // The plan by which so many blocks from one on, which lie in one group, are all marked or all freed, where
+    // the word of the map that has them was read.
     pub(crate) fn read<F: Folder>(
         f: &mut F,
         file: u8,
         start: u32,
         count: u32,
         used: bool,
+        word: u32,
     ) -> Result<Plan, Fault>
         requires some { 0 < count }
         requires group { start % 4 + count ≤ group_size }
         requires small { start + count < 2 ^ 32 }
+        requires word { ForSome (F.told f.old).files (λ image. IsMapWord image file (start / 32) word) }
         ensures plan { IfOk result (λ plan. ForSome (F.told f.old).files (λ image. IsPlan image file start count used plan)) }
         ensures aligned { IfOk result (λ plan. plan.at % 4 ≡ 0) }
         ensures fits { IfOk result (λ plan. plan.counters.allocations < 2 ^ 32) }
@@ -51,8 +55,7 @@ impl Plan {
     {
         let counters = Counters::read(f, file)?;
         let at = BlockHead::MAP + 4 * u64::from(start / BITS_OF_WORD);
-        let mut bytes = [0u8; 4];
-        read_exact(f, FileId::Block(file), at, &mut bytes)?;
+        let mut bytes = word.to_le_bytes();
         let first = start % BITS_OF_WORD;
         let before = longest_run(&bytes, first / GROUP);
         set_marks(&mut bytes, first, count, used);

@@ -148,13 +148,14 @@ fn has_blocks(f: &mut MemFolder, length: u64, words: &[(u64, u32)]) -> Result<bo
 }
 
 #[test]
-fn blocks_lie_at_the_first_place_inside_a_group_and_are_freed(rt: HostRuntime) -> Result<(), Fail> {
+fn blocks_lie_inside_a_group_and_are_freed(rt: HostRuntime) -> Result<(), Fail> {
     let second = file_with(rt.alloc(), HEADER_LEN, 0, &fields(1, 256))?;
     let mut f = folder_of(rt.alloc(), &second)?;
 
-    // Eight calls load the files; one read of the map, and two reads and five writes for the marks.
+    // Eight calls load the files; the fields, a hint and a word of the map are read, the hint is written, and the fields are
+    // read again and five writes made for the marks.
     let words = [0xA301_0000, 0xA001_0004, 0xA201_0005];
-    assert_eq!(rt; give_three(&mut f), Ok((words, 8 + 8)));
+    assert_eq!(rt; give_three(&mut f), Ok((words, 8 + 10)));
     let given = [(16, 3), (20, 1024), (24, 0), (36, 254), (56, 0), (80, 0xFF)];
     assert_eq!(rt; has_blocks(&mut f, 270_336, &given), Ok(true));
     assert_eq!(rt; free_word(&mut f, 0xA001_0004), Ok(true));
@@ -173,6 +174,80 @@ fn a_file_grows_where_none_has_room(rt: HostRuntime) -> Result<(), Fail> {
     Ok(())
 }
 
+// The words of two blocks, of three and of one that are given, and the calls that the last two took.
+fn give_two_three_one(f: &mut MemFolder) -> Result<([u32; 3], u64), Fault> {
+    let two = give(f, 2)?;
+    let before = f.calls();
+    let three = give(f, 3)?;
+    let one = give(f, 1)?;
+    Ok(([two, three, one], f.calls().wrapping_sub(before)))
+}
+
+#[test]
+fn counters_and_hints_lead_to_the_blocks(rt: HostRuntime) -> Result<(), Fail> {
+    let second = file_with(rt.alloc(), HEADER_LEN, 0, &fields(1, 256))?;
+    let mut f = folder_of(rt.alloc(), &second)?;
+
+    // The one lies in the group that has a longest free run of 1, and not in the first with room. Eight calls load the files, and of
+    // ten more one reads a word of the map.
+    let words = [0xA101_0000, 0xA201_0004, 0xA001_0007];
+    assert_eq!(rt; give_two_three_one(&mut f), Ok((words, 2 * (8 + 10))));
+    let hints = [(40, 1), (44, 0), (48, 0), (52, 1)];
+    assert_eq!(rt; has_words(&mut f, 1, &hints), Ok(true));
+    assert_eq!(rt; free_word(&mut f, 0xA201_0004), Ok(true));
+    assert_eq!(rt; has_words(&mut f, 1, &hints), Ok(true));
+    Ok(())
+}
+
+#[test]
+fn a_hint_may_have_any_value(rt: HostRuntime) -> Result<(), Fail> {
+    // Of the 256 groups the first, the last, the first again, and the last again.
+    for (hint, word, group) in [
+        (0, 0xA301_0000, 0),
+        (255, 0xA301_03FC, 255),
+        (256, 0xA301_0000, 0),
+        (0xFFFF_FFFF, 0xA301_03FC, 255),
+    ] {
+        let words = header(1024, 0, [0, 0, 0, 256]);
+        let mut second = file_with(rt.alloc(), HEADER_LEN, 0, &words)?;
+        put_word(&mut second, 52, hint);
+        let mut f = folder_of(rt.alloc(), &second)?;
+
+        // Eight calls load the files; fields, the hint and one word of the map are read, the hint is written, the file gets its
+        // length, and six calls make the marks. The next call is the first after the allocation.
+        let next = f.calls().wrapping_add(8 + 12);
+        f.fail_at(next, 0)?;
+        assert_eq!(rt; give(&mut f, 4), Ok(word), "{hint}");
+        assert_eq!(rt; has_words(&mut f, 1, &[(52, group)]), Err(Fault::Device));
+        assert_eq!(rt; has_words(&mut f, 1, &[(52, group)]), Ok(true));
+    }
+    Ok(())
+}
+
+#[test]
+fn a_search_goes_round_once(rt: HostRuntime) -> Result<(), Fail> {
+    // Only the third group is free, and the hint is the fourth; then it is said that a group is free that isn't there.
+    for (map, answer) in [
+        (0xFFFF_F0FF, Ok(0xA301_0008)),
+        (
+            0xFFFF_FFFF,
+            Err(Fault::Damaged(Damage {
+                file: FileId::Block(1),
+                at: 36,
+                found: 1,
+            })),
+        ),
+    ] {
+        let words = header(1024, 255, [0, 0, 0, 1]);
+        let mut second = file_with(rt.alloc(), HEADER_LEN, 128, &words)?;
+        put_word(&mut second, MAP, map);
+        put_word(&mut second, 52, 3);
+        let mut f = folder_of(rt.alloc(), &second)?;
+        assert_eq!(rt; give(&mut f, 4), answer);
+    }
+    Ok(())
+}
+
 // The word of a block that is given, and the folder calls.
 fn counted_give(f: &mut MemFolder) -> Result<(u32, u64), Fault> {
     let before = f.calls();
@@ -186,9 +261,9 @@ fn a_file_is_added_where_none_may_grow(rt: HostRuntime) -> Result<(), Fail> {
     let most = file_with(rt.alloc(), HEADER_LEN, 8112, &words)?;
     let mut f = folder_of(rt.alloc(), &most)?;
 
-    // Eight calls load the files; eight reads of the map, four calls for the file and four for its growth, two reads and
-    // five writes for the marks.
-    assert_eq!(rt; counted_give(&mut f), Ok((0xA004_0000, 8 + 23)));
+    // Eight calls load the files; the fields of the full one are read and no word of its map, four calls add a file and four
+    // let it grow, a hint and a word of its map are read, the hint is written, and six calls make the marks.
+    assert_eq!(rt; counted_give(&mut f), Ok((0xA004_0000, 8 + 18)));
     assert_eq!(rt; has_words(&mut f, 1, &[(8, 0x4_0001)]), Ok(true));
     let added = [(16, 1), (20, 1024), (32, 1), (36, 255), (80, 1)];
     assert_eq!(rt; has_words(&mut f, 4, &added), Ok(true));
@@ -305,22 +380,30 @@ fn free_cut(f: &mut SilentFolder<MemFolder>, length: u64, word: u32) -> Result<b
 
 #[test]
 fn a_map_that_is_too_short_is_a_damage_and_no_lack_of_room(rt: HostRuntime) -> Result<(), Fail> {
-    let full = file_with(rt.alloc(), HEADER_LEN, 128, &header(1024, 256, [0; 4]))?;
-    let mut f = SilentFolder::new(folder_of(rt.alloc(), &full)?);
-    let damage = Damage {
-        file: FileId::Block(1),
-        at: 80,
-        found: 20,
-    };
-    assert_eq!(rt; give_cut(&mut f, 100), Err(Fault::Damaged(damage)));
-    assert_eq!(rt; f.length(FileId::Block(1)), Ok(Some(100)));
+    let free = file_with(rt.alloc(), HEADER_LEN, 0, &header(1024, 0, [0, 0, 0, 256]))?;
+
+    // The first word of the map is cut, and then the fields.
+    for (length, at, found) in [(82, 80, 2), (50, 0, 50)] {
+        let mut f = SilentFolder::new(folder_of(rt.alloc(), &free)?);
+        let damage = Damage {
+            file: FileId::Block(1),
+            at,
+            found,
+        };
+        assert_eq!(rt;
+            give_cut(&mut f, length),
+            Err(Fault::Damaged(damage)),
+            "{length}"
+        );
+        assert_eq!(rt; f.length(FileId::Block(1)), Ok(Some(length)));
+    }
     Ok(())
 }
 
 #[test]
 fn a_header_that_is_too_short_is_a_damage(rt: HostRuntime) -> Result<(), Fail> {
-    // The word of the map that has blocks 4 to 7 is cut, and then the fields.
-    for (length, at, found) in [(82, 80, 2), (50, 0, 50)] {
+    // The word of the map that has blocks 4 to 7 is cut, which is read first, and then the fields too.
+    for (length, at, found) in [(82, 80, 2), (50, 80, 0)] {
         let mut f = SilentFolder::new(folder_with(rt.alloc(), 3, 0xFF)?);
         let damage = Damage {
             file: FileId::Block(1),

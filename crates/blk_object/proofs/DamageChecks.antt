@@ -30,6 +30,7 @@ use Rattle.blk_disk.specs.Damages.{IsFailedRecord, IsNodeWordDamage}
 use Rattle.blk_disk.specs.Tables.{all_files, stands_among}
 use Rattle.blk_alloc.specs.Allocating.{IsKindFull, IsRefusal}
 use Rattle.blk_alloc.specs.Extending.{KeepsStanding}
+use Rattle.blk_alloc.specs.Fitting.{IsMiscount, IsSearchDamage as IsBlockSearchDamage, IsShortSearch}
 use Rattle.blk_alloc.specs.Owning.{IsCause}
 use Rattle.blk_alloc.proofs.Members.{member_all}
 use Rattle.blk_external.specs.Making.{AreNumbersUsedUp, last_file_place}
@@ -165,13 +166,22 @@ touch-checked node files old new damage (inr removal) = removal-checked node fil
 -- the header of a block file that is among them
 pub cause-checked : (files : BlockFiles) (told : Told) (n start count : ℕ) (used : Bool) (damage : Damage) → is_among (all_files files) n ≡ true → IsCause told n start count used damage → IsFailedCheck files told damage
 cause-checked files told n start count used damage among (inl short) = short-checked files told _ _ _ damage short.short
-cause-checked files told n start count used damage among (inr counter) = FailsCount (record { file = n; start = start; count = count; used = used; among = among; counter = counter })
+cause-checked files told n start count used damage among (inr counter) = FailsCount (inl (record { file = n; start = start; count = count; used = used; among = among; counter = counter }))
+
+-- blocks that are not found in a file
+sought-checked : (old new : BlockFiles) (kind : Kind) (told : Told) (damage : Damage) → kind_number kind ≢ external → KeepsStanding old new → IsBlockSearchDamage old (kind_number kind) told damage → IsFailedCheck new told damage
+sought-checked old new kind told damage block keeps search = by_cause search.why
+  where
+    by_cause : IsShortSearch old search.file told damage ⊎ IsMiscount old search.file told damage → IsFailedCheck new told damage
+    by_cause (inl short) = short-checked new told _ _ _ damage short.short
+    by_cause (inr miscount) = FailsCount (inr (record { file = search.file; before = old; keeps = keeps; among = member_all old kind search.file block search.linked; miscount = miscount }))
 
 -- blocks that are not allocated
 pub refusal-checked : (old new : BlockFiles) (kind : Kind) (count : ℕ) (before after : Told) (damage : Damage) → kind_number kind ≢ external → KeepsStanding old new → IsRefusal old new (kind_number kind) count before after damage → IsFailedCheck new after damage
 refusal-checked old new kind count before after damage block keeps (inl cause) = cause-checked new after _ _ _ true damage (member_all new kind _ block cause.is.linked) cause.cause
-refusal-checked old new kind count before after damage block keeps (inr (stays, inl short)) = moved new before after damage stays (short-checked new before _ _ _ damage short.short.short)
-refusal-checked old new kind count before after damage block keeps (inr (stays, inr full)) = FailsFull (inl (record { kind = kind_number kind; before = old; keeps = keeps; full = subst (λ (t : Told). IsKindFull old (kind_number kind) t damage) (sym stays) full }))
+refusal-checked old new kind count before after damage block keeps (inr (inl search)) = sought-checked new new kind after damage block (λ w is. is) search
+refusal-checked old new kind count before after damage block keeps (inr (inr (stays, inl search))) = sought-checked old new kind after damage block keeps (subst (λ (t : Told). IsBlockSearchDamage old (kind_number kind) t damage) (sym stays) search)
+refusal-checked old new kind count before after damage block keeps (inr (inr (stays, inr full))) = FailsFull (inl (record { kind = kind_number kind; before = old; keeps = keeps; full = subst (λ (t : Told). IsKindFull old (kind_number kind) t damage) (sym stays) full }))
 
 -- an external file that is not made
 pub create-checked : (files : BlockFiles) (told : Told) (damage : Damage) → IsShort told names.Index last_file_place 4 damage ⊎ AreNumbersUsedUp told damage → IsFailedCheck files told damage

@@ -23,6 +23,7 @@ use Rattle.blk_disk.specs.Tables.{all_files, is_record_among, stands_among}
 use Rattle.blk_disk.specs.Unsealed.{IsUnsealed}
 use Rattle.blk_alloc.specs.Allocating.{IsKindFull}
 use Rattle.blk_alloc.specs.Extending.{KeepsStanding}
+use Rattle.blk_alloc.specs.Fitting.{IsMiscount}
 use Rattle.blk_alloc.specs.Owning.{IsCounterDamage}
 use Rattle.blk_external.specs.Making.{AreNumbersUsedUp}
 use Rattle.blk_entry.specs.Keys.{IsMisplacedKey, IsWordOf, key_bytes, key_len_place, long_key_place}
@@ -189,6 +190,14 @@ pub record IsSomeCounterDamage (files : BlockFiles) (told : Told) (damage : Dama
   pub among : is_among (all_files files) file ≡ true
   pub counter : IsCounterDamage told file start count used damage
 
+-- a counter of a block file counts a group that one round of its map didn't have: what stood among the files then stands
+pub record IsSomeMiscount (files : BlockFiles) (told : Told) (damage : Damage) : Type 0 where
+  pub file : ℕ
+  pub before : BlockFiles
+  pub keeps : KeepsStanding before files
+  pub among : is_among (all_files before) file ≡ true
+  pub miscount : IsMiscount before file told damage
+
 -- why a call answers Damaged: a check that fails
 pub data IsFailedCheck (files : BlockFiles) (told : Told) (damage : Damage) : Type 0 where
   FailsShort : ReadsTooFew told damage → IsFailedCheck files told damage
@@ -197,4 +206,4 @@ pub data IsFailedCheck (files : BlockFiles) (told : Told) (damage : Damage) : Ty
   FailsSeal : IsReadUnsealed files told damage → IsFailedCheck files told damage
   FailsLong : IsWalkTooLong files told damage → IsFailedCheck files told damage
   FailsFull : IsSomeKindFull files told damage ⊎ AreNumbersUsedUp told damage → IsFailedCheck files told damage
-  FailsCount : IsSomeCounterDamage files told damage → IsFailedCheck files told damage
+  FailsCount : IsSomeCounterDamage files told damage ⊎ IsSomeMiscount files told damage → IsFailedCheck files told damage

@@ -22,7 +22,7 @@ use Rattle.blk_disk.specs.Tables.{Agrees}
 use Rattle.blk_disk.proofs.Ranges.{stands_linked}
 use Rattle.blk_io.proofs.Carried.{told_at_end}
 use Rattle.blk_alloc.specs.Owning.{others}
-use Rattle.blk_alloc.proofs.Members.{all_head}
+use Rattle.blk_disk.proofs.WholeHeaders.{all_head}
 use Rattle.blk_stream.specs.Streams.{address_place, address_word, may_keep, size_place, size_word}
 use Rattle.blk_stream.specs.Changing.{stream_words}
 use Rattle.blk_stream.specs.Freeing.{MayBeFreed, leaving_of, is_block_of, left_by}

@@ -20,7 +20,7 @@ use Rattle.blk_disk.proofs.Ranges.{stands_linked}
 use Rattle.blk_alloc.specs.Allocating.{Allocates}
 use Rattle.blk_alloc.specs.Extending.{KeepsLinks}
 use Rattle.blk_alloc.specs.Owning.{is_of}
-use Rattle.blk_alloc.proofs.Members.{all_head}
+use Rattle.blk_disk.proofs.WholeHeaders.{all_head}
 use Rattle.blk_alloc.proofs.Widening.{mark_kept}
 use Rattle.blk_stream.specs.Freeing.{is_block_of}
 use Rattle.blk_stream.specs.Placing.{GainsPlace, KeepsOtherLinks, gained_by}

@@ -23,7 +23,7 @@ use Rattle.blk_disk.specs.Growth.{addition_of, free_number, growth_of}
 use Rattle.blk_disk.proofs.Numbers.{free_is}
 use Rattle.blk_alloc.specs.Allocating.{Allocates, AllocatesAtLast, AllocatesByChoice, AllocatesByStage, AllocatesIn, AllocatesInProgress, AllocatesOrStops, AreCounted, ExtendsAnd, HaveNoRoom, IsAddedPlace, IsChosen, IsGrownPlace}
 use Rattle.blk_alloc.specs.Extending.{HasMostBlocks, IsFirstGrowing, KeepsLinks}
-use Rattle.blk_alloc.specs.Fitting.{IsFirstFit}
+use Rattle.blk_alloc.specs.Fitting.{IsFit}
 use Rattle.blk_alloc.specs.Marking.{taking_of}
 use Rattle.blk_alloc.proofs.Changing.{within-trans}
 use Rattle.blk_alloc.proofs.Members.{member_split}
@@ -60,6 +60,10 @@ blocks_are size some blocky = by_tests (nat_le size 1023) (nat_le size 4095) (na
     by_tests false true c e f g other = let most = leb-true size 4095 f in (omega (arith, some), (omega (arith, most), ((λ z. cc), refl)))
     by_tests false false true e f g other = let most = leb-true size 16384 g in (omega (arith, some), (omega (arith, most), ((λ z. cc), refl)))
     by_tests false false false e f g other = absurd (other refl)
+
+-- a block of one of so many groups is one of the blocks
+start_below : (start blocks : ℕ) → start / 4 < blocks / 4 → start < blocks
+start_below start blocks there = omega (arith, there)
 
 -- At each word.
 
@@ -124,7 +128,7 @@ module _ (files : BlockFiles) (size : ℕ) (from image : Image) (blocky : kind_f
     unfolding placing_of
     marked (inl fit) stays =
         let among : is_among (files_of files K) fit.0.file ≡ true = member_split (files_of files K) fit.1.before fit.0.file fit.1.behind fit.1.split in
-        site_moment (InFile fit.0.file) (blocky, among) (subst (λ (n : ℕ). SameOutside (taking_of n) from image) (member_file fit.0.file fit.0.start among fit.1.least.0) fit.2.same) (λ number is. cc) stays
+        site_moment (InFile fit.0.file) (blocky, among) (subst (λ (n : ℕ). SameOutside (taking_of n) from image) (member_file fit.0.file fit.0.start among (start_below fit.0.start (max_entries_in from fit.0.file) fit.1.blocks.there)) fit.2.same) (λ number is. cc) stays
     marked (inr room) stays = extends_moment room.1.place.file room.1.within stays
 
     pub allocated_places : AllocatesOrStops files K (blocks_for size) from image → PlacesInProgress files size from image
@@ -140,18 +144,17 @@ module _ (files : BlockFiles) (size : ℕ) (from image : Image) (blocky : kind_f
       abbrev Known : Type 0
       Known = (is_among (files_of files K) (file_selector w) ≡ true) ⊎ (All (HasMostBlocks files) (files_of files K) × (file_selector w ≡ free_number files))
 
-      known_by : IsFirstFit from (files_of files K) (blocks_for size) chosen.place ⊎ (HaveNoRoom files K (blocks_for size) from × (IsGrownPlace files K chosen.place ⊎ IsAddedPlace files K chosen.place)) → Known
+      known_by : IsFit from (files_of files K) (blocks_for size) chosen.place ⊎ (HaveNoRoom files K (blocks_for size) from × (IsGrownPlace files K (blocks_for size) from chosen.place ⊎ IsAddedPlace files K chosen.place)) → Known
       known_by (inl fit) =
           let among : is_among (files_of files K) chosen.place.file ≡ true = member_split (files_of files K) fit.before chosen.place.file fit.behind fit.split in
-          let file = ap file_selector chosen.word ∙ member_file chosen.place.file chosen.place.start among fit.least.0 in
+          let file = ap file_selector chosen.word ∙ member_file chosen.place.file chosen.place.start among (start_below chosen.place.start (max_entries_in from chosen.place.file) fit.blocks.there) in
           inl (ap (is_among (files_of files K)) file ∙ among)
       known_by (inr (none, inl grown)) =
           let first = grown.growing in
           let among = member_split (files_of files K) first.before chosen.place.file first.behind first.split in
           let here = head chosen.place.file among in
-          let start = grown.start in
-          let below = first.below in
-          let file = ap file_selector chosen.word ∙ word_file chosen.place.file chosen.place.start here.number (omega (arith, start, below)) in
+          let there = grown.blocks.there in
+          let file = ap file_selector chosen.word ∙ word_file chosen.place.file chosen.place.start here.number (omega (arith, there)) in
           inl (ap (is_among (files_of files K)) file ∙ among)
       known_by (inr (none, inr added)) =
           let start = added.start in

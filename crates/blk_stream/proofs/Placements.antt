@@ -21,7 +21,7 @@ use Rattle.blk_disk.specs.Tables.{Agrees, all_files}
 use Rattle.blk_disk.proofs.Ranges.{stands_agree}
 use Rattle.blk_entry.specs.Keys.{IsInside, data_at, data_file, data_start}
 use Rattle.blk_alloc.specs.Extending.{KeepsStanding}
-use Rattle.blk_alloc.proofs.Members.{all_head}
+use Rattle.blk_disk.proofs.WholeHeaders.{all_head}
 use Rattle.blk_model.specs.Effects.{stream_after}
 use Rattle.blk_stream.specs.declared.places.Stored.{Stored}
 use Rattle.blk_stream.specs.Streams.{may_keep}

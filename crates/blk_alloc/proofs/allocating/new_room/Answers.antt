@@ -1,10 +1,15 @@
-use Rattle.std.proofs.Common.{◌≡◌, ◌≤◌, ◌<◌, inl, inr, ℕ, ◌*◌, ◌/◌, ◌%◌, [], length, true, false, sym, ◌∙◌, ap, subst, arith}
+use Rattle.std.proofs.Common.{◌≡◌, ◌≤◌, ◌<◌, inl, inr, ℕ, ◌+◌, ◌-◌, ◌*◌, ◌/◌, ◌%◌, ◌^◌, [], length, true, false, sym, ◌∙◌, ap, subst, arith}
 use Rattle.blk_image.proofs.Runs.{passes_end, passes_none, passes_weaker, some_inj}
 use Rattle.blk_addr.specs.Kind.{kind_number}
 use Rattle.blk_format.specs.BlockFiles.{is_among}
-use Rattle.blk_format.specs.Maps.{AreAllocations}
+use Rattle.blk_format.specs.Maps.{AreAllocations, EmptyAgrees}
 use Rattle.blk_disk.specs.Tables.{all_files, files_of, blocks_of}
-use Rattle.blk_disk.specs.Growth.{IsLeastFileNumber}
+use Rattle.blk_disk.specs.Growth.{IsLeastFileNumber, free_number, grown, new_groups}
+use Rattle.blk_disk.proofs.KeptOnce.{counts}
+use Rattle.blk_image.specs.Image.{Block, byte}
+use Rattle.blk_format.specs.Headers.{empty_of}
+use Rattle.blk_alloc.specs.Fitting.{HasNoRoom}
+use Rattle.blk_alloc.proofs.Hinted.{all_member}
 use Rattle.std.specs.List.{All}
 use Rattle.blk_alloc.specs.Extending.{HasMostBlocks, HasNoHints, IsFirstGrowing, KeepsLinks}
 use Rattle.blk_alloc.specs.Allocating.{ExtendsAnd, MakesRoomInProgress, updating_word}
@@ -140,3 +145,57 @@ returns-clause-counts g c from there image now linked =
 
 pub returns-clause-links : goal.returns-clause-links
 returns-clause-links g c = subst (KeepsLinks c.args.files.now c.add_room.new.files) (sym c.in_ok-place-2.ensures.place.0) c.in_ok-place-2.ensures.links
+
+raised_groups : (now was new old start : ℕ) → now ≡ (was + new_groups old) % 2 ^ 32 → was ≡ 0 → new ≡ grown old → start ≡ old / 4 * 4 → old % 4 ≡ 0 → old < 64896 → now ≡ (new - start) / 4
+raised_groups now was new old start is none more at whole below = omega (arith, is, none, more, at, whole, below)
+
+pub returns-in-Some-clause-raised : goal.returns-in-Some-clause-raised
+returns-in-Some-clause-raised g c from there image now =
+    let kind : ℕ = kind_number c.args.kind in
+    let n : ℕ = c.in-Some.file in
+    let among = member_split (files_of c.args.files.now kind) c.in-Some.ensures.before n c.in-Some.ensures.behind c.in-Some.ensures.split in
+    let all = member_all c.args.files.now c.args.kind n c.requires.block_kind among in
+    let whole = (count_whole _ (counts c.args.files.now n all)).0 in
+    let none = all_member (HasNoRoom from c.args.count) (files_of c.args.files.now kind) n among (c.requires.full from there) 3 (omega arith) c.requires.few in
+    subst (λ (k : ℕ). empty_of (byte image (Block k)) 3 ≡ (blocks_of c.grow_room.new.files k - c.in_ok-place.place.start) / 4) (sym c.in_ok-place.ensures.place.0)
+    (raised_groups (empty_of (byte image (Block n)) 3) (empty_of (byte from (Block n)) 3) (blocks_of c.grow_room.new.files n) (blocks_of c.args.files.now n) c.in_ok-place.place.start
+    (c.in_ok-place.ensures.raised from there image now) none c.in_ok-place.ensures.blocks c.in_ok-place.ensures.place.1 whole c.in-Some.ensures.below)
+
+pub returns-in-Some-clause-whole : goal.returns-in-Some-clause-whole
+returns-in-Some-clause-whole g c = let at = c.in_ok-place.ensures.place.1 in omega (arith, at)
+
+pub returns-in-Some-clause-grown : goal.returns-in-Some-clause-grown
+returns-in-Some-clause-grown g c among = subst (λ (k : ℕ). blocks_of c.grow_room.new.files k ≡ grown (blocks_of c.args.files.now k)) (sym c.in_ok-place.ensures.place.0) c.in_ok-place.ensures.blocks
+
+pub returns-in-Some-clause-fresh : goal.returns-in-Some-clause-fresh
+returns-in-Some-clause-fresh g c from there image now none =
+    let all = member_all c.args.files.now c.args.kind c.in-Some.file c.requires.block_kind (member_split (files_of c.args.files.now (kind_number c.args.kind)) c.in-Some.ensures.before c.in-Some.file c.in-Some.ensures.behind c.in-Some.ensures.split) in
+    absurd (among_or_not (sym all ∙ ap (is_among (all_files c.args.files.now)) (sym c.in_ok-place.ensures.place.0) ∙ none))
+
+pub returns-in-Some-clause-hints : goal.returns-in-Some-clause-hints
+returns-in-Some-clause-hints g c from there image now m i among small = c.in_ok-place.ensures.hints from there image now m i small
+
+new_groups_are : (now new start : ℕ) → now ≡ 256 → new ≡ 1024 → start ≡ 0 → now ≡ (new - start) / 4
+new_groups_are now new start is more at = omega (arith, is, more, at)
+
+pub returns-clause-raised : goal.returns-clause-raised
+returns-clause-raised g c from there image now =
+    let n : ℕ = free_number c.args.files.now in
+    subst (λ (k : ℕ). empty_of (byte image (Block k)) 3 ≡ (blocks_of c.add_room.new.files k - c.in_ok-place-2.place.start) / 4) (sym c.in_ok-place-2.ensures.place.0)
+    (new_groups_are (empty_of (byte image (Block n)) 3) (blocks_of c.add_room.new.files n) c.in_ok-place-2.place.start (c.in_ok-place-2.ensures.raised from there image now) c.in_ok-place-2.ensures.blocks c.in_ok-place-2.ensures.place.1)
+
+pub returns-clause-whole : goal.returns-clause-whole
+returns-clause-whole g c = let at = c.in_ok-place-2.ensures.place.1 in omega (arith, at)
+
+pub returns-clause-fresh : goal.returns-clause-fresh
+returns-clause-fresh g c from there image now none =
+    let n = sym c.in_ok-place-2.ensures.place.0 in (
+      subst (λ (n : ℕ). AreAllocations image n []) n (c.in_ok-place-2.ensures.fresh from there image now),
+      (subst (EmptyAgrees image) n (c.in_ok-place-2.ensures.empty from there image now), subst (HasNoHints image) n (c.in_ok-place-2.ensures.hints from there image now)),
+    )
+
+pub returns-clause-hints : goal.returns-clause-hints
+returns-clause-hints g c from there image now m i among small = c.in_ok-place-2.ensures.kept_hints from there image now m i among small
+
+pub returns-clause-grown : goal.returns-clause-grown
+returns-clause-grown g c among = absurd (among_or_not (sym among ∙ ap (is_among (all_files c.args.files.now)) c.in_ok-place-2.ensures.place.0 ∙ c.in_ok-place-2.ensures.least.free))

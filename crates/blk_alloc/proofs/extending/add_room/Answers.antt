@@ -1,18 +1,21 @@
-use Rattle.std.proofs.Common.{ℕ, [], None, sym, ◌∙◌, ap, subst}
+use Rattle.std.proofs.Common.{◌≡◌, ℕ, ◌+◌, ◌%◌, ◌^◌, [], None, true, false, sym, ◌∙◌, ap, subst}
 use Rattle.std.specs.Option.{option_map}
-use Rattle.blk_image.specs.Image.{Image}
+use Rattle.blk_image.specs.Image.{Block, Image, byte}
 use Rattle.blk_image.specs.Steps.{after}
 use Rattle.blk_image.specs.Footprint.{either}
 use Rattle.blk_image.proofs.Footprints.{outside-refl, within_left}
 use Rattle.blk_image.proofs.Runs.{passes_end, passes_weaker}
 use Rattle.blk_addr.specs.Kind.{kind_number}
-use Rattle.blk_disk.specs.Tables.{Joins}
-use Rattle.blk_disk.specs.Growth.{IsLeastFileNumber, addition_of, free_number, growth_of, add_steps, last_file}
+use Rattle.blk_disk.specs.Tables.{Joins, all_files, blocks_of}
+use Rattle.blk_format.specs.BlockFiles.{is_among}
+use Rattle.blk_format.specs.Headers.{empty_of}
+use Rattle.blk_format.specs.Maps.{EmptyAgrees}
+use Rattle.blk_disk.specs.Growth.{IsLeastFileNumber, addition_of, free_number, grown, growth_of, add_steps, last_file, new_groups, raised}
 use Rattle.blk_alloc.specs.Extending.{HasCounters}
-use Rattle.blk_alloc.proofs.Adding.{added_counters, added_file, new_allocations, new_hints, new_among, join_keeps, join_widens, all_kept}
+use Rattle.blk_alloc.proofs.Adding.{added_counters, added_file, new_allocations, new_counts, new_hints, new_among, join_keeps, join_widens, all_kept}
 use Rattle.blk_alloc.proofs.Links.{joined_links, links_then}
 use Rattle.blk_alloc.proofs.Staying.{added_then, whole_wider}
-use Rattle.blk_alloc.proofs.Hints.{grown_hints}
+use Rattle.blk_alloc.proofs.Hints.{addition_keeps, grown_hints}
 use Rattle.blk_alloc.proofs.Kept.{join_larger, standing_kept, standing_same}
 use Rattle.blk_alloc.proofs.Members.{member_all}
 use Rattle.blk_io.proofs.Carried.{silent_part}
@@ -21,6 +24,15 @@ use Rattle.blk_alloc.proofs.extending.add_room.Goals as goal
 -- no files
 no_image : Image
 no_image file = None
+
+among_or_not : true ≡ false → ⊥
+among_or_not e = cc
+
+first_groups : (now was blocks : ℕ) → now ≡ (was + new_groups blocks) % 2 ^ 32 → was ≡ 0 → blocks ≡ 0 → now ≡ 256
+first_groups now was blocks is none nothing = is ∙ (λ j. (none j + new_groups (nothing j)) % 2 ^ 32)
+
+first_blocks : (now was : ℕ) → now ≡ grown was → was ≡ 0 → now ≡ 1024
+first_blocks now was is none = is ∙ ap grown none
 
 pub returns-clause-markable : goal.returns-clause-markable
 returns-clause-markable g c from there image last =
@@ -123,3 +135,36 @@ returns-in_err-place-clause-stops g c = added_then c.args.files.now (kind_number
 
 pub returns-clause-stops : goal.returns-clause-stops
 returns-clause-stops g c = added_then c.args.files.now (kind_number c.args.kind) c.in_ok-file.file c.in_ok-file.ensures.number c.in_ok-file.ensures.stops c.in_ok-place.ensures.stops
+
+pub returns-clause-raised : goal.returns-clause-raised
+returns-clause-raised g c from there image last =
+    let kind : ℕ = kind_number c.args.kind in
+    let n : ℕ = free_number c.args.files.now in
+    let now = c.in_ok-file.ensures.steps.files ∙ ap (option_map (after (add_steps c.args.files.now kind))) there in
+    let mid : Image = after (add_steps c.args.files.now kind) from in
+    let joins : Joins c.args.files.now c.add_file.new.self kind n 0 8192 = subst (λ (k : ℕ). Joins c.args.files.now c.add_file.new.self kind k 0 8192) c.in_ok-file.ensures.number c.in_ok-file.ensures.kept in
+    let least : IsLeastFileNumber c.args.files.now n = subst (IsLeastFileNumber c.args.files.now) c.in_ok-file.ensures.number c.in_ok-file.ensures.least in
+    let file = added_file c.args.files.now from c.args.kind c.requires.block_kind (c.requires.agrees from there) c.requires.room least in
+    let raise : empty_of (byte image (Block n)) 3 ≡ raised mid n (new_groups (blocks_of c.add_file.new.self n)) = subst (λ (k : ℕ). empty_of (byte image (Block k)) 3 ≡ raised mid k (new_groups (blocks_of c.add_file.new.self k))) c.in_ok-file.ensures.number (c.in_ok-place.ensures.raised mid now image last) in
+    first_groups (empty_of (byte image (Block n)) 3) (empty_of (byte mid (Block n)) 3) (blocks_of c.add_file.new.self n) raise (new_counts mid kind n file 3) joins.blocks_there
+
+pub returns-clause-blocks : goal.returns-clause-blocks
+returns-clause-blocks g c =
+    let kind : ℕ = kind_number c.args.kind in
+    let n : ℕ = free_number c.args.files.now in
+    let joins : Joins c.args.files.now c.add_file.new.self kind n 0 8192 = subst (λ (k : ℕ). Joins c.args.files.now c.add_file.new.self kind k 0 8192) c.in_ok-file.ensures.number c.in_ok-file.ensures.kept in
+    first_blocks (blocks_of c.grow_room.new.files n) (blocks_of c.add_file.new.self n) (subst (λ (k : ℕ). blocks_of c.grow_room.new.files k ≡ grown (blocks_of c.add_file.new.self k)) c.in_ok-file.ensures.number c.in_ok-place.ensures.blocks) joins.blocks_there
+
+pub returns-clause-kept_hints : goal.returns-clause-kept_hints
+returns-clause-kept_hints g c from there image last m i among small =
+    let kind : ℕ = kind_number c.args.kind in
+    let n : ℕ = free_number c.args.files.now in
+    let now = c.in_ok-file.ensures.steps.files ∙ ap (option_map (after (add_steps c.args.files.now kind))) there in
+    let mid : Image = after (add_steps c.args.files.now kind) from in
+    let least : IsLeastFileNumber c.args.files.now n = subst (IsLeastFileNumber c.args.files.now) c.in_ok-file.ensures.number c.in_ok-file.ensures.least in
+    c.in_ok-place.ensures.hints mid now image last m i small
+    ∙ addition_keeps c.args.files.now kind from mid (passes_end (c.in_ok-file.ensures.stops from there) mid now).outside m i (λ e. among_or_not (sym among ∙ ap (is_among (all_files c.args.files.now)) e ∙ least.free)) small
+
+pub returns-clause-empty : goal.returns-clause-empty
+returns-clause-empty g c from there image last =
+    subst (EmptyAgrees image) c.in_ok-file.ensures.number (subst (EmptyAgrees image) c.in_ok-place.ensures.place.0 (returns-clause-markable g c from there image last).ready.empty)

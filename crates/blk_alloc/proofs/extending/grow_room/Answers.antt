@@ -13,7 +13,8 @@ use Rattle.blk_addr.specs.Kind.{kind_number}
 use Rattle.blk_format.proofs.LinkedHeads.{count_whole}
 use Rattle.blk_alloc.proofs.Growing.{grow_widens}
 use Rattle.blk_alloc.proofs.Kept.{grow_larger, standing_kept, standing_same}
-use Rattle.blk_alloc.proofs.Grown.{grown_ready, grown_free, grown_keeps}
+use Rattle.blk_alloc.proofs.Grown.{grown_ready, grown_free, grown_keeps, raise_is}
+use Rattle.blk_alloc.proofs.Hints.{growth_keeps}
 use Rattle.blk_alloc.proofs.extending.grow_room.Goals as goal
 
 pub grow-requires-clause-linked : goal.grow-requires-clause-linked
@@ -91,3 +92,15 @@ returns-clause-standing g c = standing_kept c.args.files.now c.grow.new.self (gr
 
 pub returns-clause-links : goal.returns-clause-links
 returns-clause-links g c = c.in_ok-grow.ensures.kept.files
+
+pub returns-clause-raised : goal.returns-clause-raised
+returns-clause-raised g c from there mid now =
+    let all = member_all c.args.files.now c.args.kind c.args.file c.requires.block_kind c.requires.linked in
+    let is : mid ≡ after (grow_steps c.args.files.now c.args.file from) from = some_inj (sym now ∙ (c.in_ok-grow.ensures.steps from there).files ∙ ap (option_map (after (grow_steps c.args.files.now c.args.file from))) there) in
+    raise_is c.args.files.now from mid c.args.file (c.requires.agrees from there) all c.requires.below is
+
+pub returns-clause-blocks : goal.returns-clause-blocks
+returns-clause-blocks g c = c.in_ok-grow.ensures.kept.blocks_there
+
+pub returns-clause-hints : goal.returns-clause-hints
+returns-clause-hints g c from there mid now = growth_keeps c.args.file from mid (passes_end (c.in_ok-grow.ensures.stops from there) mid now).outside

@@ -1,4 +1,4 @@
-use Rattle.std.proofs.Common.{◌≡◌, ⊎_elim, inl, ℕ, ◌+◌, ◌%◌, ◌<◌, ◌≤◌, List, true, None, sym, ◌∙◌, ap, subst, arith}
+use Rattle.std.proofs.Common.{◌≡◌, ⊎_elim, inl, ℕ, ◌+◌, ◌/◌, ◌%◌, ◌<◌, ◌≤◌, List, true, None, sym, ◌∙◌, ap, subst, arith}
 use Rattle.std.specs.Option.{ForSome}
 use Rattle.blk_image.specs.Told.{Stays, Told}
 use Rattle.blk_format.specs.BlockFiles.{is_among}
@@ -19,7 +19,7 @@ use Rattle.blk_alloc.proofs.Placed.{place_resized, place_stands}
 use Rattle.blk_image.proofs.Footprints.{outside-refl}
 use Rattle.blk_disk.specs.Tables.{Agrees, stands_among}
 use Rattle.blk_alloc.proofs.Links.{fitted_long}
-use Rattle.blk_alloc.proofs.TakenAfter.{counted_after, ready_after, stops_after, taken_after}
+use Rattle.blk_alloc.proofs.TakenAfter.{counted_after, hints_after, ready_after, stops_after, taken_after, word_after}
 use Rattle.blk_image.specs.Steps.{after}
 use Rattle.blk_alloc.specs.Owning.{IsCause}
 use Rattle.blk_io.proofs.Carried.{carried, if_damaged_weaker, told_at_end}
@@ -121,3 +121,16 @@ returns-clause-long g c = fitted_long c.args.files.now c.fit.new.self c.args.pla
 
 pub returns-clause-stands : goal.returns-clause-stands
 returns-clause-stands g c = ap (stands_among c.fit.new.self) c.of_blocks-addr.ensures ∙ place_stands c.args.files.now c.fit.new.self c.args.kind c.requires.block_kind c.args.place c.requires.some c.requires.place c.in_ok-fit.ensures.kept
+
+pub change-requires-clause-word : goal.change-requires-clause-word
+change-requires-clause-word g c =
+    word_after (g.F.Folder.told c.args.f.now) (g.F.Folder.told c.fit.new.f) c.args.files.now c.fit.new.self c.args.place c.requires.agrees (member_all c.args.files.now c.args.kind c.args.place.file c.requires.block_kind c.requires.place.linked)
+    c.in_ok-fit.ensures.fitted c.in_ok-fit.ensures.kept c.in_ok-fit.ensures.agrees (c.args.place.start / 32) c.args.word c.requires.read
+
+pub returns-clause-hints : goal.returns-clause-hints
+returns-clause-hints g c =
+    hints_after (g.F.Folder.told c.args.f.now) (g.F.Folder.told c.fit.new.f) c.args.files.now c.fit.new.self c.args.place c.requires.agrees (member_all c.args.files.now c.args.kind c.args.place.file c.requires.block_kind c.requires.place.linked)
+    c.in_ok-fit.ensures.fitted c.in_ok-fit.ensures.kept c.in_ok-fit.ensures.agrees c.args.place.start c.args.place.count (g.F.Folder.told c.change.new.f) c.in_ok-change.ensures.changed
+
+pub returns-clause-blocks : goal.returns-clause-blocks
+returns-clause-blocks g c = c.in_ok-fit.ensures.kept.blocks

@@ -18,7 +18,7 @@ use Rattle.blk_image.specs.Told.{Told}
 use Rattle.blk_alloc.proofs.Formed.{agrees_kept}
 use Rattle.blk_format.proofs.LinkedHeads.{count_whole}
 use Rattle.blk_alloc.proofs.Kept.{fit_larger, standing_kept, standing_same}
-use Rattle.blk_alloc.proofs.Members.{all_head}
+use Rattle.blk_disk.proofs.WholeHeaders.{all_head}
 use Rattle.blk_alloc.proofs.Remade.{lengthened_is, rebuilding_begin, remade_is}
 use Rattle.blk_alloc.proofs.Taken.{fit_passes}
 use Rattle.blk_alloc.proofs.TakenAfter.{mid_of}

@@ -1,0 +1,117 @@
+// The search of a map from a hint on.
+ghost use Rattle.std.specs.Prelude.{◌≡◌, ◌≢◌, ◌≤◌, ◌<◌, ◌+◌, ◌*◌, ◌/◌, ◌%◌, ℕ, true, None, IfOk, IfSome};
+ghost use Rattle.std.specs.Option.{ForSome};
+ghost use Rattle.blk_image.specs.Bytes.{word_bytes};
+ghost use Rattle.blk_image.specs.Told.{Stays, Rises};
+ghost use Rattle.blk_format.specs.BlockFiles.{is_among};
+ghost use Rattle.blk_format.specs.Maps as maps;
+ghost use Rattle.blk_format.specs.Maps.{group_size, groups_of, is_block_marked};
+ghost use Rattle.blk_addr.specs.Bits.{has_bit};
+ghost use Rattle.blk_io.specs.Faults.{IfDamaged, IfDevice};
+ghost use Rattle.blk_disk.specs.Tables.{Agrees, all_files, blocks_of};
+ghost use Rattle.blk_alloc.specs.Fitting.{IsFirstMet, IsLeastOfGroup, IsMapWord, IsShortSearch};
+
+use crate::map::{is_place, longest_run};
+use blk_addr::GROUP;
+use blk_disk::{BlockFiles, Steps};
+use blk_io::{Fault, Folder};
+use std::sync::ledger::Ledger;
+
+// The groups of a word of a map.
+const GROUPS_OF_WORD: u32 = 8;
+
+const BITS_OF_WORD: u32 = 32;
+
+// A group of a file, by the number of its word in the map and its own in it, with the word.
+#[derive(Clone, Copy)]
+pub(crate) struct Group {
+    pub number: u32,
+    pub place: u32,
+    pub word: u32,
+}
+
+// The first of the eight groups of a word, from one on, whose longest free run is so long.
+fn group_in(bytes: &[u8], first: u32, run: u32) -> Option<u32>
+    ensures found { IfSome result (λ i. (first ≤ i) × (i < 8) × (maps.longest_run (has_bit bytes.now) i ≡ run)) }
+    ensures none { result ≡ None → (i : ℕ) → first ≤ i → i < 8 → maps.longest_run (has_bit bytes.now) i ≢ run }
+    ensures before { IfSome result (λ i. (k : ℕ) → first ≤ k → k < i → maps.longest_run (has_bit bytes.now) k ≢ run) }
+{
+    for i in first..GROUPS_OF_WORD {
+        if longest_run(bytes, i) == run {
+            return Some(i);
+        }
+    }
+    None
+}
+
+// The group of a word with which a turn of the round begins: in its first word that of the start.
+fn first_in(turn: u32, start: u32) -> u32
+    ensures begins { turn ≡ 0 → result ≡ start % 8 }
+    ensures goes_on { 0 < turn → result ≡ 0 }
+{
+    if turn == 0 { start % GROUPS_OF_WORD } else { 0 }
+}
+
+// The least block of a group where so many free blocks begin, where its longest free run is as long at least.
+pub(crate) fn least_of_group(bytes: &[u8], group: u32, count: u32) -> u32
+    requires few { count ≤ group_size }
+    requires some { 0 < count }
+    requires small { group < 8 }
+    requires room { count ≤ maps.longest_run (has_bit bytes.now) group }
+    ensures group { result / group_size ≡ group }
+    ensures least { IsLeastOfGroup (has_bit bytes.now) count result }
+{
+    for b in GROUP * group..GROUP * group + GROUP {
+        if is_place(bytes, b, count) {
+            return b;
+        }
+    }
+    unreachable!()
+}
+
+// The first group of a file, from a hint on and round to the front, whose longest free run is so long; or none
+// where one round has none.
+pub(crate) fn first_met<F: Folder, L: Ledger>(
+    f: &mut F,
+    files: &BlockFiles,
+    file: u8,
+    hint: u32,
+    run: u32,
+    steps: &mut Steps<L>,
+) -> Result<Option<Group>, Fault>
+    requires linked { is_among (all_files files.now) file ≡ true }
+    ensures met { IfOk result (λ found. IfSome found (λ group. ForSome (F.told f.old).files (λ image. IsFirstMet (is_block_marked image file) (groups_of (blocks_of files.now file)) hint run (8 * group.number + group.place)))) }
+    ensures word { IfOk result (λ found. IfSome found (λ group. ForSome (F.told f.old).files (λ image. IsMapWord image file group.number group.word))) }
+    ensures run { IfOk result (λ found. IfSome found (λ group. maps.longest_run (has_bit (word_bytes group.word)) group.place ≡ run)) }
+    ensures place { IfOk result (λ found. IfSome found (λ group. (group.place < 8) × (8 * group.number + group.place < groups_of (blocks_of files.now file)))) }
+    ensures none { IfOk result (λ found. found ≡ None → ForSome (F.told f.old).files (λ image. (g : ℕ) → g < groups_of (blocks_of files.now file) → maps.longest_run (is_block_marked image file) g ≢ run)) }
+    ensures most { steps.new ≤ steps.old + (blocks_of files.now file / 32 + 1) }
+    ensures once { IfOk result (λ found. IfSome found (λ group. ForSome (F.told f.old).files (λ image. 8 * group.number + group.place ≡ hint % groups_of (blocks_of files.now file) → steps.new ≡ steps.old + 1))) }
+    ensures cause { IfDamaged result (IsShortSearch files.now file (F.told f.old)) }
+    ensures untold { ForSome (F.told f.old).files (Agrees files.now) → IfDamaged result (λ _. (F.told f.old).files ≡ None) }
+    ensures stays { Stays (F.told f.old) (F.told f.new) }
+    ensures later { F.faults f.old ≤ F.faults f.new }
+    ensures device { IfDevice result (Rises (F.faults f.old) (F.faults f.new)) }
+{
+    let Some(blocks) = files.max_entries(file) else {
+        unreachable!();
+    };
+    let words = blocks / BITS_OF_WORD;
+    if words == 0 {
+        return Ok(None);
+    }
+    let start = hint % (GROUPS_OF_WORD * words);
+    for turn in 0..words + 1 {
+        let number = (start / GROUPS_OF_WORD + turn) % words;
+        let word = files.map_word(f, file, number, steps)?;
+        let bytes = word.to_le_bytes();
+        if let Some(place) = group_in(&bytes, first_in(turn, start), run) {
+            return Ok(Some(Group {
+                number,
+                place,
+                word,
+            }));
+        }
+    }
+    Ok(None)
+}
