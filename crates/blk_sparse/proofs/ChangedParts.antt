@@ -43,7 +43,7 @@ use Rattle.blk_object.proofs.GoingNext.{then-counters}
 use Rattle.blk_object.proofs.MakingTaken.{session-then}
 use Rattle.blk_object.proofs.WrittenParts.{its-row, part-listed}
 use Rattle.blk_object.proofs.WrittenRoles.{IsPartRole, part-from, part-of, role-part-of}
-use Rattle.blk_sparse.specs.Changing.{IsChangedUnused, IsToBeChanged}
+use Rattle.blk_sparse.specs.Changing.{IsChangedUnused, IsDataBeforeMap, IsToBeChanged}
 use Rattle.blk_sparse.specs.SparseObjects.{HasPartAt, KeepsParent, OthersLieAsBefore, with_piece}
 use Rattle.blk_sparse.proofs.Begun.{cut-all, object-valid, set-twice, unsettled-named}
 use Rattle.blk_sparse.proofs.FoundParts.{row-of-part}
@@ -429,11 +429,28 @@ module _ (a m b : Told) (of_part place : ℕ) (piece bytes : List ℕ) (small_pi
         second : IsPartToBeWritten (with_object state number (with_value object n data-value)) (layout_after layout (layout.place (part object.key n)) w.now) unlinked number (with_value object n data-value) n (part_after t.at.value place piece) w.now (IsPart noted-facts.name t.noted.index) of_part 2 0 true bytes mid.image
         second = second-write state layout unlinked number object node entry signature n of_part place piece bytes from t small_piece small_bytes room mid.image w
 
-        pub both-stops : ForSome m.files (λ i. ForEachPartUnsettled of_part 2 0 true bytes i (λ state layout unlinked number object n value was role. Passes m b (Finds (rest state)))) → Passes a b (Finds (rest state))
-        both-stops passes =
+        map-stops : ForSome m.files (λ i. ForEachPartUnsettled of_part 2 0 true bytes i (λ state layout unlinked number object n value was role. Passes m b (Finds (rest state)))) → Passes m b (Finds (rest state))
+        map-stops passes =
             let same = rest-mid state layout unlinked number object node entry signature n of_part place piece bytes from t small_piece small_bytes room mid.image w mid.holds in
             let run : Passes m b (Finds (rest (with_object state number (with_value object n data-value)))) = passes mid.image mid.is (with_object state number (with_value object n data-value)) (layout_after layout (layout.place (part object.key n)) w.now) unlinked number (with_value object n data-value) n (part_after t.at.value place piece) w.now (IsPart noted-facts.name t.noted.index) second in
-            passes_then data-stops (subst (λ (rows : List Row). Passes m b (Finds rows)) same run)
+            subst (λ (rows : List Row). Passes m b (Finds rows)) same run
+
+        pub both-stops : ForSome m.files (λ i. ForEachPartUnsettled of_part 2 0 true bytes i (λ state layout unlinked number object n value was role. Passes m b (Finds (rest state)))) → Passes a b (Finds (rest state))
+        both-stops passes = passes_then data-stops (map-stops passes)
+
+        -- the data is there before the map changes
+        pub data-first : ForSome m.files (λ i. ForEachPartUnsettled of_part 2 0 true bytes i (λ state layout unlinked number object n value was role. Passes m b (Finds (rest state)))) → IsDataBeforeMap state unlinked number object n place piece a b
+        data-first passes = record {
+          between = m;
+          image = mid.image;
+          there = mid.is;
+          before = data-stops;
+          value = t.at.value;
+          has = t.at.has;
+          layout = layout_after layout (layout.place (part object.key n)) w.now;
+          kept = w.kept;
+          behind = map-stops passes;
+        }
 
         pub both-changed : ForSome m.files (λ i. ForEachPartUnsettled of_part 2 0 true bytes i (λ state layout unlinked number object n value was role. ForSome b.files (IsPartWrittenUncounted state layout unlinked number object n value was role 2 0 true bytes i)))
             → ForSome b.files (IsChangedUnused state layout unlinked number object node entry signature n of_part place piece from)

@@ -27,7 +27,7 @@ use Rattle.blk_object.proofs.MakingTaken.{session-then}
 use Rattle.blk_object.proofs.WrittenParts.{its-place}
 use Rattle.blk_ranges.specs.PartMaps.{index_of, SamePart, presence_of}
 use Rattle.blk_ranges.specs.declared.part_map.PartMap.{PartMap}
-use Rattle.blk_sparse.specs.Changing.{IsChangedUnused, IsNoted, IsToBeChanged}
+use Rattle.blk_sparse.specs.Changing.{IsChangedUnused, IsDataBeforeMap, IsNoted, IsToBeChanged}
 use Rattle.blk_sparse.specs.Parts.{FindsBeforeOrAfter, ForEachListedAt, IsListedAt, IsUsed}
 use Rattle.blk_sparse.specs.SparseObjects.{CanGetParts, HasPartAt, KeepsParentThen, with_piece, with_piece_written}
 use Rattle.blk_sparse.proofs.PartValid.{keeps-used, rest-whatever}
@@ -86,8 +86,25 @@ module _ (of_part place : ℕ) (piece bytes : List ℕ) (state : State) (layout 
       listed : IsListedAt (with_object state number (with_piece object n place piece)) now.now unlinked (part object.key n) of_part mid.image
       listed = its-part (with_object state number (with_piece object n place piece)) now.now unlinked number (with_piece object n place piece) node entry signature mid.image now.parent n of_part now.at
 
+      use-stops : ForSome m.files (λ i. ForEachListedAt of_part i (λ state layout unlinked item. Passes m b (FindsBeforeOrAfter state item))) → Passes m b (Finds (rest state))
+      use-stops passes = passes_weaker (passes mid.image mid.is (with_object state number (with_piece object n place piece)) now.now unlinked (part object.key n) listed) either-found either-found
+
       pub change-stops : ForSome m.files (λ i. ForEachListedAt of_part i (λ state layout unlinked item. Passes m b (FindsBeforeOrAfter state item))) → Passes a b (Finds (rest state))
-      change-stops passes = passes_then first (passes_weaker (passes mid.image mid.is (with_object state number (with_piece object n place piece)) now.now unlinked (part object.key n) listed) either-found either-found)
+      change-stops passes = passes_then first (use-stops passes)
+
+      -- the data was there before the map changed
+      pub change-ordered : IsDataBeforeMap state unlinked number object n place piece a m → ForSome m.files (λ i. ForEachListedAt of_part i (λ state layout unlinked item. Passes m b (FindsBeforeOrAfter state item))) → IsDataBeforeMap state unlinked number object n place piece a b
+      change-ordered o passes = record {
+        between = o.between;
+        image = o.image;
+        there = o.there;
+        before = o.before;
+        value = o.value;
+        has = o.has;
+        layout = o.layout;
+        kept = o.kept;
+        behind = passes_then o.behind (use-stops passes);
+      }
 
       pub change-ends : ForSome m.files (λ i. ForEachListedAt of_part i (λ state layout unlinked item. ForSome b.files (IsUsed state layout unlinked item i))) → ForSome b.files (KeepsParentThen (with_piece_written state number object n place piece) layout unlinked number (with_piece object n place piece) node entry signature from)
       change-ends ends image is =

@@ -1,5 +1,6 @@
 -- The parts of a parent go, by the key that its record gives.
-use Rattle.std.proofs.Common.{◌≡◌, ℕ, ◌≤◌, ◌-◌, List, length, take, take_all, ap, sym, ◌∙◌, subst, arith, Bool, Some}
+use Rattle.std.proofs.Common.{◌≡◌, ℕ, ◌≤◌, ◌-◌, List, length, take, take_all, ap, sym, ◌∙◌, subst, arith, Bool, false, Some}
+use Rattle.std.specs.Int.{cast_unsigned, w64}
 use Rattle.std.specs.Option.{ForSome}
 use Rattle.std.specs.Prelude.{min}
 use Rattle.blk_image.specs.Image.{Image}
@@ -15,7 +16,9 @@ use Rattle.blk_laws.proofs.states.Laid.{item-row}
 use Rattle.blk_entry.specs.Keys.{IsPiece, key_at}
 use Rattle.blk_object.proofs.PartNames.{key-there}
 use Rattle.blk_sparse.specs.Children.{HasParentKey, IsParentOut}
-use Rattle.blk_sparse.specs.Dropping.{AreLeft, HasSignature}
+use Rattle.blk_sparse.specs.Dropping.{AreLeft, HasIndexedParts, HasNoBit}
+use Rattle.blk_sparse.specs.Parents.{LoadsAsParent}
+use Rattle.blk_sparse.specs.declared.dropping.IndexedParts.{IndexedParts}
 use Rattle.blk_sparse.proofs.PartsNext.{of-some}
 
 -- ---- the key is read
@@ -55,5 +58,9 @@ module _ (state : State) (layout : Layout) (keep : Item → Bool) (chains : ℕ 
   pub left-so : (key : List ℕ) → key ≡ object.key → AreLeft state layout keep chains unlinked key number object image
   left-so key is = subst (λ (k : List ℕ). AreLeft state layout keep chains unlinked k number object image) (sym is) p.left
 
-  pub signed-so : (key : List ℕ) (other : ℕ) → key ≡ object.key → other ≡ signature → HasSignature layout key other
-  signed-so key other is signed = subst (λ (k : List ℕ). HasSignature layout k other) (sym is) (subst (HasSignature layout object.key) (sym signed) p.parent)
+  pub loads-parent : LoadsAsParent entry image
+  loads-parent = record { loaded = p.parent.was; loads = p.loads; index = p.parent.index; role = p.parent.role }
+
+  -- its index says what was read
+  pub indexed-so : (key : List ℕ) (indexed : IndexedParts) → key ≡ object.key → cast_unsigned w64 indexed.signature ≡ signature → (indexed.any ≡ false → HasNoBit p.parent.index) → HasIndexedParts layout key indexed
+  indexed-so key indexed is signed none = subst (λ (k : List ℕ). HasIndexedParts layout k indexed) (sym is) (record { parent = record { was = p.parent.was; here = p.parent.here; index = p.parent.index; role = p.parent.role; same = p.parent.same ∙ sym signed }; none = none })

@@ -2,6 +2,7 @@ pub mod Walking
 pub mod PartsOut
 pub mod PartsNext
 pub mod PartsDropped
+pub mod NoPartsLeft
 pub mod ParentsRead
 pub mod ParentsOut
 pub mod HeldParents

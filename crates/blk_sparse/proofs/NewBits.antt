@@ -44,7 +44,7 @@ use Rattle.blk_sparse.proofs.NewSeen.{load-noted}
 
 -- ---- an index with one bit more
 
-index-parts : (bytes : List ℕ) (index : ParentIndex) → read_parent_index bytes ≡ Some index → (length bytes ≡ 8256) × ((k : ℕ) → index.has_part k ≡ (nat_lt k 65536 && map_bit (content bytes) 64 k))
+pub index-parts : (bytes : List ℕ) (index : ParentIndex) → read_parent_index bytes ≡ Some index → (length bytes ≡ 8256) × ((k : ℕ) → index.has_part k ≡ (nat_lt k 65536 && map_bit (content bytes) 64 k))
 unfolding read_parent_index
 index-parts bytes index is =
     let f : ℕ → ℕ = content bytes in

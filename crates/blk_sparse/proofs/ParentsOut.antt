@@ -1,6 +1,7 @@
 -- An object goes with its parts, and its main item's places are freed last.
 use Rattle.std.proofs.Common.{◌≡◌, ◌+◌, ℕ, List, [], ◌∷◌, ◌++◌, length, map, inl, refl, ap, sym, ◌∙◌, subst, arith, Bool, true, false, Option, None, Some, ⊎_elim}
 use Rattle.std.specs.Prelude.{filter, not}
+use Rattle.std.specs.Int.{cast_unsigned, w64}
 use Rattle.std.specs.List.{cons_option, filter_map, sum_by}
 use Rattle.std.proofs.lemmas.Bool.{cases_Bool}
 use Rattle.std.proofs.lemmas.List.Sums.{sum_by-cons}
@@ -34,9 +35,10 @@ use Rattle.blk_object.proofs.CountsOut.{counted-out-ends, still-counted}
 use Rattle.blk_object.proofs.FreedPlaces.{all-counted, all-out, going-finds-doomed}
 use Rattle.blk_object.proofs.GoingNext.{main-going, main-leaves}
 use Rattle.blk_object.proofs.OwnedPlaces.{kept-load}
-use Rattle.blk_sparse.specs.Dropping.{AreGone, AreLeft, HasSignature, IsCalledAtFront, IsWholeOut}
+use Rattle.blk_sparse.specs.Dropping.{AreGone, AreLeft, HasIndexedParts, HasNoBit, IsCalledAtFront, IsWholeOut}
 use Rattle.blk_sparse.specs.Parents.{AreGoneBeside, IsGoneWhole, IsGroupTold, LiesAsParent, LoadsAsParent, MayGoWhole}
 use Rattle.blk_sparse.specs.declared.dropping.Gone.{Gone}
+use Rattle.blk_sparse.specs.declared.dropping.IndexedParts.{IndexedParts}
 
 -- ---- the places of the main item are freed
 
@@ -102,8 +104,9 @@ module _ {held : Bool} (state : State) (layout : Layout) (unlinked : List ℕ) (
   pub as-parent : LoadsAsParent entry from
   as-parent = record { loaded = m.lies.was; loads = main-loads; index = m.index; role = m.role }
 
-  pub has-signature : (signature : ℕ) → m.index.signature ≡ signature → HasSignature layout key signature
-  has-signature signature same = record { was = m.lies.was; here = m.lies.lies.here; index = m.index; role = m.role; same = same }
+  -- its index says what was read
+  pub has-indexed : (indexed : IndexedParts) → m.index.signature ≡ cast_unsigned w64 indexed.signature → (indexed.any ≡ false → HasNoBit m.index) → HasIndexedParts layout key indexed
+  has-indexed indexed same none = record { parent = record { was = m.lies.was; here = m.lies.lies.here; index = m.index; role = m.role; same = same }; none = none }
 
   -- once the main item is out, its parts are left
   pub parts-left : (words : List ℕ) (image : Image) → words ++ unlinked ≡ words_of m.lies.was ++ unlinked → IsMainOut state layout unlinked object.key m.lies.was image

@@ -1,14 +1,18 @@
 -- The index of a parent is read.
-use Rattle.std.proofs.Common.{◌≡◌, ℕ, ◌≤◌, List, length, take, take_all, ap, sym, ◌∙◌, refl, arith, Bool, true, false, Option, None, Some}
-use Rattle.std.specs.Prelude.{◌==◌, nat_le, not, option_map, if◌then◌else◌}
+use Rattle.std.proofs.Common.{◌≡◌, ℕ, ◌+◌, ◌/◌, ◌%◌, ◌<◌, ◌≤◌, List, length, length-drop, take, take_all, drop, ap, sym, ◌∙◌, refl, subst, arith, Bool, true, false, ◌&&◌, Option, None, Some, ⊎_elim}
+use Rattle.std.specs.Prelude.{◌==◌, get_or, nat_le, nat_lt, not, option_map, if◌then◌else◌}
+use Rattle.std.specs.List.{list_any}
 use Rattle.std.specs.Option.{ForSome, option_and_then}
-use Rattle.std.specs.Int.{cast_unsigned, w64}
-use Rattle.std.proofs.lemmas.Bool.{eqb-true, le-leb}
+use Rattle.std.specs.Int.{bit_at, cast_unsigned, w64}
+use Rattle.std.proofs.lemmas.Bool.{cases_Bool, cases_lt, eqb-true, le-leb, le-ltb}
+use Rattle.std.proofs.lemmas.List.{get_or-drop}
+use Rattle.std.proofs.lemmas.List.Folds.{list_any_at}
+use Rattle.std.proofs.lemmas.Nat.Bits.{bit_at-zero}
 use Rattle.blk_image.specs.Bytes.{content}
 use Rattle.blk_image.specs.Image.{Image}
 use Rattle.blk_image.proofs.Runs.{some_inj}
 use Rattle.blk_format.specs.Records.{child, parent}
-use Rattle.blk_format.specs.SparseIndex.{ParentIndex, read_parent_index}
+use Rattle.blk_format.specs.SparseIndex.{ParentIndex, map_bit, read_parent_index}
 use Rattle.blk_volume.specs.Entries.{IsParent, IsPlain, Role, parent_role, part_role, role_of, stored_streams, stream}
 use Rattle.blk_volume.specs.Loads.{Loaded}
 use Rattle.blk_volume.specs.View.{RecordFields, store_of}
@@ -20,6 +24,8 @@ use Rattle.blk_ranges.specs.declared.parent_map.ParentHead.{ParentHead}
 use Rattle.blk_ranges.proofs.ParentIndexes.{index-read, with_bits}
 use Rattle.blk_stream.specs.Streams.{streams_at}
 use Rattle.blk_object.specs.Owning.{LoadsWith}
+use Rattle.blk_sparse.specs.Dropping.{HasNoBit}
+use Rattle.blk_sparse.proofs.NewBits.{index-parts}
 
 none-some : {A : Type 0} {x : A} → ◌≡◌ {A = Option A} None (Some x) → ⊥
 none-some e = cc
@@ -89,6 +95,31 @@ no-index bytes old new n p room read_head none is = go (read_parent_index bytes)
       let whole : take n new ≡ bytes = p.front ∙ take_all n bytes (omega (arith, many, long, room)) in
       absurd (none-some (sym (ap (option_map head_fields) none) ∙ is ∙ ap (λ (bs : List ℕ). if nat_le 64 (length bs) then read_parent_head (content bs) else None) whole ∙ head.head))
 
+-- no bit is set where the bytes behind the head are 0
+module _ (bytes : List ℕ) (index : ParentIndex) (is : read_parent_index bytes ≡ Some index) (none : list_any (λ byte. not (byte == 0)) (drop 64 bytes) ≡ false) where
+  parts : (length bytes ≡ 8256) × ((k : ℕ) → index.has_part k ≡ (nat_lt k 65536 && map_bit (content bytes) 64 k))
+  parts = index-parts bytes index is
+
+  zero-byte : (i : ℕ) → i < 8192 → content bytes (64 + i) ≡ 0
+  zero-byte i below = ⊎_elim
+      (λ (e : (get_or (drop 64 bytes) i 0 == 0) ≡ true). sym (get_or-drop 64 bytes i 0) ∙ eqb-true (get_or (drop 64 bytes) i 0) 0 e)
+      (λ (e : (get_or (drop 64 bytes) i 0 == 0) ≡ false).
+      let long = parts.0 in
+      let rest = length-drop 64 bytes in
+      let some = list_any_at (λ byte. not (byte == 0)) (drop 64 bytes) i 0 (omega (arith, below, long, rest)) (ap not e) in
+      absurd (let z : true ≡ false = sym some ∙ none in cc))
+      (cases_Bool (get_or (drop 64 bytes) i 0 == 0))
+
+  no-bits : HasNoBit index
+  no-bits n = parts.1 n ∙ ⊎_elim
+      (λ (low : n < 65536). ap (λ (byte : ℕ). nat_lt n 65536 && (bit_at byte (n % 8) == 1)) (zero-byte (n / 8) (omega (arith, low))) ∙ ap (λ (b : ℕ). nat_lt n 65536 && (b == 1)) (bit_at-zero (n % 8)) ∙ and-false (nat_lt n 65536))
+      (λ (high : 65536 ≤ n). ap (λ (t : Bool). t && map_bit (content bytes) 64 n) (le-ltb n 65536 high))
+      (cases_lt n 65536)
+    where
+      and-false : (t : Bool) → (t && false) ≡ false
+      and-false true = refl
+      and-false false = refl
+
 -- what was read is the index
 module _ (image : Image) (entry : ℕ) (loaded : Loaded) (index : ParentIndex) (w : LoadsWith entry loaded image) (role : loaded.role ≡ IsParent index) (old new : List ℕ) (n : ℕ) (room : 8256 ≤ length old) (piece : ForSome (streams_at image entry) (λ (streams : List (List ℕ)). IsPiece (stream 2 streams) 0 old new n)) where
   head : IsHeadOf (stream 2 loaded.streams) index
@@ -109,3 +140,14 @@ module _ (image : Image) (entry : ℕ) (loaded : Loaded) (index : ParentIndex) (
 
   pub signature-read : (read_head : Option ParentHead) (found : ParentHead) → read_head ≡ Some found → option_map head_fields read_head ≡ (if nat_le 64 (length (take n new)) then read_parent_head (content (take n new)) else None) → index.signature ≡ cast_unsigned w64 found.signature
   signature-read read_head found some is = ap (λ (p : ℕ × ℕ). p.0) (some_inj (sym bytes-head ∙ sym is ∙ ap (option_map head_fields) some))
+
+  -- where no byte behind its head is set, no bit is
+  pub no-bits-read : length new ≡ 8256 → list_any (λ byte. not (byte == 0)) (take 8192 (drop 64 new)) ≡ false → HasNoBit index
+  no-bits-read long_new none = no-bits (stream 2 loaded.streams) index (index-there image entry loaded index w role)
+      (subst (λ (bs : List ℕ). list_any (λ byte. not (byte == 0)) (drop 64 bs) ≡ false) all (ap (list_any (λ byte. not (byte == 0))) (sym behind) ∙ none))
+    where
+      all : new ≡ stream 2 loaded.streams
+      all = let p = piece loaded.streams (streams-there image entry loaded w) in let long = head.long in let many = p.many in sym (take_all n new (omega (arith, many, long, room, long_new))) ∙ whole
+
+      behind : take 8192 (drop 64 new) ≡ drop 64 new
+      behind = take_all 8192 (drop 64 new) (let rest = length-drop 64 new in omega (arith, rest, long_new))

@@ -1,31 +1,36 @@
 -- Bytes that are written to one part or to two: what the pieces make is what the bytes make.
 use Rattle.std.proofs.lemmas.Bool.Decides.{nat_tests}
-use Rattle.std.proofs.Common.{◌≡◌, ℕ, zero, suc, ◌+◌, ◌-◌, ◌*◌, ◌/◌, ◌%◌, ◌≤◌, ◌<◌, List, [], ◌∷◌, length, take, drop, set, Bool, true, false, cond, Option, None, Some, refl, sym, ◌∙◌, ap, ap₂, subst, arith, take_all, length-drop}
-use Rattle.std.specs.Prelude.{◌==◌, filter, is_some, not, if◌then◌else◌}
+use Rattle.std.proofs.Common.{◌≡◌, ℕ, zero, suc, ◌+◌, ◌-◌, ◌*◌, ◌/◌, ◌%◌, ◌≤◌, ◌<◌, List, [], ◌∷◌, length, take, drop, set, Bool, false, cond, Option, None, Some, refl, sym, ◌∙◌, ap, ap₂, subst, arith, take_all, length-drop}
+use Rattle.std.specs.Prelude.{◌==◌, is_some}
 use Rattle.std.specs.Bool.{passes}
 use Rattle.std.specs.Cmp.{nat_cmp_total, unsigned_tied}
 use Rattle.std.specs.FinMap.{find}
 use Rattle.std.specs.FinMap.Entries.{find-put, length-put}
 use Rattle.std.specs.Ordering.{nat_cmp}
 use Rattle.std.proofs.lemmas.List.Sums.{sum_by-set}
+use Rattle.std.specs.Option.{ForSome}
 use Rattle.blk_image.specs.Image.{Image}
+use Rattle.blk_image.specs.Told.{Told}
+use Rattle.blk_image.proofs.Runs.{some_inj}
+use Rattle.blk_disk.specs.declared.tables.BlockFiles.{BlockFiles}
 use Rattle.blk_model.specs.Effects.{used, used_all}
 use Rattle.blk_model.specs.Holding.{rest}
 use Rattle.blk_model.specs.Items.{Item, PartValue, part}
 use Rattle.blk_model.specs.Room.{item_count, items, of_slot}
-use Rattle.blk_model.specs.Sizes.{part_size}
 use Rattle.blk_model.specs.Sparse.{covered_parts, part_after, parts_after, piece_for}
 use Rattle.blk_model.specs.State.{IsValidState, Object, State, object_at, part_at}
 use Rattle.blk_model.proofs.Each.{some_within}
 use Rattle.blk_volume.specs.Layout.{Layout}
 use Rattle.blk_kept.specs.Changes.{Finds}
 use Rattle.blk_kept.specs.CommandStates.{amidst}
+use Rattle.blk_kept.specs.Keeping.{KeepsUncounted}
 use Rattle.blk_kept.specs.PartStates.{with_value}
 use Rattle.blk_kept.proofs.Dirtying.{set-else}
 use Rattle.blk_kept.proofs.Keeping.{kept-found}
 use Rattle.blk_object.proofs.MakingStored.{counters-then}
 use Rattle.blk_object.proofs.MakingTaken.{session-then}
 use Rattle.blk_sparse.specs.SparseObjects.{CanGetParts, KeepsParent, KeepsParentThen, OthersLieAsBefore, missing_parts, parts_of, value_or_empty, with_bytes, with_bytes_written, with_piece, with_piece_written}
+use Rattle.blk_sparse.specs.Writing.{AreInOrder, IsPieceInOrder}
 use Rattle.blk_sparse.proofs.Begun.{object-valid}
 use Rattle.blk_sparse.proofs.NewMade.{set-self}
 use Rattle.blk_sparse.proofs.OthersLie.{others-of, others-same, others-then}
@@ -63,34 +68,58 @@ still-missing object n m value apart =
 
 -- ---- one part
 
+-- the piece of the one part is all bytes
+record IsOnePiece (offset n place : ℕ) (bytes : List ℕ) : Type 0 where
+  pub inside : offset - n * 1048576 ≡ place
+  pub piece : piece_for n offset bytes ≡ bytes
+
+one-piece : (offset n place : ℕ) (bytes : List ℕ) → offset ≡ n * 1048576 + place → place + length bytes ≤ 1048576 → IsOnePiece offset n place bytes
+one-piece offset n place bytes at room =
+    let inside : offset - n * 1048576 ≡ place = omega (arith, at) in
+    let before : n * 1048576 - offset ≡ 0 = omega (arith, at) in
+    record { inside = inside; piece = ap (λ (d : ℕ). take (1048576 - (offset - n * 1048576)) (drop d bytes)) before ∙ take_all (1048576 - (offset - n * 1048576)) bytes (omega (arith, inside, room)) }
+
 pub bytes-one : (object : Object) (offset n place : ℕ) (bytes : List ℕ) → covered_parts offset (length bytes) ≡ n ∷ [] → offset ≡ n * 1048576 + place → place + length bytes ≤ 1048576 → with_bytes object offset bytes ≡ with_piece object n place bytes
 unfolding parts_after
 bytes-one object offset n place bytes covers at room =
-    let inside : offset - n * 1048576 ≡ place = omega (arith, at) in
-    let before : n * 1048576 - offset ≡ 0 = omega (arith, at) in
-    let piece : piece_for n offset bytes ≡ bytes = ap (λ (d : ℕ). take (1048576 - (offset - n * 1048576)) (drop d bytes)) before ∙ take_all (1048576 - (offset - n * 1048576)) bytes (omega (arith, inside, room)) in
+    let p = one-piece offset n place bytes at room in
     ap (λ (ns : List ℕ). record object { parts = parts_after ns offset bytes object.parts }) covers
-    ∙ ap₂ (λ (p : ℕ) (bs : List ℕ). with_piece object n p bs) inside piece
+    ∙ ap₂ (λ (p : ℕ) (bs : List ℕ). with_piece object n p bs) p.inside p.piece
 
 -- ---- two parts
 
 abbrev two_pieces : Object → (n : ℕ) → (p : ℕ) → List ℕ → (q : ℕ) → List ℕ → Object
 two_pieces object n p front q back = with_piece (with_piece object n p front) (n + 1) q back
 
-pub bytes-two : (object : Object) (offset n place left : ℕ) (bytes : List ℕ) → covered_parts offset (length bytes) ≡ n ∷ (n + 1) ∷ [] → offset ≡ n * 1048576 + place → place + left ≡ 1048576 → length bytes ≤ 1048576 → with_bytes object offset bytes ≡ with_piece (with_piece object n place (take left bytes)) (n + 1) 0 (drop left bytes)
-unfolding parts_after
-bytes-two object offset n place left bytes covers at rest_is most =
+-- the piece of the first part is a front of the bytes, and that of the second what is behind it
+record AreTwoPieces (offset n place left : ℕ) (bytes : List ℕ) : Type 0 where
+  pub inside : offset - n * 1048576 ≡ place
+  pub front : piece_for n offset bytes ≡ take left bytes
+  pub behind : offset - (n + 1) * 1048576 ≡ 0
+  pub back : piece_for (n + 1) offset bytes ≡ drop left bytes
+
+two-pieces-are : (offset n place left : ℕ) (bytes : List ℕ) → offset ≡ n * 1048576 + place → place + left ≡ 1048576 → length bytes ≤ 1048576 → AreTwoPieces offset n place left bytes
+two-pieces-are offset n place left bytes at rest_is most =
     let inside : offset - n * 1048576 ≡ place = omega (arith, at) in
     let before : n * 1048576 - offset ≡ 0 = omega (arith, at) in
     let room : 1048576 - (offset - n * 1048576) ≡ left = omega (arith, inside, rest_is) in
     let behind : offset - (n + 1) * 1048576 ≡ 0 = omega (arith, at, rest_is) in
     let gone : (n + 1) * 1048576 - offset ≡ left = omega (arith, at, rest_is) in
     let long = length-drop left bytes in
-    let front : piece_for n offset bytes ≡ take left bytes = ap₂ (λ (k d : ℕ). take k (drop d bytes)) room before in
-    let back : piece_for (n + 1) offset bytes ≡ drop left bytes = ap (λ (d : ℕ). take (1048576 - (offset - (n + 1) * 1048576)) (drop d bytes)) gone ∙ take_all (1048576 - (offset - (n + 1) * 1048576)) (drop left bytes) (omega (arith, behind, long, most)) in
+    record {
+      inside = inside;
+      front = ap₂ (λ (k d : ℕ). take k (drop d bytes)) room before;
+      behind = behind;
+      back = ap (λ (d : ℕ). take (1048576 - (offset - (n + 1) * 1048576)) (drop d bytes)) gone ∙ take_all (1048576 - (offset - (n + 1) * 1048576)) (drop left bytes) (omega (arith, behind, long, most));
+    }
+
+pub bytes-two : (object : Object) (offset n place left : ℕ) (bytes : List ℕ) → covered_parts offset (length bytes) ≡ n ∷ (n + 1) ∷ [] → offset ≡ n * 1048576 + place → place + left ≡ 1048576 → length bytes ≤ 1048576 → with_bytes object offset bytes ≡ with_piece (with_piece object n place (take left bytes)) (n + 1) 0 (drop left bytes)
+unfolding parts_after
+bytes-two object offset n place left bytes covers at rest_is most =
+    let p = two-pieces-are offset n place left bytes at rest_is most in
     ap (λ (ns : List ℕ). record object { parts = parts_after ns offset bytes object.parts }) covers
-    ∙ ap₂ (λ (p : ℕ) (bs : List ℕ). two_pieces object n p bs (offset - (n + 1) * 1048576) (piece_for (n + 1) offset bytes)) inside front
-    ∙ ap₂ (λ (p : ℕ) (bs : List ℕ). two_pieces object n place (take left bytes) p bs) behind back
+    ∙ ap₂ (λ (p : ℕ) (bs : List ℕ). two_pieces object n p bs (offset - (n + 1) * 1048576) (piece_for (n + 1) offset bytes)) p.inside p.front
+    ∙ ap₂ (λ (p : ℕ) (bs : List ℕ). two_pieces object n place (take left bytes) p bs) p.behind p.back
 
 -- ---- which parts
 
@@ -140,6 +169,17 @@ module _ (state : State) (layout : Layout) (unlinked : List ℕ) (number : ℕ) 
         let states : with_bytes_written state number object offset bytes ≡ with_piece_written state number object n place bytes = ap₂ (λ (o : Object) (ns : List ℕ). amidst state number o (used_all (parts_of object ns) state.uses)) same covers in
         subst (λ (s : State). KeepsParentThen s layout unlinked number (with_bytes object offset bytes) node entry signature from image) (sym states)
         (subst (λ (o : Object). KeepsParentThen (with_piece_written state number object n place bytes) layout unlinked number o node entry signature from image) (sym same) k)
+
+    -- the one piece is written in order
+    pub order-one : (files : BlockFiles) (old new : Told) → old.files ≡ Some from → IsPieceInOrder files state layout unlinked number object entry signature n place bytes old new
+        → AreInOrder (covered_parts offset (length bytes)) state layout unlinked number object entry signature offset bytes old new
+    order-one files old new there o =
+        let p = one-piece offset n place bytes at room in
+        let kept : ForSome old.files (KeepsUncounted state layout unlinked) = λ image is. subst (KeepsUncounted state layout unlinked) (some_inj (sym there ∙ is)) can.parent.kept in
+        let piece : IsPieceInOrder files state layout unlinked number object entry signature n (offset - n * 1048576) (piece_for n offset bytes) old new =
+        subst (λ (q : ℕ). IsPieceInOrder files state layout unlinked number object entry signature n q (piece_for n offset bytes) old new) (sym p.inside)
+        (subst (λ (bs : List ℕ). IsPieceInOrder files state layout unlinked number object entry signature n place bs old new) (sym p.piece) o) in
+        subst (λ (ns : List ℕ). AreInOrder ns state layout unlinked number object entry signature offset bytes old new) (sym covers) (files, (new, (layout, (kept, (piece, refl)))))
 
   module _ (covers : covered_parts offset (length bytes) ≡ n ∷ (n + 1) ∷ []) (left : ℕ) (rest_is : place + left ≡ 1048576) (most : length bytes ≤ 1048576) (front back : List ℕ) (is_front : front ≡ take left bytes) (is_back : back ≡ drop left bytes) where
     both : CanGetParts (n ∷ (n + 1) ∷ []) state layout unlinked number object node entry signature from
@@ -200,3 +240,32 @@ module _ (state : State) (layout : Layout) (unlinked : List ℕ) (number : ℕ) 
           subst (λ (s : State). KeepsParentThen s layout unlinked number (with_bytes object offset bytes) node entry signature from image) (sym states)
           (subst (λ (o : Object). KeepsParentThen (with_piece_written (with_piece_written state number object n place front) number (with_piece object n place front) (n + 1) 0 back) layout unlinked number o node entry signature from image) (sym same)
           (record { now = last.now; parent = last.parent; others = both-others last.now last.others; counters = counters-then from mid image k.counters last.counters; session = session-then from mid image k.session last.session }))
+
+      -- both pieces are written in order
+      abbrev TwoInOrder : (old new : Told) (p : ℕ) (fr : List ℕ) (q : ℕ) (bk : List ℕ) → Type 0
+      TwoInOrder old new p fr q bk =
+          (files : BlockFiles) × ((between : Told) × ((now : Layout) × (ForSome old.files (KeepsUncounted state layout unlinked) × (IsPieceInOrder files state layout unlinked number object entry signature n p fr old between
+          × ((last_files : BlockFiles) × ((last : Told) × ((end : Layout) × (ForSome between.files (KeepsUncounted (with_piece_written state number object n p fr) now unlinked) × (IsPieceInOrder last_files (with_piece_written state number object n p fr) now unlinked number (with_piece object n p fr) entry signature (n + 1) q bk between last
+          × (new ≡ last))))))))))
+
+      pub order-two : (files last_files : BlockFiles) (old between new : Told) → old.files ≡ Some from → between.files ≡ Some mid
+          → IsPieceInOrder files state layout unlinked number object entry signature n place front old between
+          → IsPieceInOrder last_files (with_piece_written state number object n place front) k.now unlinked number (with_piece object n place front) entry signature (n + 1) 0 back between new
+          → AreInOrder (covered_parts offset (length bytes)) state layout unlinked number object entry signature offset bytes old new
+      order-two files last_files old between new there mid_is first second =
+          let p = two-pieces-are offset n place left bytes at rest_is most in
+          let kept : ForSome old.files (KeepsUncounted state layout unlinked) = λ image is. subst (KeepsUncounted state layout unlinked) (some_inj (sym there ∙ is)) can.parent.kept in
+          let kept_mid : ForSome between.files (KeepsUncounted (with_piece_written state number object n place front) k.now unlinked) = λ image is. subst (KeepsUncounted (with_piece_written state number object n place front) k.now unlinked) (some_inj (sym mid_is ∙ is)) k.parent.kept in
+          let both : TwoInOrder old new place front 0 back = (files, (between, (k.now, (kept, (first, (last_files, (new, (k.now, (kept_mid, (second, refl)))))))))) in
+          let said : TwoInOrder old new (offset - n * 1048576) (piece_for n offset bytes) (offset - (n + 1) * 1048576) (piece_for (n + 1) offset bytes) =
+          subst (λ (q : ℕ). TwoInOrder old new q (piece_for n offset bytes) (offset - (n + 1) * 1048576) (piece_for (n + 1) offset bytes)) (sym p.inside)
+          (subst (λ (bs : List ℕ). TwoInOrder old new place bs (offset - (n + 1) * 1048576) (piece_for (n + 1) offset bytes)) (is_front ∙ sym p.front)
+          (subst (λ (q : ℕ). TwoInOrder old new place front q (piece_for (n + 1) offset bytes)) (sym p.behind)
+          (subst (λ (bs : List ℕ). TwoInOrder old new place front 0 bs) (is_back ∙ sym p.back) both))) in
+          subst (λ (ns : List ℕ). AreInOrder ns state layout unlinked number object entry signature offset bytes old new) (sym covers) said
+
+-- of no bytes nothing is written
+pub order-none : (state : State) (layout : Layout) (unlinked : List ℕ) (number : ℕ) (object : Object) (entry signature offset : ℕ) (bytes : List ℕ) (old : Told) → length bytes ≡ 0 → AreInOrder (covered_parts offset (length bytes)) state layout unlinked number object entry signature offset bytes old old
+unfolding covered_parts
+order-none state layout unlinked number object entry signature offset [] old none = refl
+order-none state layout unlinked number object entry signature offset (b ∷ bytes) old none = absurd (omega (arith, none))

@@ -2,16 +2,20 @@
 use Rattle.std.specs.Prelude.{◌≡◌, ℕ, ◌+◌, List, [], length}
 use Rattle.std.specs.declared.option.Option.TheVariants.{Some}
 use Rattle.blk_image.specs.Image.{Image}
-use Rattle.blk_model.specs.Items.{IsBytes}
+use Rattle.blk_image.specs.Told.{Passes, Told}
+use Rattle.blk_model.specs.Bytes.{overwritten}
+use Rattle.blk_model.specs.Holding.{rest}
+use Rattle.blk_model.specs.Items.{PartValue}
 use Rattle.blk_model.specs.Sparse.{presence_after}
-use Rattle.blk_model.specs.State.{Object, State}
+use Rattle.blk_model.specs.State.{Object, State, part_at}
 use Rattle.blk_format.specs.Names.{Name}
 use Rattle.blk_format.specs.SparseIndex.{PartIndex, read_part_index}
 use Rattle.blk_volume.specs.Entries.{IsPart}
 use Rattle.blk_volume.specs.Layout.{Layout}
 use Rattle.blk_volume.specs.Loads.{Loaded}
-use Rattle.blk_kept.specs.Changes.{SameCounters, SameSession}
-use Rattle.blk_kept.specs.PartStates.{with_object}
+use Rattle.blk_kept.specs.Changes.{Finds, SameCounters, SameSession}
+use Rattle.blk_kept.specs.Keeping.{KeepsUncounted}
+use Rattle.blk_kept.specs.PartStates.{with_object, with_value}
 use Rattle.blk_object.specs.Owning.{LoadsWith}
 use Rattle.blk_ranges.specs.PartMaps.{presence_in}
 use Rattle.blk_sparse.specs.SparseObjects.{CanGetParts, HasPartAt, KeepsParent, OthersLieAsBefore, with_piece}
@@ -55,3 +59,17 @@ pub record IsChangedUnused (state : State) (old : Layout) (unlinked : List ℕ) 
   pub others : OthersLieAsBefore (with_object state number (with_piece object n place piece)) number old now
   pub counters : SameCounters from image
   pub session : SameSession from image
+
+-- Its order.
+
+-- at some moment between the part has the bytes of the piece, and its map is the one that it had: that state is kept there; what was at rest is found before and behind
+pub record IsDataBeforeMap (state : State) (unlinked : List ℕ) (number : ℕ) (object : Object) (n place : ℕ) (piece : List ℕ) (old new : Told) : Type 0 where
+  pub between : Told
+  pub image : Image
+  pub there : between.files ≡ Some image
+  pub before : Passes old between (Finds (rest state))
+  pub value : PartValue
+  pub has : part_at object n ≡ Some value
+  pub layout : Layout
+  pub kept : KeepsUncounted (with_object state number (with_value object n (record value { bytes = overwritten value.bytes place piece }))) layout unlinked image
+  pub behind : Passes between new (Finds (rest state))

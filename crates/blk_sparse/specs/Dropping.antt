@@ -1,5 +1,6 @@
 -- The parts of an object go after its main item, one after another, in the order of the use list.
-use Rattle.std.specs.Prelude.{◌≡◌, ℕ, List, ◌∷◌, ◌++◌, Bool, Option, None, Some, filter, length, true}
+use Rattle.std.specs.Prelude.{◌≡◌, ℕ, List, ◌∷◌, ◌++◌, Bool, Option, None, Some, false, filter, length, true}
+use Rattle.std.specs.Int.{cast_unsigned, w64}
 use Rattle.std.specs.List.{FoldsTo}
 use Rattle.blk_image.specs.Image.{Image}
 use Rattle.blk_model.specs.Items.{Item, main, part}
@@ -18,6 +19,7 @@ use Rattle.blk_object.specs.ListedParts.{HaveNoPart}
 use Rattle.blk_object.specs.RemovingNext.{CountsLeft}
 use Rattle.blk_sparse.specs.declared.dropping.Dropped.{Dropped}
 use Rattle.blk_sparse.specs.declared.dropping.Gone.{Gone}
+use Rattle.blk_sparse.specs.declared.dropping.IndexedParts.{IndexedParts}
 
 -- Where parts go.
 
@@ -28,6 +30,15 @@ pub record HasSignature (layout : Layout) (key : List ℕ) (signature : ℕ) : T
   pub index : ParentIndex
   pub role : was.role ≡ IsParent index
   pub same : index.signature ≡ signature
+
+-- no bit of an index is set
+abbrev pub HasNoBit : ParentIndex → Type 0
+HasNoBit index = (n : ℕ) → index.has_part n ≡ false
+
+-- the main item of a key, out or not, has a parent's index that says so of its parts: this signature, and no bit where none is said
+pub record HasIndexedParts (layout : Layout) (key : List ℕ) (indexed : IndexedParts) : Type 0 where
+  pub parent : HasSignature layout key (cast_unsigned w64 indexed.signature)
+  pub none : indexed.any ≡ false → HasNoBit parent.index
 
 -- the main item of an object with a key is out, and perhaps parts of it, no item of another key is, and what is left is counted
 pub record AreLeft (state : State) (layout : Layout) (keep : Item → Bool) (chains : ℕ → List ℕ) (unlinked : List ℕ) (key : List ℕ) (number : ℕ) (object : Object) (image : Image) : Type 0 where
@@ -42,6 +53,13 @@ abbrev pub ForEachLeft : (key : List ℕ) (signature : ℕ) → Image → (State
 ForEachLeft key signature from P =
     (state : State) (layout : Layout) (keep : Item → Bool) (chains : ℕ → List ℕ) (unlinked : List ℕ) (number : ℕ) (object : Object)
     → AreLeft state layout keep chains unlinked key number object from → HasSignature layout key signature
+    → P state layout keep unlinked number object
+
+-- the same, with what the index says of the parts
+abbrev pub ForEachIndexed : (key : List ℕ) (indexed : IndexedParts) → Image → (State → Layout → (keep : Item → Bool) → List ℕ → ℕ → Object → Type 0) → Type 0
+ForEachIndexed key indexed from P =
+    (state : State) (layout : Layout) (keep : Item → Bool) (chains : ℕ → List ℕ) (unlinked : List ℕ) (number : ℕ) (object : Object)
+    → AreLeft state layout keep chains unlinked key number object from → HasIndexedParts layout key indexed
     → P state layout keep unlinked number object
 
 -- What is told of them.

@@ -17,8 +17,9 @@ use Rattle.blk_kept.specs.Keeping.{Keeps}
 use Rattle.blk_kept.specs.WholeRemovals.{layout_doomed_whole}
 use Rattle.blk_object.specs.Owning.{LoadsWith}
 use Rattle.blk_object.specs.RemovingFound.{LiesAsFound}
-use Rattle.blk_sparse.specs.Dropping.{AreGone, AreLeft, HasSignature}
+use Rattle.blk_sparse.specs.Dropping.{AreGone, AreLeft, HasIndexedParts}
 use Rattle.blk_sparse.specs.declared.dropping.Gone.{Gone}
+use Rattle.blk_sparse.specs.declared.dropping.IndexedParts.{IndexedParts}
 
 -- a live object with a key and an index, which a handle names or none does, lies as its main item at this node with this record, behind this one in its chain
 pub record LiesAsParent (held : Bool) (state : State) (layout : Layout) (unlinked : List ℕ) (number : ℕ) (object : Object) (key : List ℕ) (node entry : ℕ) (before : Option ℕ) (image : Image) : Type 0 where
@@ -55,10 +56,10 @@ pub record LoadsAsParent (entry : ℕ) (image : Image) : Type 0 where
   pub role : loaded.role ≡ IsParent index
 
 -- what holds wherever the main item of an object is out, and perhaps parts of it, and these words are unlinked, of the words that are unlinked beside them
-abbrev pub ForEachRest : (words key : List ℕ) (signature : ℕ) → Image → (State → Layout → (keep : Item → Bool) → List ℕ → ℕ → Object → Type 0) → Type 0
-ForEachRest words key signature from P =
+abbrev pub ForEachRest : (words key : List ℕ) (indexed : IndexedParts) → Image → (State → Layout → (keep : Item → Bool) → List ℕ → ℕ → Object → Type 0) → Type 0
+ForEachRest words key indexed from P =
     (state : State) (layout : Layout) (keep : Item → Bool) (chains : ℕ → List ℕ) (unlinked : List ℕ) (number : ℕ) (object : Object)
-    → AreLeft state layout keep chains (words ++ unlinked) key number object from → HasSignature layout key signature
+    → AreLeft state layout keep chains (words ++ unlinked) key number object from → HasIndexedParts layout key indexed
     → P state layout keep unlinked number object
 
 -- one item more than these went, which was charged so

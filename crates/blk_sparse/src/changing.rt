@@ -17,7 +17,7 @@ ghost use Rattle.blk_kept.specs.Changes.{Finds};
 ghost use Rattle.blk_object.specs.FailedChecks.{IsFailedCheck};
 ghost use Rattle.blk_object.specs.Owning.{LoadsWith};
 ghost use Rattle.blk_ranges.specs.PartMaps.{IsPartMap, index_of};
-ghost use Rattle.blk_sparse.specs.Changing.{ForEachToBeChanged, IsChangedUnused, IsNoted, LoadsAsPart};
+ghost use Rattle.blk_sparse.specs.Changing.{ForEachToBeChanged, IsChangedUnused, IsDataBeforeMap, IsNoted, LoadsAsPart};
 ghost use Rattle.blk_sparse.specs.SparseObjects.{ForEachPartThere, KeepsParentThen, with_piece, with_piece_written};
 
 use crate::parts::use_entry;
@@ -58,6 +58,9 @@ pub(crate) fn change_part<F: Folder>(
 
     // At each word what was at rest is found: an object that isn't settled isn't, nor are its parts.
     ensures stops { ForSome (F.told f.old).files (λ from. ForEachPartThere part from (λ state layout unlinked number object node entry signature n. Passes (F.told f.old) (F.told f.new) (Finds (rest state)))) }
+
+    // The part has the bytes before its map changes.
+    ensures ordered { OnOk result (ForSome (F.told f.old).files (λ from. ForEachPartThere part from (λ state layout unlinked number object node entry signature n. IsDataBeforeMap state unlinked number object n place piece.now (F.told f.old) (F.told f.new)))) }
 
     // What stood still does.
     ensures keeps { KeepsStanding files.old files.new }
@@ -133,6 +136,7 @@ fn write_noted<F: Folder>(
     requires is_open { ForSome (F.told f.old).files (IsOpen files.old) }
     ensures written { OnOk result (ForSome (F.told f.old).files (λ from. ForEachToBeChanged part place piece.now map.now from (λ state layout unlinked number object node entry signature n. ForSome (F.told f.new).files (IsChangedUnused state layout unlinked number object node entry signature n part place piece.now from)))) }
     ensures stops { ForSome (F.told f.old).files (λ from. ForEachToBeChanged part place piece.now map.now from (λ state layout unlinked number object node entry signature n. Passes (F.told f.old) (F.told f.new) (Finds (rest state)))) }
+    ensures ordered { OnOk result (ForSome (F.told f.old).files (λ from. ForEachToBeChanged part place piece.now map.now from (λ state layout unlinked number object node entry signature n. IsDataBeforeMap state unlinked number object n place piece.now (F.told f.old) (F.told f.new)))) }
     ensures keeps { KeepsStanding files.old files.new }
     ensures is_open { OnOk result (ForSome (F.told f.new).files (IsOpen files.new)) }
     ensures damaged { IfDamaged result (IsFailedCheck files.new (F.told f.new)) }
@@ -141,6 +145,7 @@ fn write_noted<F: Folder>(
     ensures later { F.faults f.old ≤ F.faults f.new }
     ensures device { IfDevice result (Rises (F.faults f.old) (F.faults f.new)) }
 {
-    write_object(f, files, part, DATA, u64::from(place), false, piece)?;
+    let offset = u64::from(place);
+    write_object(f, files, part, DATA, offset, false, piece)?;
     write_object(f, files, part, INDEX, 0, true, map)
 }

@@ -1,5 +1,5 @@
 // The parts of a parent go, by the key that its record gives.
-ghost use Rattle.std.specs.Prelude.{◌≡◌, ◌+◌, ◌≤◌, ◌<◌, ℕ, IfOk, IsTrue, List, None, OnOk, Some, filter, length, take};
+ghost use Rattle.std.specs.Prelude.{◌≡◌, ◌+◌, ◌≤◌, ◌<◌, ℕ, IfOk, IsTrue, List, None, OnOk, Some, false, filter, length, take};
 ghost use Rattle.std.specs.Int.{cast_unsigned, w64};
 ghost use Rattle.std.specs.List.{FoldsTo};
 ghost use Rattle.std.specs.Option.{ForSome};
@@ -10,16 +10,22 @@ ghost use Rattle.blk_model.specs.Room.{parts_among};
 ghost use Rattle.blk_model.specs.Sizes.{longest_key, signatures};
 ghost use Rattle.blk_format.specs.Address.{blocks_256, kind_of};
 ghost use Rattle.blk_format.specs.Names.{longest_name};
+ghost use Rattle.blk_format.specs.SparseIndex.{ParentIndex};
+ghost use Rattle.blk_volume.specs.Entries.{IsParent};
+ghost use Rattle.blk_volume.specs.Loads.{Loaded};
 ghost use Rattle.blk_io.specs.Faults.{IfDamaged, IfDevice};
 ghost use Rattle.blk_disk.specs.Open.{IsOpen};
 ghost use Rattle.blk_disk.specs.Tables.{Agrees, stands_among};
 ghost use Rattle.blk_kept.specs.Changes.{Finds, SameSession};
 ghost use Rattle.blk_object.specs.FailedChecks.{IsFailedCheck};
+ghost use Rattle.blk_object.specs.Owning.{LoadsWith};
 ghost use Rattle.blk_object.specs.UnlinkedLoads.{KeepsUnlinked};
 ghost use Rattle.blk_sparse.specs.Children.{ForEachParentOut, HasParentKey};
-ghost use Rattle.blk_sparse.specs.Dropping.{IsCalledAtFront, IsWholeOut};
+ghost use Rattle.blk_sparse.specs.Dropping.{HasNoBit, IsCalledAtFront, IsWholeOut};
+ghost use Rattle.blk_sparse.specs.Parents.{LoadsAsParent};
 
-use crate::dropping::drop_parts_with;
+use crate::dropping::{IndexedParts, drop_indexed_with};
+use crate::parents::read_index;
 use blk_addr::Addr;
 use blk_disk::BlockFiles;
 use blk_entry::{LONGEST_NAME, key_piece, record_damage};
@@ -79,12 +85,13 @@ pub fn drop_children<F: Folder>(
 }
 
 /// Drops the parts of a parent, after it went: each is taken out, its places are freed, and it is counted no longer; and
-/// then `each` is called with its number. They go in the order of the use list, in one walk over it. How many went is
-/// given.
+/// then `each` is called with its number. They go in the order of the use list, in one walk over it; where no bit of the
+/// parent's index is set, no list is walked. How many went is given.
 ///
 /// The key is read from the parent's record into the front of `name`, and the names of the parts are made behind the
-/// longest key. This takes two folder calls more than `drop_parts_with`. A damage is one of those that `key_piece` and
-/// `drop_parts_with` give, or a key that has no byte or is longer than a parent's, of the length in its record.
+/// longest key. This takes four folder calls, and those of `drop_parts_with` where a bit is set. A damage is one of those
+/// that `key_piece`, `read_signature` and `drop_parts_with` give, or a key that has no byte or is longer than a parent's,
+/// of the length in its record.
 pub fn drop_children_with<F: Folder, E: FnMut(u32)>(
     f: &mut F,
     files: &BlockFiles,
@@ -132,10 +139,40 @@ pub fn drop_children_with<F: Folder, E: FnMut(u32)>(
     ensures later { F.faults f.old ≤ F.faults f.new }
     ensures device { IfDevice result (Rises (F.faults f.old) (F.faults f.new)) }
 {
-    let len = read_key(f, files, parent.entry, name)?;
+    let (len, any) = read_parent(f, files, parent.entry, name)?;
     let (key, room) = name.split_at_mut(LONGEST_KEY as usize);
-    let gone = drop_parts_with(f, files, &key[..len], parent.signature, room, each)?;
+    let indexed = IndexedParts {
+        signature: parent.signature,
+        any,
+    };
+    let gone = drop_indexed_with(f, files, &key[..len], indexed, room, each)?;
     Ok(gone.items)
+}
+
+// Reads the key of a parent into the front of `name`, and whether a bit of its index is set, by four folder calls. The
+// length of the key is given.
+fn read_parent<F: Folder>(
+    f: &mut F,
+    files: &BlockFiles,
+    entry: Addr,
+    name: &mut [u8],
+) -> Result<(usize, bool), Fault>
+    requires kind { kind_of entry ≡ blocks_256 }
+    requires stands { IsTrue (stands_among files.now entry) }
+    requires name { longest_name ≤ length name.old }
+    ensures some { IfOk result (λ read. 1 ≤ read.0) }
+    ensures short { IfOk result (λ read. read.0 ≤ longest_key) }
+    ensures key { IfOk result (λ read. ForSome (F.told f.old).files (λ image. (key : List ℕ) → HasParentKey entry key image → take read.0 name.new ≡ key)) }
+    ensures none { IfOk result (λ read. ForSome (F.told f.old).files (λ image. (loaded : Loaded) (index : ParentIndex) → LoadsWith entry loaded image → loaded.role ≡ IsParent index → read.1 ≡ false → HasNoBit index)) }
+    ensures stays { Stays (F.told f.old) (F.told f.new) }
+    ensures damaged { IfDamaged result (IsFailedCheck files.now (F.told f.new)) }
+    ensures untold { ForSome (F.told f.old).files (Agrees files.now) → ForSome (F.told f.old).files (λ image. (key : List ℕ) × HasParentKey entry key image) → ForSome (F.told f.old).files (LoadsAsParent entry) → IfDamaged result (λ _. (F.told f.old).files ≡ None) }
+    ensures later { F.faults f.old ≤ F.faults f.new }
+    ensures device { IfDevice result (Rises (F.faults f.old) (F.faults f.new)) }
+{
+    let len = read_key(f, files, entry, name)?;
+    let indexed = read_index(f, files, entry)?;
+    Ok((len, indexed.any))
 }
 
 // Reads the key of a parent into the front of `name`, by two folder calls. Its length is given.

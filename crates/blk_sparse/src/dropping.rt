@@ -19,7 +19,7 @@ ghost use Rattle.blk_kept.specs.Changes.{Finds, SameSession};
 ghost use Rattle.blk_object.specs.FailedChecks.{IsFailedCheck};
 ghost use Rattle.blk_object.specs.ListedParts.{SaysPart};
 ghost use Rattle.blk_object.specs.UnlinkedLoads.{KeepsUnlinked};
-ghost use Rattle.blk_sparse.specs.Dropping.{AreGone, ForEachBehind, ForEachLeft, ForEachPartLeft, IsCalledAtFront, IsDropOfNext, IsPartOut, IsWholeOut};
+ghost use Rattle.blk_sparse.specs.Dropping.{AreGone, ForEachBehind, ForEachIndexed, ForEachLeft, ForEachPartLeft, IsCalledAtFront, IsDropOfNext, IsPartOut, IsWholeOut};
 
 use blk_addr::Addr;
 use blk_chain::find;
@@ -39,6 +39,13 @@ const MOST_NODES: u32 = 131_072;
 pub struct Gone {
     pub items: u64,
     pub bytes: u64,
+}
+
+// What the index of an object says of its parts: the signature by which they are named, and whether any bit is set.
+#[derive(Clone, Copy, Debug)]
+pub(crate) struct IndexedParts {
+    pub signature: i64,
+    pub any: bool,
 }
 
 // A part that went: its number, its charge, and the node that was before its own, if there was one.
@@ -116,6 +123,45 @@ pub fn drop_parts_with<F: Folder, E: FnMut(u32)>(
         each(dropped.number);
     }
     Ok(gone)
+}
+
+// Drops the parts of a key, after its main item went, as `drop_parts_with` does; but where its index says that there is
+// none, no list is walked.
+pub(crate) fn drop_indexed_with<F: Folder, E: FnMut(u32)>(
+    f: &mut F,
+    files: &BlockFiles,
+    key: &[u8],
+    indexed: IndexedParts,
+    room: &mut [u8],
+    each: &mut E,
+) -> Result<Gone, Fault>
+    requires some { 1 ≤ length key.now }
+    requires short { length key.now ≤ longest_key }
+    requires signature { cast_unsigned w64 indexed.signature < signatures }
+    requires room { longest_name ≤ length room.old }
+    requires callable { E.IsAlwaysCallable each.old }
+    requires is_open { ForSome (F.told f.old).files (IsOpen files.now) }
+    ensures out { OnOk result (ForSome (F.told f.old).files (λ from. ForEachIndexed key.now indexed from (λ state layout keep unlinked number object. ForSome (F.told f.new).files (IsWholeOut state layout unlinked key.now)))) }
+    ensures gone { IfOk result (λ gone. ForSome (F.told f.old).files (λ from. ForEachIndexed key.now indexed from (λ state layout keep unlinked number object. AreGone layout (map (part key.now) (parts_among key.now (filter keep state.uses))) gone))) }
+    ensures session { OnOk result (ForSome (F.told f.old).files (λ from. ForEachIndexed key.now indexed from (λ state layout keep unlinked number object. ForSome (F.told f.new).files (SameSession from)))) }
+    ensures keeps { OnOk result (ForSome (F.told f.old).files (λ from. ForEachIndexed key.now indexed from (λ state layout keep unlinked number object. ForSome (F.told f.new).files (KeepsUnlinked unlinked from)))) }
+    ensures few { IfOk result (λ gone. gone.items ≤ 131072) }
+    ensures light { IfOk result (λ gone. gone.bytes ≤ 2 ^ 51) }
+    ensures each { OnOk result (ForSome (F.told f.old).files (λ from. ForEachIndexed key.now indexed from (λ state layout keep unlinked number object. FoldsTo (λ p x q. E.step p x tt q) each.old (parts_among key.now (filter keep state.uses)) each.new))) }
+    ensures front { ForSome (F.told f.old).files (λ from. ForEachIndexed key.now indexed from (λ state layout keep unlinked number object. IsCalledAtFront E (λ p x q. E.step p x tt q) (parts_among key.now (filter keep state.uses)) each.old each.new)) }
+    ensures calls { (numbers : List ℕ) × FoldsTo (λ p x q. E.step p x tt q) each.old numbers each.new }
+    ensures stops { ForSome (F.told f.old).files (λ from. ForEachIndexed key.now indexed from (λ state layout keep unlinked number object. Passes (F.told f.old) (F.told f.new) (Finds (rest (doomed number state (Some object)))))) }
+    ensures is_open { ForSome (F.told f.new).files (IsOpen files.now) }
+    ensures damaged { IfDamaged result (IsFailedCheck files.now (F.told f.new)) }
+    ensures untold { ForSome (F.told f.old).files (λ from. ForEachIndexed key.now indexed from (λ state layout keep unlinked number object. IfDamaged result (λ _. (F.told f.old).files ≡ None))) }
+    ensures silent { (F.told f.old).files ≡ None → (F.told f.new).files ≡ None }
+    ensures later { F.faults f.old ≤ F.faults f.new }
+    ensures device { IfDevice result (Rises (F.faults f.old) (F.faults f.new)) }
+{
+    if !indexed.any {
+        return Ok(Gone { items: 0, bytes: 0 });
+    }
+    drop_parts_with(f, files, key, indexed.signature, room, each)
 }
 
 // Drops the first part of a key behind a node, or from the front of the list on, if there is one.

@@ -1,7 +1,7 @@
 // An object with an index goes with its parts, or is doomed.
-ghost use Rattle.std.specs.Prelude.{◌≡◌, ◌≤◌, ◌<◌, ◌^◌, ℕ, All, IfOk, IfSome, IsTrue, List, None, OnOk, Some, filter, length, map};
+ghost use Rattle.std.specs.Prelude.{◌≡◌, ◌≤◌, ◌<◌, ◌==◌, ◌^◌, ℕ, All, IfOk, IfSome, IsTrue, List, None, OnOk, Some, false, filter, length, map, not};
 ghost use Rattle.std.specs.Int.{cast_unsigned, w64};
-ghost use Rattle.std.specs.List.{FoldsTo};
+ghost use Rattle.std.specs.List.{FoldsTo, list_any};
 ghost use Rattle.std.specs.Option.{ForSome};
 ghost use Rattle.blk_image.specs.Told.{Passes, Rises, Stays};
 ghost use Rattle.blk_model.specs.Effects.{doomed};
@@ -22,10 +22,10 @@ ghost use Rattle.blk_object.specs.FailedChecks.{IsFailedCheck};
 ghost use Rattle.blk_object.specs.Freeing.{IsPlaceAmong, words_at};
 ghost use Rattle.blk_object.specs.Owning.{LoadsWith};
 ghost use Rattle.blk_object.specs.RemovingObjects.{FindsEither, IsOwnedBy};
-ghost use Rattle.blk_sparse.specs.Dropping.{IsCalledAtFront, IsWholeOut};
+ghost use Rattle.blk_sparse.specs.Dropping.{HasNoBit, IsCalledAtFront, IsWholeOut};
 ghost use Rattle.blk_sparse.specs.Parents.{AreGoneBeside, ArePartsTold, ForEachHeldParent, ForEachParent, ForEachRest, IsGoneWhole, IsGroupTold, IsHeldWhole, LoadsAsParent};
 
-use crate::dropping::{Gone, drop_parts_with};
+use crate::dropping::{Gone, IndexedParts, drop_indexed_with};
 use blk_addr::Addr;
 use blk_chain::Found;
 use blk_disk::BlockFiles;
@@ -33,7 +33,7 @@ use blk_entry::record_damage;
 use blk_io::{Fault, Folder};
 use blk_object::{Owned, doom_record, free_owned, take_main};
 use blk_ranges::{ParentHead, ParentMap};
-use blk_record::EntryView;
+use blk_record::{EntryView, SparseHead};
 use blk_stream::read;
 
 // The stream in which an index is.
@@ -44,7 +44,8 @@ const PARENT: u32 = 1;
 
 /// Removes an object with an index, a parent, which no handle names, with its parts: its main item is taken out and
 /// counted no longer, then each part goes, as `drop_parts_with` says, and the main item's own places are freed last.
-/// How many items went is given, the main one too, and what they were charged.
+/// Where no bit of its index is set, no list is walked. How many items went is given, the main one too, and what they
+/// were charged.
 ///
 /// Its places and its charge were read before, as `read_owned` gives them. Its record stands in its chain behind the
 /// record before, or is the first; and it names this node. The index is read into `room`, and then the names of parts are
@@ -100,15 +101,15 @@ pub fn remove_parent_with<F: Folder, E: FnMut(u32)>(
     ensures later { F.faults f.old ≤ F.faults f.new }
     ensures device { IfDevice result (Rises (F.faults f.old) (F.faults f.new)) }
 {
-    let signature = read_signature(f, files, found.entry)?;
+    let indexed = read_index(f, files, found.entry)?;
     take_main(f, files, found, node, owned.charge)?;
-    drop_and_free(f, files, key, signature, owned, room, each)
+    drop_and_free(f, files, key, indexed, owned, room, each)
 }
 
 /// Dooms an object with an index, a parent, which a handle names: its main item is taken out and counted no longer, with
 /// its charge; then each part goes, as `drop_parts_with` says; and its record gets the state of a doomed object last.
-/// Nothing of the main item is freed: its places stay its until the last handle is closed. How many parts went is given,
-/// and what they were charged.
+/// Where no bit of its index is set, no list is walked. Nothing of the main item is freed: its places stay its until the
+/// last handle is closed. How many parts went is given, and what they were charged.
 ///
 /// Its record stands in its chain behind the record before, or is the first; and it names this node. The index is
 /// read into `room`, and then the names of parts are made there. This takes as many folder calls as `take_main` and
@@ -152,9 +153,9 @@ pub fn doom_parent<F: Folder>(
     ensures later { F.faults f.old ≤ F.faults f.new }
     ensures device { IfDevice result (Rises (F.faults f.old) (F.faults f.new)) }
 {
-    let signature = read_signature(f, files, found.entry)?;
+    let indexed = read_index(f, files, found.entry)?;
     take_main(f, files, found, node, charge)?;
-    let parts = drop_parts_with(f, files, key, signature, room, &mut |_| ())?;
+    let parts = drop_indexed_with(f, files, key, indexed, room, &mut |_| ())?;
     doom_record(f, files, found.entry)?;
     Ok(parts)
 }
@@ -178,12 +179,43 @@ pub fn read_signature<F: Folder>(f: &mut F, files: &BlockFiles, entry: Addr) -> 
     ensures later { F.faults f.old ≤ F.faults f.new }
     ensures device { IfDevice result (Rises (F.faults f.old) (F.faults f.new)) }
 {
+    let indexed = read_index(f, files, entry)?;
+    Ok(indexed.signature)
+}
+
+// Reads what the index of a parent says of its parts, by two folder calls.
+pub(crate) fn read_index<F: Folder>(
+    f: &mut F,
+    files: &BlockFiles,
+    entry: Addr,
+) -> Result<IndexedParts, Fault>
+    requires kind { kind_of entry ≡ blocks_256 }
+    requires stands { IsTrue (stands_among files.now entry) }
+    ensures signature { IfOk result (λ indexed. ForSome (F.told f.old).files (λ image. (loaded : Loaded) (index : ParentIndex) → LoadsWith entry loaded image → loaded.role ≡ IsParent index → index.signature ≡ cast_unsigned w64 indexed.signature)) }
+    ensures small { IfOk result (λ indexed. cast_unsigned w64 indexed.signature < signatures) }
+    ensures none { IfOk result (λ indexed. ForSome (F.told f.old).files (λ image. (loaded : Loaded) (index : ParentIndex) → LoadsWith entry loaded image → loaded.role ≡ IsParent index → indexed.any ≡ false → HasNoBit index)) }
+    ensures stays { Stays (F.told f.old) (F.told f.new) }
+    ensures damaged { IfDamaged result (IsFailedCheck files.now (F.told f.new)) }
+    ensures untold { ForSome (F.told f.old).files (Agrees files.now) → ForSome (F.told f.old).files (LoadsAsParent entry) → IfDamaged result (λ _. (F.told f.old).files ≡ None) }
+    ensures later { F.faults f.old ≤ F.faults f.new }
+    ensures device { IfDevice result (Rises (F.faults f.old) (F.faults f.new)) }
+{
     let mut bytes = [0u8; ParentMap::LEN];
     let len = read(f, files, entry, INDEX, 0, &mut bytes)?;
     match ParentHead::read(&bytes[..len]) {
-        Some(head) => Ok(head.signature),
+        Some(head) => Ok(IndexedParts {
+            signature: head.signature,
+            any: has_bits(&bytes[SparseHead::LEN..]),
+        }),
         None => Err(record_damage(entry, EntryView::FLAGS, PARENT)),
     }
+}
+
+// Whether a byte of a map isn't 0.
+fn has_bits(map: &[u8]) -> bool
+    ensures { result ≡ list_any (λ byte. not (byte == 0)) map.now }
+{
+    map.iter().any(|byte| *byte != 0)
 }
 
 // Drops the parts of an object whose main item is out, and then frees the main item's places. How many items went is
@@ -192,34 +224,34 @@ fn drop_and_free<F: Folder, E: FnMut(u32)>(
     f: &mut F,
     files: &BlockFiles,
     key: &[u8],
-    signature: i64,
+    indexed: IndexedParts,
     owned: &Owned,
     room: &mut [u8],
     each: &mut E,
 ) -> Result<Gone, Fault>
     requires some { 1 ≤ length key.now }
     requires short { length key.now ≤ longest_key }
-    requires signature { cast_unsigned w64 signature < signatures }
+    requires signature { cast_unsigned w64 indexed.signature < signatures }
     requires places { All (IsPlaceAmong files.now) owned.now.places }
     requires light { owned.now.charge < 2 ^ 34 }
     requires room { longest_name ≤ length room.old }
     requires callable { E.IsAlwaysCallable each.old }
     requires is_open { ForSome (F.told f.old).files (IsOpen files.now) }
-    ensures out { OnOk result (ForSome (F.told f.old).files (λ from. ForEachRest (words_at owned.now.places) key.now (cast_unsigned w64 signature) from (λ state layout keep unlinked number object. ForSome (F.told f.new).files (IsWholeOut state layout unlinked key.now)))) }
-    ensures gone { IfOk result (λ gone. ForSome (F.told f.old).files (λ from. ForEachRest (words_at owned.now.places) key.now (cast_unsigned w64 signature) from (λ state layout keep unlinked number object. AreGoneBeside layout (map (part key.now) (parts_among key.now (filter keep state.uses))) owned.now.charge gone))) }
-    ensures session { OnOk result (ForSome (F.told f.old).files (λ from. ForEachRest (words_at owned.now.places) key.now (cast_unsigned w64 signature) from (λ state layout keep unlinked number object. ForSome (F.told f.new).files (SameSession from)))) }
-    ensures each { OnOk result (ForSome (F.told f.old).files (λ from. ForEachRest (words_at owned.now.places) key.now (cast_unsigned w64 signature) from (λ state layout keep unlinked number object. FoldsTo (λ p x q. E.step p x tt q) each.old (parts_among key.now (filter keep state.uses)) each.new))) }
-    ensures front { ForSome (F.told f.old).files (λ from. ForEachRest (words_at owned.now.places) key.now (cast_unsigned w64 signature) from (λ state layout keep unlinked number object. IsCalledAtFront E (λ p x q. E.step p x tt q) (parts_among key.now (filter keep state.uses)) each.old each.new)) }
+    ensures out { OnOk result (ForSome (F.told f.old).files (λ from. ForEachRest (words_at owned.now.places) key.now indexed from (λ state layout keep unlinked number object. ForSome (F.told f.new).files (IsWholeOut state layout unlinked key.now)))) }
+    ensures gone { IfOk result (λ gone. ForSome (F.told f.old).files (λ from. ForEachRest (words_at owned.now.places) key.now indexed from (λ state layout keep unlinked number object. AreGoneBeside layout (map (part key.now) (parts_among key.now (filter keep state.uses))) owned.now.charge gone))) }
+    ensures session { OnOk result (ForSome (F.told f.old).files (λ from. ForEachRest (words_at owned.now.places) key.now indexed from (λ state layout keep unlinked number object. ForSome (F.told f.new).files (SameSession from)))) }
+    ensures each { OnOk result (ForSome (F.told f.old).files (λ from. ForEachRest (words_at owned.now.places) key.now indexed from (λ state layout keep unlinked number object. FoldsTo (λ p x q. E.step p x tt q) each.old (parts_among key.now (filter keep state.uses)) each.new))) }
+    ensures front { ForSome (F.told f.old).files (λ from. ForEachRest (words_at owned.now.places) key.now indexed from (λ state layout keep unlinked number object. IsCalledAtFront E (λ p x q. E.step p x tt q) (parts_among key.now (filter keep state.uses)) each.old each.new)) }
     ensures calls { (numbers : List ℕ) × FoldsTo (λ p x q. E.step p x tt q) each.old numbers each.new }
-    ensures stops { ForSome (F.told f.old).files (λ from. ForEachRest (words_at owned.now.places) key.now (cast_unsigned w64 signature) from (λ state layout keep unlinked number object. Passes (F.told f.old) (F.told f.new) (Finds (rest (doomed number state (Some object)))))) }
+    ensures stops { ForSome (F.told f.old).files (λ from. ForEachRest (words_at owned.now.places) key.now indexed from (λ state layout keep unlinked number object. Passes (F.told f.old) (F.told f.new) (Finds (rest (doomed number state (Some object)))))) }
     ensures is_open { ForSome (F.told f.new).files (IsOpen files.now) }
     ensures damaged { IfDamaged result (IsFailedCheck files.now (F.told f.new)) }
-    ensures untold { ForSome (F.told f.old).files (λ from. ForEachRest (words_at owned.now.places) key.now (cast_unsigned w64 signature) from (λ state layout keep unlinked number object. IfDamaged result (λ _. (F.told f.old).files ≡ None))) }
+    ensures untold { ForSome (F.told f.old).files (λ from. ForEachRest (words_at owned.now.places) key.now indexed from (λ state layout keep unlinked number object. IfDamaged result (λ _. (F.told f.old).files ≡ None))) }
     ensures silent { (F.told f.old).files ≡ None → (F.told f.new).files ≡ None }
     ensures later { F.faults f.old ≤ F.faults f.new }
     ensures device { IfDevice result (Rises (F.faults f.old) (F.faults f.new)) }
 {
-    let parts = drop_parts_with(f, files, key, signature, room, each)?;
+    let parts = drop_indexed_with(f, files, key, indexed, room, each)?;
     free_owned(f, files, owned)?;
     Ok(Gone {
         items: parts.items + 1,

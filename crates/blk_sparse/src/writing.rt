@@ -15,7 +15,7 @@ ghost use Rattle.blk_alloc.specs.Extending.{KeepsStanding};
 ghost use Rattle.blk_kept.specs.Changes.{Finds};
 ghost use Rattle.blk_object.specs.FailedChecks.{IsFailedCheck};
 ghost use Rattle.blk_sparse.specs.SparseObjects.{ForEachGrowing, KeepsParentThen, with_bytes, with_bytes_written, with_piece, with_piece_written};
-ghost use Rattle.blk_sparse.specs.Writing.{ForEachGrowingOfKey};
+ghost use Rattle.blk_sparse.specs.Writing.{AreInOrder, ForEachGrowingOfKey, IsPieceInOrder};
 
 use crate::changing::change_part;
 use crate::children::{Parent, read_key};
@@ -53,6 +53,9 @@ pub(crate) fn write_piece<F: Folder>(
 
     // At each word what was at rest is found: an object that isn't settled isn't.
     ensures stops { ForSome (F.told f.old).files (λ from. ForEachGrowingOfKey (number ∷ []) key.now parent.now.entry (cast_unsigned w64 parent.now.signature) from (λ state layout unlinked at object node. Passes (F.told f.old) (F.told f.new) (Finds (rest state)))) }
+
+    // Of a part that there is the data comes before its map, and one that is made is whole before its parent's bit is set.
+    ensures ordered { OnOk result (ForSome (F.told f.old).files (λ from. ForEachGrowingOfKey (number ∷ []) key.now parent.now.entry (cast_unsigned w64 parent.now.signature) from (λ state layout unlinked at object node. IsPieceInOrder files.new state layout unlinked at object parent.now.entry (cast_unsigned w64 parent.now.signature) number place piece.now (F.told f.old) (F.told f.new)))) }
 
     ensures room { length room.new ≡ length room.old }
     ensures keeps { KeepsStanding files.old files.new }
@@ -112,6 +115,7 @@ fn write_covered<F: Folder>(
     requires is_open { ForSome (F.told f.old).files (IsOpen files.old) }
     ensures written { OnOk result (ForSome (F.told f.old).files (λ from. ForEachGrowingOfKey (covered_parts offset (length bytes.now)) key.now parent.now.entry (cast_unsigned w64 parent.now.signature) from (λ state layout unlinked at object node. ForSome (F.told f.new).files (KeepsParentThen (with_bytes_written state at object offset bytes.now) layout unlinked at (with_bytes object offset bytes.now) node parent.now.entry (cast_unsigned w64 parent.now.signature) from)))) }
     ensures stops { ForSome (F.told f.old).files (λ from. ForEachGrowingOfKey (covered_parts offset (length bytes.now)) key.now parent.now.entry (cast_unsigned w64 parent.now.signature) from (λ state layout unlinked at object node. Passes (F.told f.old) (F.told f.new) (Finds (rest state)))) }
+    ensures ordered { OnOk result (ForSome (F.told f.old).files (λ from. ForEachGrowingOfKey (covered_parts offset (length bytes.now)) key.now parent.now.entry (cast_unsigned w64 parent.now.signature) from (λ state layout unlinked at object node. AreInOrder (covered_parts offset (length bytes.now)) state layout unlinked at object parent.now.entry (cast_unsigned w64 parent.now.signature) offset bytes.now (F.told f.old) (F.told f.new)))) }
     ensures keeps { KeepsStanding files.old files.new }
     ensures is_open { OnOk result (ForSome (F.told f.new).files (IsOpen files.new)) }
     ensures damaged { IfDamaged result (IsFailedCheck files.new (F.told f.new)) }
@@ -158,6 +162,9 @@ pub fn write<F: Folder>(
 
     // At each word what was at rest is found: an object that isn't settled isn't.
     ensures stops { ForSome (F.told f.old).files (λ from. ForEachGrowing (covered_parts offset (length bytes.now)) parent.now.node parent.now.entry (cast_unsigned w64 parent.now.signature) from (λ state layout unlinked number object. Passes (F.told f.old) (F.told f.new) (Finds (rest state)))) }
+
+    // The pieces come one after another: of a part that there is the data before its map, and one that is made is whole before its parent's bit is set.
+    ensures ordered { OnOk result (ForSome (F.told f.old).files (λ from. ForEachGrowing (covered_parts offset (length bytes.now)) parent.now.node parent.now.entry (cast_unsigned w64 parent.now.signature) from (λ state layout unlinked number object. AreInOrder (covered_parts offset (length bytes.now)) state layout unlinked number object parent.now.entry (cast_unsigned w64 parent.now.signature) offset bytes.now (F.told f.old) (F.told f.new)))) }
 
     // What stood still does.
     ensures keeps { KeepsStanding files.old files.new }

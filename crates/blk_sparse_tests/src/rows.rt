@@ -1,14 +1,15 @@
 // Whole sessions on sparse data, by the lines of a script and what they print.
 use blk_io::{ListClock, MemSink, MemSource};
 use blk_run::{Status, run};
+use blk_test_folders::inputs::{Pieces, text_of};
 use blk_test_folders::stopping::empty;
 use std::alloc::Global;
 use std::test::Fail;
 
-// A session: its input by pieces, behind each of which so many data bytes 0x7A stand, the most items, how it ends, and what it prints.
+// A session: its input, the most items, how it ends, and what it prints.
 #[derive(Clone, Copy)]
 struct Row<'a> {
-    input: &'a [(&'a [u8], usize)],
+    input: Pieces<'a>,
     items: &'a str,
     status: Status,
     printed: &'a [u8],
@@ -87,24 +88,6 @@ const THREE_ITEMS: Row<'static> = Row {
         main b 0 0 0\nend 3\nok\nok\nevicted b\nok\nmain c 0 0 0\npart v 0 1\nsparse v 0\nend 3\nevicted v\n\
         evicted v part 0\nok\ntotal 2 2\n",
 };
-
-// Adds so many data bytes to a line.
-fn add_data(text: &mut Vec<u8>, count: usize) -> Result<(), Fail> {
-    for _ in 0..count {
-        text.extend_from_slice(b"7a")?;
-    }
-    Ok(())
-}
-
-// The text of an input.
-fn text_of(alloc: Global, pieces: &[(&[u8], usize)]) -> Result<Vec<u8>, Fail> {
-    let mut text = Vec::new(alloc);
-    for (lines, count) in pieces {
-        text.extend_from_slice(lines)?;
-        add_data(&mut text, *count)?;
-    }
-    Ok(text)
-}
 
 // Runs a session on an empty folder, with the clock at 50 for the opening and at 100 for each command.
 fn play(alloc: Global, row: &Row<'_>, out: &mut MemSink) -> Result<Status, Fail> {

@@ -1,17 +1,15 @@
-use Rattle.std.proofs.Common.{◌≡◌, ℕ, None, sym, subst, ap, ◌∙◌}
+use Rattle.std.proofs.Common.{◌≡◌, None, sym, subst, ap, ◌∙◌}
 use Rattle.std.specs.Option.{ForSome}
 use Rattle.std.proofs.lemmas.Result.{on_ok_weaker}
-use Rattle.blk_image.specs.Image.{Image}
-use Rattle.blk_image.specs.Told.{Passes, Told}
+use Rattle.blk_image.specs.Told.{Told}
 use Rattle.blk_image.proofs.Runs.{passes_none, passes_stayed, some_inj}
 use Rattle.blk_io.proofs.Carried.{carried, if_damaged_weaker}
 use Rattle.blk_model.specs.Holding.{rest}
 use Rattle.blk_disk.specs.Open.{IsOpen}
 use Rattle.blk_kept.specs.Changes.{Finds}
-use Rattle.blk_sparse.specs.Changing.{IsToBeChanged, LoadsAsPart}
-use Rattle.blk_sparse.proofs.ChangedUsed.{change-ends, change-stops, change-untold, nothing-found, to-change}
+use Rattle.blk_sparse.specs.Changing.{IsDataBeforeMap, LoadsAsPart}
+use Rattle.blk_sparse.proofs.ChangedUsed.{change-ends, change-ordered, change-stops, change-untold, nothing-found, to-change}
 use Rattle.blk_sparse.proofs.MapsRead.{loads-as}
-use Rattle.blk_sparse.proofs.changing.change_part.Given.{Over}
 use Rattle.blk_sparse.proofs.changing.change_part.Goals as goal
 
 pub returns-in_err-map-clause-stops : goal.returns-in_err-map-clause-stops
@@ -52,6 +50,18 @@ returns-clause-written g c = on_ok_weaker c.use_entry.result
     let t = (to-change c.args.part c.args.place c.args.piece.now c.print_noted.new.out state layout unlinked number object node entry signature n from can at c.in_ok-map.map (c.in_ok-map.ensures.map from there) c.print_noted.ensures.noted) in
     change-ends c.args.part c.args.place c.args.piece.now c.print_noted.new.out state layout unlinked number object node entry signature n from can at (g.F.Folder.told c.read_map.new.f) (g.F.Folder.told c.write_noted.new.f) (g.F.Folder.told c.use_entry.new.f) mid
     (c.in_ok-write_noted.ensures.stops from mid state layout unlinked number object node entry signature n t) (c.in_ok-write_noted.ensures.written from mid state layout unlinked number object node entry signature n t) ends)
+    c.use_entry.ensures.used
+
+pub returns-clause-ordered : goal.returns-clause-ordered
+returns-clause-ordered g c = on_ok_weaker c.use_entry.result
+    (λ ends from there state layout unlinked number object node entry signature n can at.
+    let stays = c.in_ok-map.ensures.stays in
+    let mid = ap (λ (t : Told). t.files) stays ∙ there in
+    let t = (to-change c.args.part c.args.place c.args.piece.now c.print_noted.new.out state layout unlinked number object node entry signature n from can at c.in_ok-map.map (c.in_ok-map.ensures.map from there) c.print_noted.ensures.noted) in
+    subst (λ (a : Told). IsDataBeforeMap state unlinked number object n c.args.place c.args.piece.now a (g.F.Folder.told c.use_entry.new.f)) stays
+    (change-ordered c.args.part c.args.place c.args.piece.now c.print_noted.new.out state layout unlinked number object node entry signature n from can at (g.F.Folder.told c.read_map.new.f) (g.F.Folder.told c.write_noted.new.f) (g.F.Folder.told c.use_entry.new.f) mid
+    (c.in_ok-write_noted.ensures.stops from mid state layout unlinked number object node entry signature n t) (c.in_ok-write_noted.ensures.written from mid state layout unlinked number object node entry signature n t)
+    (c.in_ok-write_noted.ensures.ordered from mid state layout unlinked number object node entry signature n t) c.use_entry.ensures.stops))
     c.use_entry.ensures.used
 
 pub returns-clause-untold : goal.returns-clause-untold

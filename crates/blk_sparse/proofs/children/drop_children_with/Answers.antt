@@ -16,7 +16,8 @@ use Rattle.blk_model.specs.Room.{parts_among}
 use Rattle.blk_kept.specs.Changes.{Finds}
 use Rattle.blk_sparse.specs.Children.{HasParentKey}
 use Rattle.blk_sparse.specs.Dropping.{IsCalledAtFront, IsWholeOut}
-use Rattle.blk_sparse.proofs.ChildrenOut.{has-key, left-so, signed-so}
+use Rattle.blk_sparse.specs.Parents.{LoadsAsParent}
+use Rattle.blk_sparse.proofs.ChildrenOut.{has-key, indexed-so, left-so, loads-parent}
 use Rattle.blk_sparse.proofs.ParentsOut.{not-yet}
 use Rattle.blk_sparse.proofs.PartsOut.{left-finds, stays-passes, stays-there}
 use Rattle.blk_sparse.proofs.children.drop_children_with.Goals as goal
@@ -27,7 +28,7 @@ returns-in_err-len-clause-front g c from there state layout keep chains unlinked
 
 pub returns-in_err-len-clause-stops : goal.returns-in_err-len-clause-stops
 returns-in_err-len-clause-stops g c from there state layout keep chains unlinked number object p =
-    stays-passes (g.F.Folder.told c.args.f.now) (g.F.Folder.told c.read_key.new.f) from (Finds (rest (doomed number state (Some object)))) there c.in_err-len.ensures.stays (left-finds state layout keep chains unlinked object.key number object from p.left)
+    stays-passes (g.F.Folder.told c.args.f.now) (g.F.Folder.told c.read_parent.new.f) from (Finds (rest (doomed number state (Some object)))) there c.in_err-len.ensures.stays (left-finds state layout keep chains unlinked object.key number object from p.left)
 
 pub returns-in_err-len-clause-is_open : goal.returns-in_err-len-clause-is_open
 returns-in_err-len-clause-is_open g c image is =
@@ -35,91 +36,91 @@ returns-in_err-len-clause-is_open g c image is =
 
 pub returns-in_err-len-clause-untold : goal.returns-in_err-len-clause-untold
 returns-in_err-len-clause-untold g c from there state layout keep chains unlinked number object p =
-    carried c.read_key.result c.from_residual.result c.in_err-len.field-0.0 (λ _. (g.F.Folder.told c.args.f.now).files ≡ None) c.in_err-len.was c.from_residual.ensures.1
-    (c.read_key.ensures.untold (λ image is. (c.requires.is_open image is).agrees) (λ image is. (object.key, subst (HasParentKey c.args.parent.now.entry object.key) (some_inj (sym there ∙ is)) (has-key state layout keep chains unlinked number object c.args.parent.now.node c.args.parent.now.entry (cast_unsigned w64 c.args.parent.now.signature) from p))))
+    carried c.read_parent.result c.from_residual.result c.in_err-len.field-0.0 (λ _. (g.F.Folder.told c.args.f.now).files ≡ None) c.in_err-len.was c.from_residual.ensures.1
+    (c.read_parent.ensures.untold (λ image is. (c.requires.is_open image is).agrees) (λ image is. (object.key, subst (HasParentKey c.args.parent.now.entry object.key) (some_inj (sym there ∙ is)) (has-key state layout keep chains unlinked number object c.args.parent.now.node c.args.parent.now.entry (cast_unsigned w64 c.args.parent.now.signature) from p))) (λ image is. subst (LoadsAsParent c.args.parent.now.entry) (some_inj (sym there ∙ is)) (loads-parent state layout keep chains unlinked number object c.args.parent.now.node c.args.parent.now.entry (cast_unsigned w64 c.args.parent.now.signature) from p)))
 
-pub drop_parts_with-requires-clause-is_open : goal.drop_parts_with-requires-clause-is_open
-drop_parts_with-requires-clause-is_open g c image is =
+pub drop_indexed_with-requires-clause-is_open : goal.drop_indexed_with-requires-clause-is_open
+drop_indexed_with-requires-clause-is_open g c image is =
     c.requires.is_open image (ap (λ (t : Told). t.files) (sym c.in_ok-len.ensures.stays) ∙ is)
 
 pub returns-in_err-gone-clause-front : goal.returns-in_err-gone-clause-front
 returns-in_err-gone-clause-front g c from there state layout keep chains unlinked number object p =
-    let at = stays-there (g.F.Folder.told c.args.f.now) (g.F.Folder.told c.read_key.new.f) from there c.in_ok-len.ensures.stays in
-    let same : (take c.in_ok-len.len c.split_at_mut-key.result.0.now) ≡ object.key = ap (take c.in_ok-len.len) c.split_at_mut-key.ensures.front ∙ take-take c.in_ok-len.len 32768 c.read_key.new.name c.in_ok-len.ensures.short ∙ c.in_ok-len.ensures.key from there object.key (has-key state layout keep chains unlinked number object c.args.parent.now.node c.args.parent.now.entry (cast_unsigned w64 c.args.parent.now.signature) from p) in
+    let at = stays-there (g.F.Folder.told c.args.f.now) (g.F.Folder.told c.read_parent.new.f) from there c.in_ok-len.ensures.stays in
+    let same : (take c.in_ok-len.len c.split_at_mut-key.result.0.now) ≡ object.key = ap (take c.in_ok-len.len) c.split_at_mut-key.ensures.front ∙ take-take c.in_ok-len.len 32768 c.read_parent.new.name c.in_ok-len.ensures.short ∙ c.in_ok-len.ensures.key from there object.key (has-key state layout keep chains unlinked number object c.args.parent.now.node c.args.parent.now.entry (cast_unsigned w64 c.args.parent.now.signature) from p) in
     let left = left-so state layout keep chains unlinked number object c.args.parent.now.node c.args.parent.now.entry (cast_unsigned w64 c.args.parent.now.signature) from p (take c.in_ok-len.len c.split_at_mut-key.result.0.now) same in
-    let sig = signed-so state layout keep chains unlinked number object c.args.parent.now.node c.args.parent.now.entry (cast_unsigned w64 c.args.parent.now.signature) from p (take c.in_ok-len.len c.split_at_mut-key.result.0.now) _ same (of_z-to_z w64 (cast_unsigned w64 c.args.parent.now.signature) (let small = c.requires.signature in omega (arith, small))) in
-    subst (λ (k : List ℕ). IsCalledAtFront _ (λ p x q. goal.E-step g p x tt q) (parts_among k (filter keep state.uses)) c.args.each.now c.drop_parts_with.new.each) same (c.in_err-gone.ensures.front from at state layout keep chains unlinked number object left sig)
+    let has = indexed-so state layout keep chains unlinked number object c.args.parent.now.node c.args.parent.now.entry (cast_unsigned w64 c.args.parent.now.signature) from p (take c.in_ok-len.len c.split_at_mut-key.result.0.now) (record { signature = _; any = c.in_ok-len.any }) same (of_z-to_z w64 (cast_unsigned w64 c.args.parent.now.signature) (let small = c.requires.signature in omega (arith, small))) (c.in_ok-len.ensures.none from there p.parent.was p.parent.index p.loads p.parent.role) in
+    subst (λ (k : List ℕ). IsCalledAtFront _ (λ p x q. goal.E-step g p x tt q) (parts_among k (filter keep state.uses)) c.args.each.now c.drop_indexed_with.new.each) same (c.in_err-gone.ensures.front from at state layout keep chains unlinked number object left has)
 
 pub returns-in_err-gone-clause-stops : goal.returns-in_err-gone-clause-stops
 returns-in_err-gone-clause-stops g c from there state layout keep chains unlinked number object p =
-    let at = stays-there (g.F.Folder.told c.args.f.now) (g.F.Folder.told c.read_key.new.f) from there c.in_ok-len.ensures.stays in
-    let same : (take c.in_ok-len.len c.split_at_mut-key.result.0.now) ≡ object.key = ap (take c.in_ok-len.len) c.split_at_mut-key.ensures.front ∙ take-take c.in_ok-len.len 32768 c.read_key.new.name c.in_ok-len.ensures.short ∙ c.in_ok-len.ensures.key from there object.key (has-key state layout keep chains unlinked number object c.args.parent.now.node c.args.parent.now.entry (cast_unsigned w64 c.args.parent.now.signature) from p) in
+    let at = stays-there (g.F.Folder.told c.args.f.now) (g.F.Folder.told c.read_parent.new.f) from there c.in_ok-len.ensures.stays in
+    let same : (take c.in_ok-len.len c.split_at_mut-key.result.0.now) ≡ object.key = ap (take c.in_ok-len.len) c.split_at_mut-key.ensures.front ∙ take-take c.in_ok-len.len 32768 c.read_parent.new.name c.in_ok-len.ensures.short ∙ c.in_ok-len.ensures.key from there object.key (has-key state layout keep chains unlinked number object c.args.parent.now.node c.args.parent.now.entry (cast_unsigned w64 c.args.parent.now.signature) from p) in
     let left = left-so state layout keep chains unlinked number object c.args.parent.now.node c.args.parent.now.entry (cast_unsigned w64 c.args.parent.now.signature) from p (take c.in_ok-len.len c.split_at_mut-key.result.0.now) same in
-    let sig = signed-so state layout keep chains unlinked number object c.args.parent.now.node c.args.parent.now.entry (cast_unsigned w64 c.args.parent.now.signature) from p (take c.in_ok-len.len c.split_at_mut-key.result.0.now) _ same (of_z-to_z w64 (cast_unsigned w64 c.args.parent.now.signature) (let small = c.requires.signature in omega (arith, small))) in
-    passes_stayed c.in_ok-len.ensures.stays (c.in_err-gone.ensures.stops from at state layout keep chains unlinked number object left sig)
+    let has = indexed-so state layout keep chains unlinked number object c.args.parent.now.node c.args.parent.now.entry (cast_unsigned w64 c.args.parent.now.signature) from p (take c.in_ok-len.len c.split_at_mut-key.result.0.now) (record { signature = _; any = c.in_ok-len.any }) same (of_z-to_z w64 (cast_unsigned w64 c.args.parent.now.signature) (let small = c.requires.signature in omega (arith, small))) (c.in_ok-len.ensures.none from there p.parent.was p.parent.index p.loads p.parent.role) in
+    passes_stayed c.in_ok-len.ensures.stays (c.in_err-gone.ensures.stops from at state layout keep chains unlinked number object left has)
 
 pub returns-in_err-gone-clause-untold : goal.returns-in_err-gone-clause-untold
 returns-in_err-gone-clause-untold g c from there state layout keep chains unlinked number object p =
-    let at = stays-there (g.F.Folder.told c.args.f.now) (g.F.Folder.told c.read_key.new.f) from there c.in_ok-len.ensures.stays in
-    let same : (take c.in_ok-len.len c.split_at_mut-key.result.0.now) ≡ object.key = ap (take c.in_ok-len.len) c.split_at_mut-key.ensures.front ∙ take-take c.in_ok-len.len 32768 c.read_key.new.name c.in_ok-len.ensures.short ∙ c.in_ok-len.ensures.key from there object.key (has-key state layout keep chains unlinked number object c.args.parent.now.node c.args.parent.now.entry (cast_unsigned w64 c.args.parent.now.signature) from p) in
+    let at = stays-there (g.F.Folder.told c.args.f.now) (g.F.Folder.told c.read_parent.new.f) from there c.in_ok-len.ensures.stays in
+    let same : (take c.in_ok-len.len c.split_at_mut-key.result.0.now) ≡ object.key = ap (take c.in_ok-len.len) c.split_at_mut-key.ensures.front ∙ take-take c.in_ok-len.len 32768 c.read_parent.new.name c.in_ok-len.ensures.short ∙ c.in_ok-len.ensures.key from there object.key (has-key state layout keep chains unlinked number object c.args.parent.now.node c.args.parent.now.entry (cast_unsigned w64 c.args.parent.now.signature) from p) in
     let left = left-so state layout keep chains unlinked number object c.args.parent.now.node c.args.parent.now.entry (cast_unsigned w64 c.args.parent.now.signature) from p (take c.in_ok-len.len c.split_at_mut-key.result.0.now) same in
-    let sig = signed-so state layout keep chains unlinked number object c.args.parent.now.node c.args.parent.now.entry (cast_unsigned w64 c.args.parent.now.signature) from p (take c.in_ok-len.len c.split_at_mut-key.result.0.now) _ same (of_z-to_z w64 (cast_unsigned w64 c.args.parent.now.signature) (let small = c.requires.signature in omega (arith, small))) in
+    let has = indexed-so state layout keep chains unlinked number object c.args.parent.now.node c.args.parent.now.entry (cast_unsigned w64 c.args.parent.now.signature) from p (take c.in_ok-len.len c.split_at_mut-key.result.0.now) (record { signature = _; any = c.in_ok-len.any }) same (of_z-to_z w64 (cast_unsigned w64 c.args.parent.now.signature) (let small = c.requires.signature in omega (arith, small))) (c.in_ok-len.ensures.none from there p.parent.was p.parent.index p.loads p.parent.role) in
     subst (λ (t : Told). IfDamaged c.from_residual-in_err-gone.result (λ _. t.files ≡ None)) c.in_ok-len.ensures.stays
-    (carried c.drop_parts_with.result c.from_residual-in_err-gone.result c.in_err-gone.field-0.0 (λ _. (g.F.Folder.told c.read_key.new.f).files ≡ None) c.in_err-gone.was c.from_residual-in_err-gone.ensures.1
-    (c.drop_parts_with.ensures.untold from at state layout keep chains unlinked number object left sig))
+    (carried c.drop_indexed_with.result c.from_residual-in_err-gone.result c.in_err-gone.field-0.0 (λ _. (g.F.Folder.told c.read_parent.new.f).files ≡ None) c.in_err-gone.was c.from_residual-in_err-gone.ensures.1
+    (c.drop_indexed_with.ensures.untold from at state layout keep chains unlinked number object left has))
 
 pub returns-clause-out : goal.returns-clause-out
 returns-clause-out g c from there state layout keep chains unlinked number object p =
-    let at = stays-there (g.F.Folder.told c.args.f.now) (g.F.Folder.told c.read_key.new.f) from there c.in_ok-len.ensures.stays in
-    let same : (take c.in_ok-len.len c.split_at_mut-key.result.0.now) ≡ object.key = ap (take c.in_ok-len.len) c.split_at_mut-key.ensures.front ∙ take-take c.in_ok-len.len 32768 c.read_key.new.name c.in_ok-len.ensures.short ∙ c.in_ok-len.ensures.key from there object.key (has-key state layout keep chains unlinked number object c.args.parent.now.node c.args.parent.now.entry (cast_unsigned w64 c.args.parent.now.signature) from p) in
+    let at = stays-there (g.F.Folder.told c.args.f.now) (g.F.Folder.told c.read_parent.new.f) from there c.in_ok-len.ensures.stays in
+    let same : (take c.in_ok-len.len c.split_at_mut-key.result.0.now) ≡ object.key = ap (take c.in_ok-len.len) c.split_at_mut-key.ensures.front ∙ take-take c.in_ok-len.len 32768 c.read_parent.new.name c.in_ok-len.ensures.short ∙ c.in_ok-len.ensures.key from there object.key (has-key state layout keep chains unlinked number object c.args.parent.now.node c.args.parent.now.entry (cast_unsigned w64 c.args.parent.now.signature) from p) in
     let left = left-so state layout keep chains unlinked number object c.args.parent.now.node c.args.parent.now.entry (cast_unsigned w64 c.args.parent.now.signature) from p (take c.in_ok-len.len c.split_at_mut-key.result.0.now) same in
-    let sig = signed-so state layout keep chains unlinked number object c.args.parent.now.node c.args.parent.now.entry (cast_unsigned w64 c.args.parent.now.signature) from p (take c.in_ok-len.len c.split_at_mut-key.result.0.now) _ same (of_z-to_z w64 (cast_unsigned w64 c.args.parent.now.signature) (let small = c.requires.signature in omega (arith, small))) in
-    subst (λ (k : List ℕ). ForSome (g.F.Folder.told c.drop_parts_with.new.f).files (IsWholeOut state layout unlinked k)) same (c.in_ok-gone.ensures.out from at state layout keep chains unlinked number object left sig)
+    let has = indexed-so state layout keep chains unlinked number object c.args.parent.now.node c.args.parent.now.entry (cast_unsigned w64 c.args.parent.now.signature) from p (take c.in_ok-len.len c.split_at_mut-key.result.0.now) (record { signature = _; any = c.in_ok-len.any }) same (of_z-to_z w64 (cast_unsigned w64 c.args.parent.now.signature) (let small = c.requires.signature in omega (arith, small))) (c.in_ok-len.ensures.none from there p.parent.was p.parent.index p.loads p.parent.role) in
+    subst (λ (k : List ℕ). ForSome (g.F.Folder.told c.drop_indexed_with.new.f).files (IsWholeOut state layout unlinked k)) same (c.in_ok-gone.ensures.out from at state layout keep chains unlinked number object left has)
 
 pub returns-clause-count : goal.returns-clause-count
 returns-clause-count g c from there state layout keep chains unlinked number object p =
-    let at = stays-there (g.F.Folder.told c.args.f.now) (g.F.Folder.told c.read_key.new.f) from there c.in_ok-len.ensures.stays in
-    let same : (take c.in_ok-len.len c.split_at_mut-key.result.0.now) ≡ object.key = ap (take c.in_ok-len.len) c.split_at_mut-key.ensures.front ∙ take-take c.in_ok-len.len 32768 c.read_key.new.name c.in_ok-len.ensures.short ∙ c.in_ok-len.ensures.key from there object.key (has-key state layout keep chains unlinked number object c.args.parent.now.node c.args.parent.now.entry (cast_unsigned w64 c.args.parent.now.signature) from p) in
+    let at = stays-there (g.F.Folder.told c.args.f.now) (g.F.Folder.told c.read_parent.new.f) from there c.in_ok-len.ensures.stays in
+    let same : (take c.in_ok-len.len c.split_at_mut-key.result.0.now) ≡ object.key = ap (take c.in_ok-len.len) c.split_at_mut-key.ensures.front ∙ take-take c.in_ok-len.len 32768 c.read_parent.new.name c.in_ok-len.ensures.short ∙ c.in_ok-len.ensures.key from there object.key (has-key state layout keep chains unlinked number object c.args.parent.now.node c.args.parent.now.entry (cast_unsigned w64 c.args.parent.now.signature) from p) in
     let left = left-so state layout keep chains unlinked number object c.args.parent.now.node c.args.parent.now.entry (cast_unsigned w64 c.args.parent.now.signature) from p (take c.in_ok-len.len c.split_at_mut-key.result.0.now) same in
-    let sig = signed-so state layout keep chains unlinked number object c.args.parent.now.node c.args.parent.now.entry (cast_unsigned w64 c.args.parent.now.signature) from p (take c.in_ok-len.len c.split_at_mut-key.result.0.now) _ same (of_z-to_z w64 (cast_unsigned w64 c.args.parent.now.signature) (let small = c.requires.signature in omega (arith, small))) in
-    (c.in_ok-gone.ensures.gone from at state layout keep chains unlinked number object left sig).many ∙ length-map (parts_among (take c.in_ok-len.len c.split_at_mut-key.result.0.now) (filter keep state.uses)) (part (take c.in_ok-len.len c.split_at_mut-key.result.0.now)) ∙ ap (λ (k : List ℕ). length (parts_among k (filter keep state.uses))) same
+    let has = indexed-so state layout keep chains unlinked number object c.args.parent.now.node c.args.parent.now.entry (cast_unsigned w64 c.args.parent.now.signature) from p (take c.in_ok-len.len c.split_at_mut-key.result.0.now) (record { signature = _; any = c.in_ok-len.any }) same (of_z-to_z w64 (cast_unsigned w64 c.args.parent.now.signature) (let small = c.requires.signature in omega (arith, small))) (c.in_ok-len.ensures.none from there p.parent.was p.parent.index p.loads p.parent.role) in
+    (c.in_ok-gone.ensures.gone from at state layout keep chains unlinked number object left has).many ∙ length-map (parts_among (take c.in_ok-len.len c.split_at_mut-key.result.0.now) (filter keep state.uses)) (part (take c.in_ok-len.len c.split_at_mut-key.result.0.now)) ∙ ap (λ (k : List ℕ). length (parts_among k (filter keep state.uses))) same
 
 pub returns-clause-session : goal.returns-clause-session
 returns-clause-session g c from there state layout keep chains unlinked number object p =
-    let at = stays-there (g.F.Folder.told c.args.f.now) (g.F.Folder.told c.read_key.new.f) from there c.in_ok-len.ensures.stays in
-    let same : (take c.in_ok-len.len c.split_at_mut-key.result.0.now) ≡ object.key = ap (take c.in_ok-len.len) c.split_at_mut-key.ensures.front ∙ take-take c.in_ok-len.len 32768 c.read_key.new.name c.in_ok-len.ensures.short ∙ c.in_ok-len.ensures.key from there object.key (has-key state layout keep chains unlinked number object c.args.parent.now.node c.args.parent.now.entry (cast_unsigned w64 c.args.parent.now.signature) from p) in
+    let at = stays-there (g.F.Folder.told c.args.f.now) (g.F.Folder.told c.read_parent.new.f) from there c.in_ok-len.ensures.stays in
+    let same : (take c.in_ok-len.len c.split_at_mut-key.result.0.now) ≡ object.key = ap (take c.in_ok-len.len) c.split_at_mut-key.ensures.front ∙ take-take c.in_ok-len.len 32768 c.read_parent.new.name c.in_ok-len.ensures.short ∙ c.in_ok-len.ensures.key from there object.key (has-key state layout keep chains unlinked number object c.args.parent.now.node c.args.parent.now.entry (cast_unsigned w64 c.args.parent.now.signature) from p) in
     let left = left-so state layout keep chains unlinked number object c.args.parent.now.node c.args.parent.now.entry (cast_unsigned w64 c.args.parent.now.signature) from p (take c.in_ok-len.len c.split_at_mut-key.result.0.now) same in
-    let sig = signed-so state layout keep chains unlinked number object c.args.parent.now.node c.args.parent.now.entry (cast_unsigned w64 c.args.parent.now.signature) from p (take c.in_ok-len.len c.split_at_mut-key.result.0.now) _ same (of_z-to_z w64 (cast_unsigned w64 c.args.parent.now.signature) (let small = c.requires.signature in omega (arith, small))) in
-    c.in_ok-gone.ensures.session from at state layout keep chains unlinked number object left sig
+    let has = indexed-so state layout keep chains unlinked number object c.args.parent.now.node c.args.parent.now.entry (cast_unsigned w64 c.args.parent.now.signature) from p (take c.in_ok-len.len c.split_at_mut-key.result.0.now) (record { signature = _; any = c.in_ok-len.any }) same (of_z-to_z w64 (cast_unsigned w64 c.args.parent.now.signature) (let small = c.requires.signature in omega (arith, small))) (c.in_ok-len.ensures.none from there p.parent.was p.parent.index p.loads p.parent.role) in
+    c.in_ok-gone.ensures.session from at state layout keep chains unlinked number object left has
 
 pub returns-clause-keeps : goal.returns-clause-keeps
 returns-clause-keeps g c from there state layout keep chains unlinked number object p =
-    let at = stays-there (g.F.Folder.told c.args.f.now) (g.F.Folder.told c.read_key.new.f) from there c.in_ok-len.ensures.stays in
-    let same : (take c.in_ok-len.len c.split_at_mut-key.result.0.now) ≡ object.key = ap (take c.in_ok-len.len) c.split_at_mut-key.ensures.front ∙ take-take c.in_ok-len.len 32768 c.read_key.new.name c.in_ok-len.ensures.short ∙ c.in_ok-len.ensures.key from there object.key (has-key state layout keep chains unlinked number object c.args.parent.now.node c.args.parent.now.entry (cast_unsigned w64 c.args.parent.now.signature) from p) in
+    let at = stays-there (g.F.Folder.told c.args.f.now) (g.F.Folder.told c.read_parent.new.f) from there c.in_ok-len.ensures.stays in
+    let same : (take c.in_ok-len.len c.split_at_mut-key.result.0.now) ≡ object.key = ap (take c.in_ok-len.len) c.split_at_mut-key.ensures.front ∙ take-take c.in_ok-len.len 32768 c.read_parent.new.name c.in_ok-len.ensures.short ∙ c.in_ok-len.ensures.key from there object.key (has-key state layout keep chains unlinked number object c.args.parent.now.node c.args.parent.now.entry (cast_unsigned w64 c.args.parent.now.signature) from p) in
     let left = left-so state layout keep chains unlinked number object c.args.parent.now.node c.args.parent.now.entry (cast_unsigned w64 c.args.parent.now.signature) from p (take c.in_ok-len.len c.split_at_mut-key.result.0.now) same in
-    let sig = signed-so state layout keep chains unlinked number object c.args.parent.now.node c.args.parent.now.entry (cast_unsigned w64 c.args.parent.now.signature) from p (take c.in_ok-len.len c.split_at_mut-key.result.0.now) _ same (of_z-to_z w64 (cast_unsigned w64 c.args.parent.now.signature) (let small = c.requires.signature in omega (arith, small))) in
-    c.in_ok-gone.ensures.keeps from at state layout keep chains unlinked number object left sig
+    let has = indexed-so state layout keep chains unlinked number object c.args.parent.now.node c.args.parent.now.entry (cast_unsigned w64 c.args.parent.now.signature) from p (take c.in_ok-len.len c.split_at_mut-key.result.0.now) (record { signature = _; any = c.in_ok-len.any }) same (of_z-to_z w64 (cast_unsigned w64 c.args.parent.now.signature) (let small = c.requires.signature in omega (arith, small))) (c.in_ok-len.ensures.none from there p.parent.was p.parent.index p.loads p.parent.role) in
+    c.in_ok-gone.ensures.keeps from at state layout keep chains unlinked number object left has
 
 pub returns-clause-each : goal.returns-clause-each
 returns-clause-each g c from there state layout keep chains unlinked number object p =
-    let at = stays-there (g.F.Folder.told c.args.f.now) (g.F.Folder.told c.read_key.new.f) from there c.in_ok-len.ensures.stays in
-    let same : (take c.in_ok-len.len c.split_at_mut-key.result.0.now) ≡ object.key = ap (take c.in_ok-len.len) c.split_at_mut-key.ensures.front ∙ take-take c.in_ok-len.len 32768 c.read_key.new.name c.in_ok-len.ensures.short ∙ c.in_ok-len.ensures.key from there object.key (has-key state layout keep chains unlinked number object c.args.parent.now.node c.args.parent.now.entry (cast_unsigned w64 c.args.parent.now.signature) from p) in
+    let at = stays-there (g.F.Folder.told c.args.f.now) (g.F.Folder.told c.read_parent.new.f) from there c.in_ok-len.ensures.stays in
+    let same : (take c.in_ok-len.len c.split_at_mut-key.result.0.now) ≡ object.key = ap (take c.in_ok-len.len) c.split_at_mut-key.ensures.front ∙ take-take c.in_ok-len.len 32768 c.read_parent.new.name c.in_ok-len.ensures.short ∙ c.in_ok-len.ensures.key from there object.key (has-key state layout keep chains unlinked number object c.args.parent.now.node c.args.parent.now.entry (cast_unsigned w64 c.args.parent.now.signature) from p) in
     let left = left-so state layout keep chains unlinked number object c.args.parent.now.node c.args.parent.now.entry (cast_unsigned w64 c.args.parent.now.signature) from p (take c.in_ok-len.len c.split_at_mut-key.result.0.now) same in
-    let sig = signed-so state layout keep chains unlinked number object c.args.parent.now.node c.args.parent.now.entry (cast_unsigned w64 c.args.parent.now.signature) from p (take c.in_ok-len.len c.split_at_mut-key.result.0.now) _ same (of_z-to_z w64 (cast_unsigned w64 c.args.parent.now.signature) (let small = c.requires.signature in omega (arith, small))) in
-    subst (λ (k : List ℕ). FoldsTo (λ p x q. goal.E-step g p x tt q) c.args.each.now (parts_among k (filter keep state.uses)) c.drop_parts_with.new.each) same (c.in_ok-gone.ensures.each from at state layout keep chains unlinked number object left sig)
+    let has = indexed-so state layout keep chains unlinked number object c.args.parent.now.node c.args.parent.now.entry (cast_unsigned w64 c.args.parent.now.signature) from p (take c.in_ok-len.len c.split_at_mut-key.result.0.now) (record { signature = _; any = c.in_ok-len.any }) same (of_z-to_z w64 (cast_unsigned w64 c.args.parent.now.signature) (let small = c.requires.signature in omega (arith, small))) (c.in_ok-len.ensures.none from there p.parent.was p.parent.index p.loads p.parent.role) in
+    subst (λ (k : List ℕ). FoldsTo (λ p x q. goal.E-step g p x tt q) c.args.each.now (parts_among k (filter keep state.uses)) c.drop_indexed_with.new.each) same (c.in_ok-gone.ensures.each from at state layout keep chains unlinked number object left has)
 
 pub returns-clause-front : goal.returns-clause-front
 returns-clause-front g c from there state layout keep chains unlinked number object p =
-    let at = stays-there (g.F.Folder.told c.args.f.now) (g.F.Folder.told c.read_key.new.f) from there c.in_ok-len.ensures.stays in
-    let same : (take c.in_ok-len.len c.split_at_mut-key.result.0.now) ≡ object.key = ap (take c.in_ok-len.len) c.split_at_mut-key.ensures.front ∙ take-take c.in_ok-len.len 32768 c.read_key.new.name c.in_ok-len.ensures.short ∙ c.in_ok-len.ensures.key from there object.key (has-key state layout keep chains unlinked number object c.args.parent.now.node c.args.parent.now.entry (cast_unsigned w64 c.args.parent.now.signature) from p) in
+    let at = stays-there (g.F.Folder.told c.args.f.now) (g.F.Folder.told c.read_parent.new.f) from there c.in_ok-len.ensures.stays in
+    let same : (take c.in_ok-len.len c.split_at_mut-key.result.0.now) ≡ object.key = ap (take c.in_ok-len.len) c.split_at_mut-key.ensures.front ∙ take-take c.in_ok-len.len 32768 c.read_parent.new.name c.in_ok-len.ensures.short ∙ c.in_ok-len.ensures.key from there object.key (has-key state layout keep chains unlinked number object c.args.parent.now.node c.args.parent.now.entry (cast_unsigned w64 c.args.parent.now.signature) from p) in
     let left = left-so state layout keep chains unlinked number object c.args.parent.now.node c.args.parent.now.entry (cast_unsigned w64 c.args.parent.now.signature) from p (take c.in_ok-len.len c.split_at_mut-key.result.0.now) same in
-    let sig = signed-so state layout keep chains unlinked number object c.args.parent.now.node c.args.parent.now.entry (cast_unsigned w64 c.args.parent.now.signature) from p (take c.in_ok-len.len c.split_at_mut-key.result.0.now) _ same (of_z-to_z w64 (cast_unsigned w64 c.args.parent.now.signature) (let small = c.requires.signature in omega (arith, small))) in
-    subst (λ (k : List ℕ). IsCalledAtFront _ (λ p x q. goal.E-step g p x tt q) (parts_among k (filter keep state.uses)) c.args.each.now c.drop_parts_with.new.each) same (c.in_ok-gone.ensures.front from at state layout keep chains unlinked number object left sig)
+    let has = indexed-so state layout keep chains unlinked number object c.args.parent.now.node c.args.parent.now.entry (cast_unsigned w64 c.args.parent.now.signature) from p (take c.in_ok-len.len c.split_at_mut-key.result.0.now) (record { signature = _; any = c.in_ok-len.any }) same (of_z-to_z w64 (cast_unsigned w64 c.args.parent.now.signature) (let small = c.requires.signature in omega (arith, small))) (c.in_ok-len.ensures.none from there p.parent.was p.parent.index p.loads p.parent.role) in
+    subst (λ (k : List ℕ). IsCalledAtFront _ (λ p x q. goal.E-step g p x tt q) (parts_among k (filter keep state.uses)) c.args.each.now c.drop_indexed_with.new.each) same (c.in_ok-gone.ensures.front from at state layout keep chains unlinked number object left has)
 
 pub returns-clause-stops : goal.returns-clause-stops
 returns-clause-stops g c from there state layout keep chains unlinked number object p =
-    let at = stays-there (g.F.Folder.told c.args.f.now) (g.F.Folder.told c.read_key.new.f) from there c.in_ok-len.ensures.stays in
-    let same : (take c.in_ok-len.len c.split_at_mut-key.result.0.now) ≡ object.key = ap (take c.in_ok-len.len) c.split_at_mut-key.ensures.front ∙ take-take c.in_ok-len.len 32768 c.read_key.new.name c.in_ok-len.ensures.short ∙ c.in_ok-len.ensures.key from there object.key (has-key state layout keep chains unlinked number object c.args.parent.now.node c.args.parent.now.entry (cast_unsigned w64 c.args.parent.now.signature) from p) in
+    let at = stays-there (g.F.Folder.told c.args.f.now) (g.F.Folder.told c.read_parent.new.f) from there c.in_ok-len.ensures.stays in
+    let same : (take c.in_ok-len.len c.split_at_mut-key.result.0.now) ≡ object.key = ap (take c.in_ok-len.len) c.split_at_mut-key.ensures.front ∙ take-take c.in_ok-len.len 32768 c.read_parent.new.name c.in_ok-len.ensures.short ∙ c.in_ok-len.ensures.key from there object.key (has-key state layout keep chains unlinked number object c.args.parent.now.node c.args.parent.now.entry (cast_unsigned w64 c.args.parent.now.signature) from p) in
     let left = left-so state layout keep chains unlinked number object c.args.parent.now.node c.args.parent.now.entry (cast_unsigned w64 c.args.parent.now.signature) from p (take c.in_ok-len.len c.split_at_mut-key.result.0.now) same in
-    let sig = signed-so state layout keep chains unlinked number object c.args.parent.now.node c.args.parent.now.entry (cast_unsigned w64 c.args.parent.now.signature) from p (take c.in_ok-len.len c.split_at_mut-key.result.0.now) _ same (of_z-to_z w64 (cast_unsigned w64 c.args.parent.now.signature) (let small = c.requires.signature in omega (arith, small))) in
-    passes_stayed c.in_ok-len.ensures.stays (c.in_ok-gone.ensures.stops from at state layout keep chains unlinked number object left sig)
+    let has = indexed-so state layout keep chains unlinked number object c.args.parent.now.node c.args.parent.now.entry (cast_unsigned w64 c.args.parent.now.signature) from p (take c.in_ok-len.len c.split_at_mut-key.result.0.now) (record { signature = _; any = c.in_ok-len.any }) same (of_z-to_z w64 (cast_unsigned w64 c.args.parent.now.signature) (let small = c.requires.signature in omega (arith, small))) (c.in_ok-len.ensures.none from there p.parent.was p.parent.index p.loads p.parent.role) in
+    passes_stayed c.in_ok-len.ensures.stays (c.in_ok-gone.ensures.stops from at state layout keep chains unlinked number object left has)

@@ -1,4 +1,4 @@
-use Rattle.std.proofs.Common.{◌≡◌, ◌∙◌, ap, sym, subst, refl, ℕ, None, length}
+use Rattle.std.proofs.Common.{◌≡◌, ◌∙◌, ap, sym, subst, refl, None, length}
 use Rattle.std.specs.Int.{cast_unsigned, w64}
 use Rattle.std.proofs.lemmas.Bool.{eqb-true}
 use Rattle.std.proofs.lemmas.Result.{on_ok_weaker}
@@ -7,11 +7,13 @@ use Rattle.blk_image.proofs.Runs.{passes_stayed, some_inj}
 use Rattle.blk_io.specs.Faults.{IfDamaged}
 use Rattle.blk_io.proofs.Carried.{carried}
 use Rattle.blk_model.specs.Holding.{rest}
+use Rattle.blk_model.specs.Sparse.{covered_parts}
 use Rattle.blk_kept.specs.Changes.{Finds}
 use Rattle.blk_sparse.specs.Children.{HasParentKey}
+use Rattle.blk_sparse.specs.Writing.{AreInOrder}
 use Rattle.blk_sparse.proofs.KeptParents.{key-same, parent-key}
 use Rattle.blk_sparse.proofs.PartsOut.{stays-passes, stays-there}
-use Rattle.blk_sparse.proofs.WritingCovered.{covered-finds, none-written}
+use Rattle.blk_sparse.proofs.WritingCovered.{covered-finds, none-written, order-none}
 use Rattle.blk_sparse.proofs.writing.write.Goals as goal
 
 pub returns-then-is_empty-clause-written : goal.returns-then-is_empty-clause-written
@@ -35,6 +37,10 @@ pub write_covered-requires-clause-is_open : goal.write_covered-requires-clause-i
 write_covered-requires-clause-is_open g c image is =
     c.requires.is_open image (ap (λ (t : Told). t.files) (sym c.in_ok-len.ensures.stays) ∙ is)
 
+pub returns-then-is_empty-clause-ordered : goal.returns-then-is_empty-clause-ordered
+returns-then-is_empty-clause-ordered g c from there state layout unlinked number object can =
+    order-none state layout unlinked number object c.args.parent.now.entry (cast_unsigned w64 c.args.parent.now.signature) c.args.offset c.args.bytes.now (g.F.Folder.told c.args.f.now) (eqb-true (length c.args.bytes.now) 0 (sym c.is_empty.ensures ∙ c.if-is_empty.true))
+
 pub returns-clause-written : goal.returns-clause-written
 returns-clause-written g c = on_ok_weaker c.write_covered.result
     (λ ends from there state layout unlinked number object can image is.
@@ -42,6 +48,15 @@ returns-clause-written g c = on_ok_weaker c.write_covered.result
     let same = key-same state layout unlinked number object c.args.parent.now.node c.args.parent.now.entry (cast_unsigned w64 c.args.parent.now.signature) from can.parent c.in_ok-len.len c.read_key.new.name c.split_at_mut-key.result.0.now c.split_at_mut-key.ensures.front c.in_ok-len.ensures.short (c.in_ok-len.ensures.key from there) in
     ends from at state layout unlinked number object c.args.parent.now.node can same image is)
     c.write_covered.ensures.written
+
+pub returns-clause-ordered : goal.returns-clause-ordered
+returns-clause-ordered g c = on_ok_weaker c.write_covered.result
+    (λ ends from there state layout unlinked number object can.
+    let at = stays-there (g.F.Folder.told c.args.f.now) (g.F.Folder.told c.read_key.new.f) from there c.in_ok-len.ensures.stays in
+    let same = key-same state layout unlinked number object c.args.parent.now.node c.args.parent.now.entry (cast_unsigned w64 c.args.parent.now.signature) from can.parent c.in_ok-len.len c.read_key.new.name c.split_at_mut-key.result.0.now c.split_at_mut-key.ensures.front c.in_ok-len.ensures.short (c.in_ok-len.ensures.key from there) in
+    subst (λ (t : Told). AreInOrder (covered_parts c.args.offset (length c.args.bytes.now)) state layout unlinked number object c.args.parent.now.entry (cast_unsigned w64 c.args.parent.now.signature) c.args.offset c.args.bytes.now t (g.F.Folder.told c.write_covered.new.f)) c.in_ok-len.ensures.stays
+    (ends from at state layout unlinked number object c.args.parent.now.node can same))
+    c.write_covered.ensures.ordered
 
 pub returns-clause-stops : goal.returns-clause-stops
 returns-clause-stops g c from there state layout unlinked number object can =

@@ -11,7 +11,7 @@ use Rattle.blk_kept.specs.Changes.{Finds}
 use Rattle.blk_sparse.specs.Parts.{IsPartFound}
 use Rattle.blk_sparse.specs.SparseObjects.{KeepsParentThen, with_piece, with_piece_written}
 use Rattle.blk_sparse.proofs.PartsOut.{stays-passes, stays-there}
-use Rattle.blk_sparse.proofs.WritingPieces.{can-make, can-there, grows-finds, name-some, signed}
+use Rattle.blk_sparse.proofs.WritingPieces.{can-make, can-there, grows-finds, in-order-made, in-order-there, name-some, signed}
 use Rattle.blk_sparse.proofs.writing.write_piece.Goals as goal
 
 pub returns-in_err-part-clause-stops : goal.returns-in_err-part-clause-stops
@@ -37,6 +37,17 @@ returns-in-Some-clause-written g c =
     let has = subst (IsPartFound layout object c.args.number) c.in-Some.is (c.in_ok-part.ensures.part from there state layout unlinked number object node c.args.parent.now.entry (signed state layout unlinked number object node c.args.parent.now.entry (cast_unsigned w64 c.args.parent.now.signature) c.args.number from can _ same) of_key) in
     ends from at state layout unlinked number object node c.args.parent.now.entry (cast_unsigned w64 c.args.parent.now.signature) c.args.number (can-there state layout unlinked number object node c.args.parent.now.entry (cast_unsigned w64 c.args.parent.now.signature) c.args.number from can) has)
     c.change_part.ensures.written
+
+pub returns-in-Some-clause-ordered : goal.returns-in-Some-clause-ordered
+returns-in-Some-clause-ordered g c =
+    on_ok_weaker c.change_part.result
+    (λ ends from there state layout unlinked number object node can of_key.
+    let same = of_z-to_z w64 (cast_unsigned w64 c.args.parent.now.signature) (let small = c.requires.signature in omega (arith, small)) in
+    let at = stays-there (g.F.Folder.told c.args.f.now) (g.F.Folder.told c.find_part.new.f) from there c.in_ok-part.ensures.stays in
+    let has = subst (IsPartFound layout object c.args.number) c.in-Some.is (c.in_ok-part.ensures.part from there state layout unlinked number object node c.args.parent.now.entry (signed state layout unlinked number object node c.args.parent.now.entry (cast_unsigned w64 c.args.parent.now.signature) c.args.number from can _ same) of_key) in
+    in-order-there c.change_part.new.files state layout unlinked number object c.args.parent.now.entry (cast_unsigned w64 c.args.parent.now.signature) c.args.number c.args.place c.args.piece.now (g.F.Folder.told c.args.f.now) (g.F.Folder.told c.change_part.new.f) has.value has.has (g.F.Folder.told c.find_part.new.f) c.in_ok-part.ensures.stays
+    (ends from at state layout unlinked number object node c.args.parent.now.entry (cast_unsigned w64 c.args.parent.now.signature) c.args.number (can-there state layout unlinked number object node c.args.parent.now.entry (cast_unsigned w64 c.args.parent.now.signature) c.args.number from can) has))
+    c.change_part.ensures.ordered
 
 pub returns-in-Some-clause-stops : goal.returns-in-Some-clause-stops
 returns-in-Some-clause-stops g c from there state layout unlinked number object node can of_key =
@@ -70,6 +81,17 @@ returns-clause-written g c =
     subst (λ (t : ℕ). KeepsParentThen (with_piece_written state number object c.args.number c.args.place c.args.piece.now) layout unlinked number (with_piece object c.args.number c.args.place c.args.piece.now) node c.args.parent.now.entry t from image) same
     (ends from at state layout unlinked number object node (can-make state layout unlinked number object node c.args.parent.now.entry (cast_unsigned w64 c.args.parent.now.signature) c.args.number from can c.args.key.now _ _ same of_key c.child_name-len.ensures.name none) image now))
     c.make_part.ensures.written
+
+pub returns-clause-ordered : goal.returns-clause-ordered
+returns-clause-ordered g c =
+    on_ok_weaker c.make_part.result
+    (λ ends from there state layout unlinked number object node can of_key.
+    let same = of_z-to_z w64 (cast_unsigned w64 c.args.parent.now.signature) (let small = c.requires.signature in omega (arith, small)) in
+    let at = stays-there (g.F.Folder.told c.args.f.now) (g.F.Folder.told c.find_part.new.f) from there c.in_ok-part.ensures.stays in
+    let none = subst (IsPartFound layout object c.args.number) c.in_default.is (c.in_ok-part.ensures.part from there state layout unlinked number object node c.args.parent.now.entry (signed state layout unlinked number object node c.args.parent.now.entry (cast_unsigned w64 c.args.parent.now.signature) c.args.number from can _ same) of_key) in
+    in-order-made c.make_part.new.files state layout unlinked number object c.args.parent.now.entry (cast_unsigned w64 c.args.parent.now.signature) c.args.number c.args.place c.args.piece.now (g.F.Folder.told c.args.f.now) (g.F.Folder.told c.make_part.new.f) c.args.key.now _ _ none of_key same c.child_name-len.ensures.name (g.F.Folder.told c.find_part.new.f) c.in_ok-part.ensures.stays
+    (ends from at state layout unlinked number object node (can-make state layout unlinked number object node c.args.parent.now.entry (cast_unsigned w64 c.args.parent.now.signature) c.args.number from can c.args.key.now _ _ same of_key c.child_name-len.ensures.name none)))
+    c.make_part.ensures.ordered
 
 pub returns-clause-stops : goal.returns-clause-stops
 returns-clause-stops g c from there state layout unlinked number object node can of_key =
