@@ -10,7 +10,7 @@ use Rattle.blk_run.specs.declared.ending.Status.TheVariants as status
 use Rattle.blk_run.specs.Counting.{Counts, IsDoneOrSink}
 use Rattle.blk_run.specs.Inputs.{IsTakenUpTo}
 use Rattle.blk_run.specs.Session.{DoesNothing, LeavesUnput, Outside}
-use Rattle.blk_run.specs.Work.{Performs, Work, input_lines, no_input, whole_input}
+use Rattle.blk_run.specs.Work.{Performs, Work, folder_text, input_lines, no_input, whole_input}
 use Rattle.blk_run.proofs.Counted.{told_totals}
 
 -- nothing was taken
@@ -38,6 +38,13 @@ performs_nothing (whole_input script) limits device source before now old new no
 }
 performs_nothing (no_input script) limits device source before now old new nothing = record {
   plays = λ from there usable readings clock. nothing;
+  complete = λ from there usable readings clock no_device no_source no_sink. nothing;
+  damage = λ from there damage is. nothing;
+  cause = tt;
+  takes = nothing.unread;
+}
+performs_nothing (folder_text text) limits device source before now old new nothing = record {
+  plays = λ from there usable readings clock. record { printed = nothing.unprinted; unwritten = nothing.unwritten; unread = nothing.unread };
   complete = λ from there usable readings clock no_device no_source no_sink. nothing;
   damage = λ from there damage is. nothing;
   cause = tt;

@@ -1,7 +1,8 @@
 -- Scripts that aren't read from the input, as the program has them.
-use Rattle.std.specs.Prelude.{ℕ, Bool, true, false, if◌then◌else◌, length, map, Result, Ok, Err}
+use Rattle.std.specs.Prelude.{ℕ, ◌*◌, Bool, true, false, if◌then◌else◌, length, map, Result, Ok, Err}
 use Rattle.blk_model.specs.Request.{request_of}
 use Rattle.blk_headline.specs.Script.{Script, put_script, until_refused}
+use Rattle.blk_gen.specs.Generator.{gen_script}
 use Rattle.blk_cache.specs.declared.fault.StepFault.{StepFault}
 use Rattle.blk_cache.specs.declared.fault.StepFault.TheVariants as fault
 use Rattle.blk_run.specs.declared.ending.Status.{Status}
@@ -13,11 +14,13 @@ use Rattle.blk_run.specs.declared.scripts.Fixed.TheVariants as fixed
 abbrev pub script_of : Fixed → Script
 script_of (fixed.Commands commands) = until_refused (map request_of commands.now)
 script_of (fixed.Put put) = put_script put.key.now put.stream put.bytes.now
+script_of (fixed.Generated seed turns) = gen_script seed turns
 
 -- how many commands it has at most
 abbrev pub commands_in : Fixed → ℕ
 commands_in (fixed.Commands commands) = length commands.now
 commands_in (fixed.Put put) = 4
+commands_in (fixed.Generated seed turns) = 5 * turns
 
 -- the status where a script came to an end so, and something was refused or not; the folder may fail in what is closed then
 abbrev pub script_status : Result (Unit {0}) StepFault → (refused : Bool) → Status

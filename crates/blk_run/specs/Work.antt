@@ -10,12 +10,15 @@ use Rattle.blk_io.specs.Streams.{Readings}
 use Rattle.blk_model.specs.State.{Bounds}
 use Rattle.blk_headline.specs.Opening.{IsUsable}
 use Rattle.blk_headline.specs.Script.{Script, count_script, doom_script, get_script, list_script, put_script, trim_script}
-use Rattle.blk_words.specs.Tasks.{Task, do_count, do_doom, do_get, do_list, do_put, do_session, do_trim}
+use Rattle.blk_gen.specs.Generator.{gen_script}
+use Rattle.blk_inspect.specs.Texts.{inspect_text, verify_text}
+use Rattle.blk_words.specs.Tasks.{Task, do_count, do_doom, do_generate, do_get, do_inspect, do_list, do_put, do_session, do_trim, do_verify}
 use Rattle.blk_words.specs.Words.{Invocation}
 use Rattle.blk_run.specs.declared.ending.Status.{Status}
 use Rattle.blk_run.specs.declared.ending.Status.TheVariants as status
 use Rattle.blk_run.specs.Inputs.{IsReadWhole, IsTakenUpTo}
 use Rattle.blk_run.specs.Session.{FixedScript, IsComplete, IsCompleteScript, IsDamagedBy, LeavesUnput, OnDamage, Outside, Put, Session, TakesUnput}
+use Rattle.blk_run.specs.Shown.{IsCompleteText, ShowsText}
 use Rattle.blk_run.specs.Statuses.{CauseOf}
 use Rattle.blk_run.specs.WholeInputs.{longest_input}
 
@@ -23,13 +26,14 @@ use Rattle.blk_run.specs.WholeInputs.{longest_input}
 abbrev pub budget : ℕ
 budget = 2 ^ 40
 
--- what is played for a task: the lines of the input; a script of the whole input, which is read before the opening; or a script that leaves the input unread
+-- what is done for a task: the lines of the input are played; a script of the whole input, which is read before the opening; or a script that leaves the input unread; or a text of what the folder holds is shown
 pub data Work : Type 0 where
   input_lines : Work
   whole_input : (List ℕ → Script) → Work
   no_input : Script → Work
+  folder_text : (Image → List ℕ) → Work
 
--- what each task plays
+-- what is done for each task
 abbrev pub work_of : Task → Work
 work_of do_session = input_lines
 work_of do_count = no_input count_script
@@ -38,18 +42,23 @@ work_of (do_get key stream) = no_input (get_script key stream)
 work_of (do_put key stream) = whole_input (put_script key stream)
 work_of (do_doom key) = no_input (doom_script key)
 work_of (do_trim bytes) = no_input (trim_script bytes)
+work_of (do_inspect part) = folder_text (inspect_text part)
+work_of do_verify = folder_text verify_text
+work_of (do_generate seed turns) = no_input (gen_script seed turns)
 
 -- the work by its status, where it began with an image that is unfinished or well formed
 abbrev pub Plays : Work → Status → Bounds → Image → Readings → (source sink : Type 0) → Outside → Outside → Type 0
 Plays input_lines result limits from readings source sink old new = ForSome old.left (λ input. Session result limits budget from readings input source sink old new)
 Plays (whole_input script) result limits from readings source sink old new = ForSome old.left (λ input. Put result script limits from readings input sink old new)
 Plays (no_input script) result limits from readings source sink old new = FixedScript result script limits from readings sink old new
+Plays (folder_text text) result limits from readings source sink old new = ShowsText result (text from) old new
 
 -- where nothing failed and the input is as long as it may be: the whole output was printed, or there was no memory
 abbrev pub Completes : Work → Status → Bounds → Image → Readings → Outside → Outside → Type 0
 Completes input_lines result limits from readings old new = ForSome old.left (λ input. length input ≤ budget → IsComplete result limits from readings input old new)
 Completes (whole_input script) result limits from readings old new = ForSome old.left (λ input. length input ≤ longest_input → IsCompleteScript result (script input) limits from readings (record old { left = new.left }) new)
 Completes (no_input script) result limits from readings old new = IsCompleteScript result script limits from readings old new
+Completes (folder_text text) result limits from readings old new = IsCompleteText result (text from) old new
 
 -- a script of the whole input on a folder of which a check fails: the input wasn't read whole, or there was no memory, and no more was done; or it was
 abbrev pub ReadsOnDamage : Status → Damage → (before now : ℕ) → Outside → Outside → Type 0
@@ -63,18 +72,21 @@ abbrev pub MeetsDamage : Work → Status → Damage → (before now : ℕ) → O
 MeetsDamage input_lines result damage before now old new = OnDamage result damage before now old new
 MeetsDamage (whole_input script) result damage before now old new = ReadsOnDamage result damage before now old new
 MeetsDamage (no_input script) result damage before now old new = OnDamage result damage before now old new
+MeetsDamage (folder_text text) result damage before now old new = OnDamage result damage before now old new
 
 -- the input is longer than it may be
 abbrev pub IsTooLong : Work → Option (List ℕ) → Type 0
 IsTooLong input_lines left = ForSome left (λ input. budget < length input)
 IsTooLong (whole_input script) left = ForSome left (λ input. longest_input < length input)
 IsTooLong (no_input script) left = ⊥
+IsTooLong (folder_text text) left = ⊥
 
 -- how much of the input is taken: no more than it may have and one byte
 abbrev pub Takes : Work → (old new : Option (List ℕ)) → Type 0
 Takes input_lines old new = ForSome old (IsTakenUpTo (budget + 1) new)
 Takes (whole_input script) old new = ForSome old (IsTakenUpTo (longest_input + 1) new)
 Takes (no_input script) old new = new ≡ old
+Takes (folder_text text) old new = new ≡ old
 
 -- the work was done; device and source say that the count of each rose, before and now are the sink's counts of faults
 pub record Performs (work : Work) (result : Status) (limits : Bounds) (device source : Type 0) (before now : ℕ) (old new : Outside) : Type 0 where
@@ -93,8 +105,19 @@ abbrev pub IsUnread : Work → Type 0
 IsUnread input_lines = ⊥
 IsUnread (whole_input script) = ⊥
 IsUnread (no_input script) = Unit {0}
+IsUnread (folder_text text) = Unit {0}
 
 -- what the words ask for does, if they ask for something
 abbrev pub LeavesInput : Option Invocation → Type 0
 LeavesInput None = Unit {0}
 LeavesInput (Some asked) = IsUnread (work_of asked.task)
+
+-- the work leaves the folder as it is
+abbrev pub IsUnwritten : Work → Type 0
+IsUnwritten (folder_text text) = Unit {0}
+IsUnwritten _ = ⊥
+
+-- what the words ask for only reads the folder
+abbrev pub LeavesFolder : Option Invocation → Type 0
+LeavesFolder None = ⊥
+LeavesFolder (Some asked) = IsUnwritten (work_of asked.task)

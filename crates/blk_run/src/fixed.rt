@@ -1,23 +1,24 @@
 // The fixed scripts: commands that are played up to the first that is refused.
-ghost use Rattle.std.specs.Prelude.{◌≡◌, ◌*◌, true, false, ◌≤◌, ◌+◌, ◌++◌, ℕ, length, map, None, OnOk};
+ghost use Rattle.std.specs.Prelude.{◌≡◌, ◌*◌, true, ◌≤◌, ◌+◌, ◌++◌, ℕ, length, map, OnOk};
 ghost use Rattle.std.specs.Option.{ForSome, option_map};
 ghost use Rattle.blk_image.specs.Told.{Rises};
 ghost use Rattle.blk_io.specs.Streams.{Appends};
 ghost use Rattle.blk_model.specs.Reply.{answered};
-ghost use Rattle.blk_model.specs.Request.{request_of, to_open};
+ghost use Rattle.blk_model.specs.Request.{request_of};
 ghost use Rattle.blk_script.specs.Reply.{reply_text};
 ghost use Rattle.blk_headline.specs.Script.{is_missing_refusal, put_script, refusal_of, until_refused};
 ghost use Rattle.blk_headline.specs.Run.{turns};
 ghost use Rattle.blk_run.specs.Fixed.{opened_answer};
 ghost use Rattle.blk_cache.specs.Stepping.{IfDone, IfSink, IfStepDevice};
 ghost use Rattle.blk_run.specs.Errors.{IsOnlySink};
-ghost use Rattle.blk_run.specs.Playing.{Asks, PlaysPart, SoFar, StandsAt, has_refused};
+ghost use Rattle.blk_run.specs.Playing.{PlaysPart, SoFar, StandsAt};
 ghost use Rattle.blk_disk.specs.Open.{IsOpen};
 ghost use Rattle.blk_cache.specs.CacheKeeping.{KeepsState};
 
 use crate::playing::{ask, is_refusal};
+use crate::unshown::ask_unshown;
 use blk_cache::{Cache, StepFault};
-use blk_io::{Clock, Failed, Folder, Sink};
+use blk_io::{Clock, Folder, Sink};
 use blk_model::{Answer, Command, Refusal};
 use blk_script::print_reply;
 
@@ -67,7 +68,8 @@ pub(crate) fn play_put<F: Folder, K: Sink, C: Clock>(
     ensures sink { IfSink result (Rises (K.faults out.old) (K.faults out.new)) }
 {
     let Put { key, stream, bytes } = put;
-    let opened = open_unshown(cache, key, folder, clock)?;
+    let open = Command::Open { handle: 0, key };
+    let opened = ask_unshown(cache, &open, folder, clock)?;
     let write = Command::Write {
         handle: 0,
         stream,
@@ -96,31 +98,8 @@ pub(crate) struct Put<'a> {
     pub(crate) bytes: &'a [u8],
 }
 
-// Opens an entry under the name 0, and prints nothing.
-fn open_unshown<F: Folder, C: Clock>(
-    cache: &mut Cache,
-    key: &[u8],
-    folder: &mut F,
-    clock: &mut C,
-) -> Result<Answer, StepFault>
-    requires is_open { ForSome (F.told folder.old).files (IsOpen cache.old.files) }
-    ensures asked { (far : SoFar) (left : ℕ) → StandsAt far (KeepsState cache.old) (cache.old.notes) (left + 2) (F.told folder.old) → Asks result (to_open 0 key.now) far (KeepsState cache.new) (cache.new.notes) left (record { folder = F.told folder.old; written = None; clock = C.readings clock.old; refused = false }) (record { folder = F.told folder.new; written = None; clock = C.readings clock.new; refused = has_refused result }) }
-    ensures is_open { IfDone result (ForSome (F.told folder.new).files (IsOpen cache.new.files)) }
-    ensures later { F.faults folder.old ≤ F.faults folder.new }
-    ensures device { IfStepDevice result (Rises (F.faults folder.old) (F.faults folder.new)) }
-    ensures no_sink { IfSink result ⊥ }
-{
-    ask(
-        cache,
-        &Command::Open { handle: 0, key },
-        &mut Unshown,
-        folder,
-        clock,
-    )
-}
-
 // Whether an answer is that an entry is missing.
-fn is_missing(answer: &Answer) -> bool
+pub(crate) fn is_missing(answer: &Answer) -> bool
     ensures { result ≡ is_missing_refusal (refusal_of answer.now) }
 {
     match *answer {
@@ -144,21 +123,5 @@ fn print_opened<K: Sink>(out: &mut K, answer: &Answer) -> Result<(), StepFault>
     match printed {
         Ok(()) => Ok(()),
         Err(_) => Err(StepFault::Sink),
-    }
-}
-
-// A sink for replies that aren't shown: nothing of it is told.
-#[derive(Drop)]
-struct Unshown;
-
-impl Sink for Unshown {
-    ghost use Rattle.std.specs.Prelude.{None};
-
-    ghost written = { λ _. None };
-
-    ghost faults = { λ _. 0 };
-
-    fn put(&mut self, _bytes: &[u8]) -> Result<(), Failed> {
-        Ok(())
     }
 }

@@ -1,5 +1,5 @@
-// Scripts that aren't read from the input: one list of commands, or that of `put`.
-ghost use Rattle.std.specs.Prelude.{◌≡◌, ◌≢◌, ◌≤◌, ◌+◌, ◌*◌, List, [], ℕ, None, Option, Some};
+// Scripts that aren't read from the input: one list of commands, that of `put`, or the turns of a generator.
+ghost use Rattle.std.specs.Prelude.{◌≡◌, ◌≢◌, ◌≤◌, ◌+◌, ◌*◌, ◌^◌, List, [], ℕ, None, Option, Some};
 ghost use Rattle.std.specs.Option.{ForSome, option_map};
 ghost use Rattle.blk_image.specs.Image.{Image};
 ghost use Rattle.blk_image.specs.Checks.{Damage as check_damage};
@@ -22,6 +22,7 @@ ghost use Rattle.blk_cache.specs.CacheKeeping.{KeepsState};
 
 use crate::ending::Status;
 use crate::fixed::{Put, play_put, play_until_refused};
+use crate::generating::play_generated;
 use crate::printing::print_damage;
 use crate::sessions::end;
 use blk_cache::{Cache, OpenFault, StepFault};
@@ -36,6 +37,8 @@ pub(crate) enum Fixed<'a> {
     Commands(&'a [Command<'a>]),
     // The script of `put`.
     Put(Put<'a>),
+    // So many turns of a generator, from a seed on.
+    Generated { seed: u64, turns: u32 },
 }
 
 // Plays a script.
@@ -60,6 +63,9 @@ fn play_turns<F: Folder, K: Sink, C: Clock>(
             play_until_refused(cache, refused, commands, out, folder, clock)
         }
         Fixed::Put(put) => play_put(cache, refused, put, out, folder, clock),
+        Fixed::Generated { seed, turns } => {
+            play_generated(cache, seed, turns, out, folder, clock)
+        }
     }
 }
 
@@ -123,7 +129,7 @@ pub(crate) fn run_script<F: Folder, K: Sink, C: Clock>(
     folder: &mut F,
     clock: &mut C,
 ) -> Status
-    requires few { commands_in fixed ≤ 4 }
+    requires few { commands_in fixed ≤ 2 ^ 36 }
     // On a folder that is unfinished or well formed it is the run of the script on the map model.
     ensures script { ForSome (F.told folder.old).files (λ from. IsUsable from → ForSome (C.readings clock.old) (λ readings. (left : Option (List ℕ)) → FixedScript result (script_of fixed.entry) (bounds_of limits) from readings (Rises (K.faults out.old) (K.faults out.new)) (record { folder = F.told folder.old; written = K.written out.old; left = left; clock = C.readings clock.old }) (record { folder = F.told folder.new; written = K.written out.new; left = left; clock = C.readings clock.new }))) }
 

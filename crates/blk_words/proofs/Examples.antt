@@ -4,7 +4,11 @@ use Rattle.percent_encoding.specs.Percent.{percent_decode}
 use Rattle.blk_script.specs.Fields.{key_field, number_field}
 use Rattle.blk_words.specs.Kinds.{word_of}
 use Rattle.blk_words.specs.Apart.{taken_apart}
-use Rattle.blk_words.specs.Tasks.{Task, do_count, do_get, do_put, first_words, task_in, task_of}
+use Rattle.hex.proofs.OnLiterals.{hex_on_literals}
+use Rattle.blk_inspect.specs.declared.inspecting.Part.TheVariants as part
+use Rattle.blk_words.specs.Inspected.{part_named, part_numbered}
+use Rattle.blk_words.specs.Numbers.{address_word}
+use Rattle.blk_words.specs.Tasks.{Task, do_count, do_generate, do_get, do_inspect, do_put, first_words, task_in, task_of}
 use Rattle.blk_words.specs.Words.{Invocation, asked_by, limits_in, words_ask}
 
 -- a task with limits
@@ -66,3 +70,27 @@ an_unknown_option = refl
 pub a_dashed_word_behind_the_end : words_ask (codes "count" ∷ codes "--" ∷ codes "-x" ∷ []) ≡ None
 unfolding words_ask taken_apart word_of asked_by limits_in task_in task_of first_words
 a_dashed_word_behind_the_end = refl
+
+pub a_part : words_ask (codes "inspect" ∷ codes "list" ∷ []) ≡ with_limits 83886080 65536 (do_inspect part.List)
+unfolding words_ask taken_apart word_of asked_by limits_in task_in task_of first_words part_named
+a_part = refl
+
+pub an_address : words_ask (codes "inspect" ∷ codes "address" ∷ codes "a1010004" ∷ []) ≡ with_limits 83886080 65536 (do_inspect (part.Address 0xA1010004))
+unfolding words_ask taken_apart word_of asked_by limits_in task_in task_of first_words part_numbered address_word hex_on_literals
+an_address = refl
+
+pub an_upper_case_address : words_ask (codes "inspect" ∷ codes "address" ∷ codes "A1010004" ∷ []) ≡ None
+unfolding words_ask taken_apart word_of asked_by limits_in task_in task_of first_words part_numbered address_word
+an_upper_case_address = refl
+
+pub no_such_file : words_ask (codes "inspect" ∷ codes "file" ∷ codes "256" ∷ []) ≡ None
+unfolding words_ask taken_apart word_of asked_by limits_in task_in task_of first_words part_numbered number_field
+no_such_file = refl
+
+pub as_many_turns_as_may_be : words_ask (codes "gen" ∷ codes "1" ∷ codes "100000" ∷ []) ≡ with_limits 83886080 65536 (do_generate 1 100000)
+unfolding words_ask taken_apart word_of asked_by limits_in task_in task_of first_words number_field
+as_many_turns_as_may_be = refl
+
+pub too_many_turns : words_ask (codes "gen" ∷ codes "1" ∷ codes "100001" ∷ []) ≡ None
+unfolding words_ask taken_apart word_of asked_by limits_in task_in task_of first_words number_field
+too_many_turns = refl

@@ -42,6 +42,9 @@ no_such verb.Get a b c rest = refl
 no_such verb.Put a b c rest = refl
 no_such verb.Doom a b c rest = refl
 no_such verb.Trim a b c rest = refl
+no_such verb.Inspect a b c rest = refl
+no_such verb.Verify a b c rest = refl
+no_such verb.Gen a b c rest = refl
 
 four_words : (words : List (List ℕ)) → 4 ≤ length words → task_in words ≡ None
 unfolding task_in

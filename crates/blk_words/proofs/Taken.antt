@@ -11,7 +11,7 @@ use Rattle.blk_words.specs.declared.kinds.Limit.TheVariants as limit
 use Rattle.blk_words.specs.Kinds.{Word, ends, names, sets, says, unknown, word_of}
 use Rattle.blk_words.specs.Apart.{Parts, joined, one_word, taken_apart, with_value, with_word, words_alone}
 use Rattle.blk_words.specs.Parsing.{option_rule, program}
-use Rattle.blk_words.specs.Tasks.{number_word}
+use Rattle.blk_words.specs.Numbers.{number_word}
 use Rattle.blk_words.specs.Words.{at_most_once}
 use Rattle.blk_words.proofs.Joined.{apart_first, beyond, joined_assoc, joined_none, value_joined}
 use Rattle.blk_words.proofs.Rows.{absent_row}

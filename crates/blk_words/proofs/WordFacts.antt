@@ -14,7 +14,7 @@ use Rattle.blk_script.specs.declared.fault.LineFault.TheVariants as fault
 use Rattle.blk_words.specs.declared.kinds.Limit.{Limit}
 use Rattle.blk_words.specs.declared.kinds.Limit.TheVariants as limit
 use Rattle.blk_words.specs.Kinds.{Word, begins_with, ends, is_dashed, names, sets, says, unknown, word_of}
-use Rattle.blk_words.specs.Tasks.{number_word}
+use Rattle.blk_words.specs.Numbers.{number_word}
 use Rattle.blk_words.proofs.Rows.{pick}
 
 -- an option as it is written, with its value in the next word or behind it

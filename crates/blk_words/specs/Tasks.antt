@@ -5,11 +5,14 @@ use Rattle.std.specs.Result.{result_ok}
 use Rattle.std.specs.Str.{bytes_eq}
 use Rattle.percent_encoding.specs.Percent.{percent_decode}
 use Rattle.blk_script.specs.Fields.{key_field}
-use Rattle.blk_script.specs.Line.{count_field, stream_field}
+use Rattle.blk_script.specs.Line.{stream_field}
+use Rattle.blk_inspect.specs.declared.inspecting.Part.{Part}
 use Rattle.blk_words.specs.declared.order.Order.{Order}
 use Rattle.blk_words.specs.declared.order.Order.TheVariants as order
 use Rattle.blk_words.specs.declared.verbs.Verb.{Verb}
 use Rattle.blk_words.specs.declared.verbs.Verb.TheVariants as verb
+use Rattle.blk_words.specs.Inspected.{part_named, part_numbered}
+use Rattle.blk_words.specs.Numbers.{few_word, number_word}
 
 -- what the program is asked for, with keys as their bytes
 pub data Task : Type 0 where
@@ -20,13 +23,17 @@ pub data Task : Type 0 where
   do_put : List ℕ → ℕ → Task
   do_doom : List ℕ → Task
   do_trim : ℕ → Task
+  do_inspect : Part → Task
+  do_verify : Task
+  do_generate : (seed turns : ℕ) → Task
 
--- a key, a number and a stream are spelled as in a script line
+-- a generator makes no more turns
+abbrev pub most_turns : ℕ
+most_turns = 100000
+
+-- a key and a stream are spelled as in a script line
 abbrev pub key_word : List ℕ → Option (List ℕ)
 key_word word = result_ok (key_field word)
-
-abbrev pub number_word : List ℕ → Option ℕ
-number_word word = result_ok (count_field word)
 
 abbrev pub stream_word : List ℕ → Option ℕ
 stream_word word = result_ok (stream_field word)
@@ -51,6 +58,17 @@ abbrev pub key_and_stream : (List ℕ → ℕ → Task) → List (List ℕ) → 
 key_and_stream make (key ∷ stream ∷ []) = option_and_then (λ (k : List ℕ). option_map (make k) (stream_word stream)) (key_word key)
 key_and_stream make _ = None
 
+-- the name of a part of a folder stands behind it, alone or with a number or an address
+abbrev pub a_part : List (List ℕ) → Option Task
+a_part (name ∷ []) = option_map do_inspect (part_named name)
+a_part (name ∷ value ∷ []) = option_map do_inspect (part_numbered name value)
+a_part _ = None
+
+-- a seed and a number of turns stand behind it
+abbrev pub seed_and_turns : List (List ℕ) → Option Task
+seed_and_turns (seed ∷ turns ∷ []) = option_and_then (λ (s : ℕ). option_map (do_generate s) (few_word most_turns turns)) (number_word seed)
+seed_and_turns _ = None
+
 -- what the words behind a first word say
 unfoldable pub task_of : Verb → List (List ℕ) → Option Task
 task_of verb.Session = alone do_session
@@ -60,6 +78,9 @@ task_of verb.Get = key_and_stream do_get
 task_of verb.Put = key_and_stream do_put
 task_of verb.Doom = a_key do_doom
 task_of verb.Trim = a_number do_trim
+task_of verb.Inspect = a_part
+task_of verb.Verify = alone do_verify
+task_of verb.Gen = seed_and_turns
 
 -- the first words as they are written
 unfoldable pub first_words : List (List ℕ × Verb)
@@ -71,6 +92,9 @@ first_words =
     ∷ (codes "put", verb.Put)
     ∷ (codes "doom", verb.Doom)
     ∷ (codes "trim", verb.Trim)
+    ∷ (codes "inspect", verb.Inspect)
+    ∷ (codes "verify", verb.Verify)
+    ∷ (codes "gen", verb.Gen)
     ∷ []
 
 -- the entry of a table that has a word
@@ -92,6 +116,9 @@ task_given (order.Get key stream) = do_get (percent_decode key.now) stream
 task_given (order.Put key stream) = do_put (percent_decode key.now) stream
 task_given (order.Doom key) = do_doom (percent_decode key.now)
 task_given (order.Trim bytes) = do_trim bytes
+task_given (order.Inspect part) = do_inspect part
+task_given order.Verify = do_verify
+task_given (order.Generate seed turns) = do_generate seed turns
 
 -- the key of an order is spelled as a script line spells keys
 abbrev pub HasSpelledKey : Order → Type 0

@@ -7,7 +7,8 @@ use Rattle.blk_model.specs.Sizes.{most_bytes, most_items}
 use Rattle.blk_model.specs.State.{Bounds}
 use Rattle.blk_words.specs.declared.reading.Asked.{Asked}
 use Rattle.blk_words.specs.Apart.{Parts, taken_apart}
-use Rattle.blk_words.specs.Tasks.{Task, number_word, task_in, task_given}
+use Rattle.blk_words.specs.Numbers.{number_word}
+use Rattle.blk_words.specs.Tasks.{Task, task_in, task_given}
 
 -- what is to be done, and what the cache may keep
 pub record Invocation : Type 0 where

@@ -5,7 +5,9 @@
 
 mod apart;
 mod given;
+mod inspected;
 mod kinds;
+mod numbers;
 mod order;
 mod reading;
 mod verbs;

@@ -7,8 +7,14 @@ ghost use Rattle.blk_words.specs.Apart.{words_in};
 ghost use Rattle.blk_words.specs.Tasks.{HasSpelledKey, Task, key_and_stream, key_word, task_given, task_in, task_of};
 
 use crate::apart::Ordinary;
+use crate::inspected::{part_named, part_numbered};
+use crate::numbers::read_few;
 use crate::verbs::{Verb, verb_of};
+use blk_inspect::Part;
 use blk_script::{is_key, read_count, read_stream};
+
+// A generator makes no more turns.
+const MOST_TURNS: u64 = 100_000;
 
 /// What the program is asked for. A key stands as it is spelled; `blk_script::decode_key` gives its bytes.
 #[derive(Clone, Copy, Debug, PartialEq, Eq)]
@@ -27,6 +33,13 @@ pub enum Order<'w> {
     Doom { key: &'w [u8] },
     /// `trim BYTES`: items are evicted until so many bytes are left.
     Trim { bytes: u64 },
+    /// `inspect index`, `inspect file N`, `inspect address WORD`, `inspect list`, `inspect chain BUCKET` and `inspect entry WORD`: a
+    /// part of the folder is printed.
+    Inspect { part: Part },
+    /// `verify`: what the folder holds is checked and printed.
+    Verify,
+    /// `gen SEED TURNS`: so many turns of a generator are played.
+    Generate { seed: u64, turns: u32 },
 }
 
 /// What the ordinary words ask for, if they are a command.
@@ -52,7 +65,8 @@ fn read_alone<'w>(verb: Verb) -> Option<Order<'w>>
         Verb::Session => Some(Order::Session),
         Verb::Count => Some(Order::Count),
         Verb::List => Some(Order::List),
-        Verb::Get | Verb::Put | Verb::Doom | Verb::Trim => None,
+        Verb::Verify => Some(Order::Verify),
+        Verb::Get | Verb::Put | Verb::Doom | Verb::Trim | Verb::Inspect | Verb::Gen => None,
     }
 }
 
@@ -71,26 +85,45 @@ fn read_with_one(verb: Verb, word: &[u8]) -> Option<Order<'_>>
             let bytes = read_count(word).ok()?;
             Some(Order::Trim { bytes })
         }
-        Verb::Session | Verb::Count | Verb::List | Verb::Get | Verb::Put => None,
+        Verb::Inspect => {
+            let part = part_named(word)?;
+            Some(Order::Inspect { part })
+        }
+        Verb::Session
+        | Verb::Count
+        | Verb::List
+        | Verb::Get
+        | Verb::Put
+        | Verb::Verify
+        | Verb::Gen => None,
     }
 }
 
 // What it asks for with two words behind it.
 #[tactic(auto, unfolding(crate::specs::Tasks::task_of))]
-fn read_with_two<'w>(verb: Verb, key: &'w [u8], stream: &[u8]) -> Option<Order<'w>>
-    ensures task { option_map task_given result ≡ task_of verb (key.now ∷ stream.now ∷ []) }
+fn read_with_two<'w>(verb: Verb, first: &'w [u8], second: &[u8]) -> Option<Order<'w>>
+    ensures task { option_map task_given result ≡ task_of verb (first.now ∷ second.now ∷ []) }
     ensures spelled { IfSome result HasSpelledKey }
 {
     match verb {
         Verb::Get => {
-            let (key, stream) = key_and_stream(key, stream)?;
+            let (key, stream) = key_and_stream(first, second)?;
             Some(Order::Get { key, stream })
         }
         Verb::Put => {
-            let (key, stream) = key_and_stream(key, stream)?;
+            let (key, stream) = key_and_stream(first, second)?;
             Some(Order::Put { key, stream })
         }
-        Verb::Session | Verb::Count | Verb::List | Verb::Doom | Verb::Trim => None,
+        Verb::Inspect => {
+            let part = part_numbered(first, second)?;
+            Some(Order::Inspect { part })
+        }
+        Verb::Gen => {
+            let seed = read_count(first).ok()?;
+            let turns = read_few(second, MOST_TURNS)? as u32;
+            Some(Order::Generate { seed, turns })
+        }
+        Verb::Session | Verb::Count | Verb::List | Verb::Doom | Verb::Trim | Verb::Verify => None,
     }
 }
 

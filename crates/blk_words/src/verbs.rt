@@ -19,6 +19,12 @@ pub enum Verb {
     Doom,
     /// `trim`
     Trim,
+    /// `inspect`
+    Inspect,
+    /// `verify`
+    Verify,
+    /// `gen`
+    Gen,
 }
 
 /// What a first word names, if it is one.
@@ -40,6 +46,12 @@ pub fn verb_of(word: &[u8]) -> Option<Verb>
         Some(Verb::Doom)
     } else if word == b"trim".as_slice() {
         Some(Verb::Trim)
+    } else if word == b"inspect".as_slice() {
+        Some(Verb::Inspect)
+    } else if word == b"verify".as_slice() {
+        Some(Verb::Verify)
+    } else if word == b"gen".as_slice() {
+        Some(Verb::Gen)
     } else {
         None
     }

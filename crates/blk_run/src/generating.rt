@@ -1,0 +1,229 @@
+// The turns of a generator are played.
+ghost use Rattle.std.specs.Prelude.{◌≡◌, ◌≤◌, ◌<◌, ◌+◌, ◌*◌, ◌^◌, ◌++◌, Bool, List, Option, ℕ, length, OnOk};
+ghost use Rattle.std.specs.Option.{ForSome, option_map};
+ghost use Rattle.blk_image.specs.Told.{Rises};
+ghost use Rattle.blk_io.specs.Streams.{Appends};
+ghost use Rattle.blk_model.specs.Request.{request_of};
+ghost use Rattle.blk_headline.specs.Run.{turns};
+ghost use Rattle.blk_headline.specs.Script.{totals_line};
+ghost use Rattle.blk_gen.specs.Counting.{counts_line};
+ghost use Rattle.blk_gen.specs.Draws.{generated_bytes};
+ghost use Rattle.blk_gen.specs.Generator.{created_turn, gen_script, turn_script, used_turn};
+ghost use Rattle.blk_cache.specs.Stepping.{IfDone, IfSink, IfStepDevice};
+ghost use Rattle.blk_run.specs.Errors.{IsOnlySink};
+ghost use Rattle.blk_run.specs.Generating.{AreWithin, AsksCounted, Following, IsAsked, PlaysCounted, evicted_by, unshown};
+ghost use Rattle.blk_run.specs.Playing.{PlaysPart, SoFar, StandsAt};
+ghost use Rattle.blk_disk.specs.Open.{IsOpen};
+ghost use Rattle.blk_cache.specs.CacheKeeping.{KeepsState};
+
+use crate::counting::show_totals;
+use crate::fixed::is_missing;
+use crate::playing::is_refusal;
+use crate::unshown::ask_unshown;
+use blk_cache::{Cache, StepFault};
+use blk_gen::{Counts, Draws, Turn, fill};
+use blk_io::{Clock, Folder, Sink};
+use blk_model::{Answer, Command};
+
+// A turn writes no more bytes.
+const LONGEST_DATA: usize = 20000;
+
+// A turn reads no more bytes.
+const LONGEST_READ: u64 = 20001;
+
+// Plays so many turns from a seed on, and prints what was counted of their commands, and the totals.
+pub(crate) fn play_generated<F: Folder, K: Sink, C: Clock>(
+    cache: &mut Cache,
+    seed: u64,
+    count: u32,
+    out: &mut K,
+    folder: &mut F,
+    clock: &mut C,
+) -> Result<(), StepFault>
+    requires is_open { ForSome (F.told folder.old).files (IsOpen cache.old.files) }
+    ensures played { (refused : Bool) (far : SoFar) (left : ℕ) → StandsAt far (KeepsState cache.old) (cache.old.notes) (left + 2 * (5 * count)) (F.told folder.old) → PlaysPart result (turns (gen_script seed count)) far (KeepsState cache.new) (cache.new.notes) left (record { folder = F.told folder.old; written = K.written out.old; clock = C.readings clock.old; refused = refused }) (record { folder = F.told folder.new; written = K.written out.new; clock = C.readings clock.new; refused = refused }) }
+    ensures is_open { IfDone result (ForSome (F.told folder.new).files (IsOpen cache.new.files)) }
+    ensures later { F.faults folder.old ≤ F.faults folder.new }
+    ensures printed_later { K.faults out.old ≤ K.faults out.new }
+    ensures device { IfStepDevice result (Rises (F.faults folder.old) (F.faults folder.new)) }
+    ensures sink { IfSink result (Rises (K.faults out.old) (K.faults out.new)) }
+{
+    let mut draws = Draws::new(seed);
+    let mut counts = Counts::new();
+    let mut room = [0u8; LONGEST_DATA];
+    for number in 0..count {
+        let turn = draws.turn();
+        play_turn(cache, &mut counts, number, &turn, &mut room, folder, clock)?;
+    }
+    show_counts(cache, &counts, out)
+}
+
+// Plays a turn: its object is opened, or made where it is missing, and used where neither is refused.
+fn play_turn<F: Folder, C: Clock>(
+    cache: &mut Cache,
+    counts: &mut Counts,
+    number: u32,
+    turn: &Turn,
+    room: &mut [u8],
+    folder: &mut F,
+    clock: &mut C,
+) -> Result<(), StepFault>
+    requires is_open { ForSome (F.told folder.old).files (IsOpen cache.old.files) }
+    requires key { turn.now.key_number < 1000 }
+    requires room { turn.now.byte_count ≤ length room.old }
+    ensures played { (far : SoFar) (left commands : ℕ) (following : Following) (written : Option (List ℕ)) (refused : Bool) → commands + 5 < 2 ^ 36 → AreWithin commands counts.old → StandsAt far (KeepsState cache.old) (cache.old.notes) (left + 10) (F.told folder.old) → PlaysCounted result (commands + 5) counts.new (turn_script number turn.now counts.old following) (following counts.new) far (KeepsState cache.new) (cache.new.notes) left (unshown (F.told folder.old) written (C.readings clock.old) refused) (unshown (F.told folder.new) written (C.readings clock.new) refused) }
+    ensures is_open { IfDone result (ForSome (F.told folder.new).files (IsOpen cache.new.files)) }
+    ensures later { F.faults folder.old ≤ F.faults folder.new }
+    ensures device { IfStepDevice result (Rises (F.faults folder.old) (F.faults folder.new)) }
+    ensures no_sink { IfSink result ⊥ }
+{
+    let mut digits = [0u8; 4];
+    let key = turn.key(&mut digits);
+    let open = Command::Open { handle: 0, key };
+    let opened = ask_counted(cache, counts, &open, folder, clock)?;
+    if is_missing(&opened) {
+        return play_missing(cache, counts, number, turn, room, folder, clock);
+    }
+    if is_refusal(&opened) {
+        return Ok(());
+    }
+    play_used(cache, counts, number, turn, room, folder, clock)
+}
+
+// Plays a turn whose object is missing: it is made, and used where that isn't refused.
+fn play_missing<F: Folder, C: Clock>(
+    cache: &mut Cache,
+    counts: &mut Counts,
+    number: u32,
+    turn: &Turn,
+    room: &mut [u8],
+    folder: &mut F,
+    clock: &mut C,
+) -> Result<(), StepFault>
+    requires is_open { ForSome (F.told folder.old).files (IsOpen cache.old.files) }
+    requires key { turn.now.key_number < 1000 }
+    requires room { turn.now.byte_count ≤ length room.old }
+    ensures played { (far : SoFar) (left commands : ℕ) (following : Following) (written : Option (List ℕ)) (refused : Bool) → commands + 4 < 2 ^ 36 → AreWithin commands counts.old → StandsAt far (KeepsState cache.old) (cache.old.notes) (left + 8) (F.told folder.old) → PlaysCounted result (commands + 4) counts.new (created_turn number turn.now counts.old following) (following counts.new) far (KeepsState cache.new) (cache.new.notes) left (unshown (F.told folder.old) written (C.readings clock.old) refused) (unshown (F.told folder.new) written (C.readings clock.new) refused) }
+    ensures is_open { IfDone result (ForSome (F.told folder.new).files (IsOpen cache.new.files)) }
+    ensures later { F.faults folder.old ≤ F.faults folder.new }
+    ensures device { IfStepDevice result (Rises (F.faults folder.old) (F.faults folder.new)) }
+    ensures no_sink { IfSink result ⊥ }
+{
+    let mut digits = [0u8; 4];
+    let key = turn.key(&mut digits);
+    let create = Command::Create { handle: 0, key };
+    let made = ask_counted(cache, counts, &create, folder, clock)?;
+    if is_refusal(&made) {
+        return Ok(());
+    }
+    play_used(cache, counts, number, turn, room, folder, clock)
+}
+
+// Uses the object that the handle 0 names: a Write that cuts, a Read and a Close, of which none ends the turn.
+fn play_used<F: Folder, C: Clock>(
+    cache: &mut Cache,
+    counts: &mut Counts,
+    number: u32,
+    turn: &Turn,
+    room: &mut [u8],
+    folder: &mut F,
+    clock: &mut C,
+) -> Result<(), StepFault>
+    requires is_open { ForSome (F.told folder.old).files (IsOpen cache.old.files) }
+    requires room { turn.now.byte_count ≤ length room.old }
+    ensures played { (far : SoFar) (left commands : ℕ) (following : Following) (written : Option (List ℕ)) (refused : Bool) → commands + 3 < 2 ^ 36 → AreWithin commands counts.old → StandsAt far (KeepsState cache.old) (cache.old.notes) (left + 6) (F.told folder.old) → PlaysCounted result (commands + 3) counts.new (used_turn number turn.now counts.old following) (following counts.new) far (KeepsState cache.new) (cache.new.notes) left (unshown (F.told folder.old) written (C.readings clock.old) refused) (unshown (F.told folder.new) written (C.readings clock.new) refused) }
+    ensures is_open { IfDone result (ForSome (F.told folder.new).files (IsOpen cache.new.files)) }
+    ensures later { F.faults folder.old ≤ F.faults folder.new }
+    ensures device { IfStepDevice result (Rises (F.faults folder.old) (F.faults folder.new)) }
+    ensures no_sink { IfSink result ⊥ }
+{
+    let write = Command::Write {
+        handle: 0,
+        stream: turn.stream,
+        offset: 0,
+        cut: true,
+        bytes: bytes_of(number, turn.byte_count, room),
+    };
+    ask_counted(cache, counts, &write, folder, clock)?;
+    let read = Command::Read {
+        handle: 0,
+        stream: turn.stream,
+        offset: 0,
+        count: LONGEST_READ,
+    };
+    ask_counted(cache, counts, &read, folder, clock)?;
+    ask_counted(cache, counts, &Command::Close { handle: 0 }, folder, clock)?;
+    Ok(())
+}
+
+// The bytes that the turn with a number writes, in the front of the room.
+fn bytes_of(number: u32, count: u16, room: &mut [u8]) -> &[u8]
+    requires { count ≤ length room.old }
+    ensures { result.now ≡ generated_bytes number count }
+{
+    let bytes = &mut room[..usize::from(count)];
+    fill(number, bytes);
+    bytes
+}
+
+// Does a command of a turn, whose reply isn't shown, and counts it.
+fn ask_counted<F: Folder, C: Clock>(
+    cache: &mut Cache,
+    counts: &mut Counts,
+    command: &Command,
+    folder: &mut F,
+    clock: &mut C,
+) -> Result<Answer, StepFault>
+    requires is_open { ForSome (F.told folder.old).files (IsOpen cache.old.files) }
+    requires asked { IsAsked (request_of command.now) }
+    ensures asked { (far : SoFar) (left : ℕ) → StandsAt far (KeepsState cache.old) (cache.old.notes) (left + 2) (F.told folder.old) → AsksCounted result (request_of command.now) counts.old counts.new far (KeepsState cache.new) (cache.new.notes) left (F.told folder.old) (F.told folder.new) (C.readings clock.old) (C.readings clock.new) }
+    ensures is_open { IfDone result (ForSome (F.told folder.new).files (IsOpen cache.new.files)) }
+    ensures later { F.faults folder.old ≤ F.faults folder.new }
+    ensures device { IfStepDevice result (Rises (F.faults folder.old) (F.faults folder.new)) }
+    ensures no_sink { IfSink result ⊥ }
+{
+    let before = items_of(cache);
+    let answer = ask_unshown(cache, command, folder, clock)?;
+    let after = items_of(cache);
+    counts.count(&answer, evicted_by(command, &answer, before, after));
+    Ok(answer)
+}
+
+// How many items a cache has.
+fn items_of(cache: &Cache) -> u64
+    ensures { result ≡ cache.now.items }
+{
+    let (items, _) = cache.totals();
+    items
+}
+
+// How many items a command of a turn evicted, by how many there were before it and are after it.
+fn evicted_by(command: &Command, answer: &Answer, before: u64, after: u64) -> u64
+    ensures { result ≡ evicted_by (request_of command.now) answer.now before after }
+{
+    match *command {
+        Command::Create { .. } => {
+            if is_refusal(answer) {
+                0
+            } else {
+                before.saturating_sub(after.saturating_sub(1))
+            }
+        }
+        Command::Write { .. } => before.saturating_sub(after),
+        _ => 0,
+    }
+}
+
+// Prints what was counted, and the totals of a cache.
+fn show_counts<K: Sink>(cache: &Cache, counts: &Counts, out: &mut K) -> Result<(), StepFault>
+    ensures printed { OnOk result (K.written out.new ≡ option_map (λ w. w ++ (counts_line counts.now ++ totals_line cache.now.items cache.now.bytes)) (K.written out.old)) }
+    ensures front { Appends (K.written out.old) (K.written out.new) (counts_line counts.now ++ totals_line cache.now.items cache.now.bytes) }
+    ensures only { IsOnlySink result }
+    ensures later { K.faults out.old ≤ K.faults out.new }
+    ensures sink { IfSink result (Rises (K.faults out.old) (K.faults out.new)) }
+{
+    match counts.print_counts(out) {
+        Ok(()) => show_totals(cache, out),
+        Err(_) => Err(StepFault::Sink),
+    }
+}

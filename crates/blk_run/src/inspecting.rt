@@ -1,0 +1,57 @@
+// The words that print what a folder holds, and leave it as it is.
+ghost use Rattle.std.specs.Prelude.{◌≡◌, ◌≤◌, List, Option, ℕ};
+ghost use Rattle.blk_image.specs.Told.{Rises, Stays};
+ghost use Rattle.blk_io.specs.Streams.{Readings};
+ghost use Rattle.blk_model.specs.State.{Bounds};
+ghost use Rattle.blk_inspect.specs.Texts.{inspect_text, verify_text};
+ghost use Rattle.blk_run.specs.Shown.{PrintsFault, status_shown};
+ghost use Rattle.blk_run.specs.Work.{Performs, folder_text};
+
+use crate::ending::Status;
+use crate::printing::print_damage;
+use blk_inspect::{InspectFault, Part, inspect, verify};
+use blk_io::{Folder, Sink};
+use std::alloc::Global;
+
+// Prints a part of the folder.
+pub(crate) fn show_part<F: Folder, K: Sink>(
+    alloc: Global,
+    part: &Part,
+    out: &mut K,
+    folder: &mut F,
+) -> Status
+    ensures performs { (limits : Bounds) (left : Option (List ℕ)) (clock : Option Readings) → Performs (folder_text (inspect_text part.now)) result limits (Rises (F.faults folder.old) (F.faults folder.new)) ⊥ (K.faults out.old) (K.faults out.new) (record { folder = F.told folder.old; written = K.written out.old; left = left; clock = clock }) (record { folder = F.told folder.new; written = K.written out.new; left = left; clock = clock }) }
+    ensures stays { Stays (F.told folder.old) (F.told folder.new) }
+    ensures later { (F.faults folder.old ≤ F.faults folder.new) × (K.faults out.old ≤ K.faults out.new) }
+{
+    let shown = inspect(alloc, folder, out, part);
+    end_shown(&shown, out)
+}
+
+// Prints what the folder holds, and what is dropped of it.
+pub(crate) fn show_verdict<F: Folder, K: Sink>(alloc: Global, out: &mut K, folder: &mut F) -> Status
+    ensures performs { (limits : Bounds) (left : Option (List ℕ)) (clock : Option Readings) → Performs (folder_text verify_text) result limits (Rises (F.faults folder.old) (F.faults folder.new)) ⊥ (K.faults out.old) (K.faults out.new) (record { folder = F.told folder.old; written = K.written out.old; left = left; clock = clock }) (record { folder = F.told folder.new; written = K.written out.new; left = left; clock = clock }) }
+    ensures stays { Stays (F.told folder.old) (F.told folder.new) }
+    ensures later { (F.faults folder.old ≤ F.faults folder.new) × (K.faults out.old ≤ K.faults out.new) }
+{
+    let shown = verify(alloc, folder, out);
+    end_shown(&shown, out)
+}
+
+// The status where an inspection answers so. A damage is printed.
+fn end_shown<K: Sink>(shown: &Result<(), InspectFault>, out: &mut K) -> Status
+    ensures status { result ≡ status_shown shown.now }
+    ensures printed { PrintsFault shown.now (K.written out.old) (K.written out.new) (K.faults out.old) (K.faults out.new) }
+    ensures later { K.faults out.old ≤ K.faults out.new }
+{
+    match *shown {
+        Ok(()) => Status::Ok,
+        Err(InspectFault::Device) => Status::Device,
+        Err(InspectFault::Damaged(damage)) => {
+            let _ = print_damage(out, damage);
+            Status::Damaged
+        }
+        Err(InspectFault::Sink) => Status::Sink,
+        Err(InspectFault::Memory) => Status::Memory,
+    }
+}

@@ -1,0 +1,47 @@
+// Commands whose replies aren't shown.
+ghost use Rattle.std.specs.Prelude.{◌≡◌, false, ◌≤◌, ◌+◌, ℕ, None};
+ghost use Rattle.std.specs.Option.{ForSome};
+ghost use Rattle.blk_image.specs.Told.{Rises};
+ghost use Rattle.blk_model.specs.Request.{request_of};
+ghost use Rattle.blk_cache.specs.Stepping.{IfDone, IfSink, IfStepDevice};
+ghost use Rattle.blk_run.specs.Playing.{Asks, SoFar, StandsAt, has_refused};
+ghost use Rattle.blk_disk.specs.Open.{IsOpen};
+ghost use Rattle.blk_cache.specs.CacheKeeping.{KeepsState};
+
+use crate::playing::ask;
+use blk_cache::{Cache, StepFault};
+use blk_io::{Clock, Failed, Folder, Sink};
+use blk_model::{Answer, Command};
+
+// Does a command, at the next reading of the clock, and prints nothing.
+pub(crate) fn ask_unshown<F: Folder, C: Clock>(
+    cache: &mut Cache,
+    command: &Command,
+    folder: &mut F,
+    clock: &mut C,
+) -> Result<Answer, StepFault>
+    requires is_open { ForSome (F.told folder.old).files (IsOpen cache.old.files) }
+    ensures asked { (far : SoFar) (left : ℕ) → StandsAt far (KeepsState cache.old) (cache.old.notes) (left + 2) (F.told folder.old) → Asks result (request_of command.now) far (KeepsState cache.new) (cache.new.notes) left (record { folder = F.told folder.old; written = None; clock = C.readings clock.old; refused = false }) (record { folder = F.told folder.new; written = None; clock = C.readings clock.new; refused = has_refused result }) }
+    ensures is_open { IfDone result (ForSome (F.told folder.new).files (IsOpen cache.new.files)) }
+    ensures later { F.faults folder.old ≤ F.faults folder.new }
+    ensures device { IfStepDevice result (Rises (F.faults folder.old) (F.faults folder.new)) }
+    ensures no_sink { IfSink result ⊥ }
+{
+    ask(cache, command, &mut Unshown, folder, clock)
+}
+
+// A sink for replies that aren't shown: nothing of it is told.
+#[derive(Drop)]
+struct Unshown;
+
+impl Sink for Unshown {
+    ghost use Rattle.std.specs.Prelude.{None};
+
+    ghost written = { λ _. None };
+
+    ghost faults = { λ _. 0 };
+
+    fn put(&mut self, _bytes: &[u8]) -> Result<(), Failed> {
+        Ok(())
+    }
+}
