@@ -1,77 +1,14 @@
-// The word `count` on an empty folder, on folders of three entries that are hostile or damaged, and where a call fails.
-use blk_index::make;
+// The word `count` on an empty folder, and where a call fails.
 use blk_io::{
     Failed, FileId, Folder, ListClock, MemFolder, MemSink, MemSource, SilentFolder, read_word,
 };
 use blk_record::IndexHead;
 use blk_run::{Status, run};
-use blk_test_folders::folders::Change::{Gone, Index, Length, Word};
-use blk_test_folders::folders::{
-    ADDRS, Change, Entry, Mem, NEXT, OPERATION, PREV, SIZES, TRANSACTION, add, change_all,
-    give_blocks,
-};
+use blk_test_folders::folders::Mem;
 use std::alloc::Global;
 use std::test::Fail;
 
-// The records of the entries, the last used first, and the node of the second.
-const C: u32 = 0xA001_0000;
-
-const B: u32 = 0xA001_0001;
-
-const A: u32 = 0xA001_0002;
-
-const NODE_OF_B: u32 = 0x9000_0001;
-
-// Their keys have different lengths, so that the bytes tell which are kept.
-const ENTRIES: [(u32, &[u8]); 3] = [(C, b"cccc"), (B, b"bb"), (A, b"a")];
-
-// A block that nobody owns.
-const BLOCK: u32 = 0xA001_0008;
-
 const EMPTY: &[u8] = b"items 0 bytes 0\n";
-
-// Changes to the folder of these entries, with the status of a count, and what it prints: as it is; a record whose next is
-// itself; a node with a wrong prev; two records that claim one block; block files of which the first record alone is there;
-// an operation whose node is beyond the file; another magic word; and a block file that isn't there.
-const COUNTS: [(&[Change], Status, &[u8]); 8] = [
-    (&[], Status::Ok, b"items 3 bytes 7\n"),
-    (&[Word(C, NEXT, C)], Status::Ok, b"items 3 bytes 7\n"),
-    (
-        &[Word(NODE_OF_B, PREV, NODE_OF_B)],
-        Status::Ok,
-        b"items 1 bytes 4\n",
-    ),
-    (
-        &[
-            Word(C, SIZES, 100),
-            Word(C, ADDRS, BLOCK),
-            Word(B, SIZES, 200),
-            Word(B, ADDRS, BLOCK),
-        ],
-        Status::Ok,
-        b"items 2 bytes 105\n",
-    ),
-    (
-        &[Length(FileId::Block(1), 8448)],
-        Status::Ok,
-        b"items 1 bytes 4\n",
-    ),
-    (
-        &[Index(TRANSACTION, 0x9000_0400), Index(OPERATION, 1)],
-        Status::Ok,
-        b"items 3 bytes 7\n",
-    ),
-    (
-        &[Index(0, 0xC103_CAC4)],
-        Status::Damaged,
-        b"damaged index 0 c103cac4\n",
-    ),
-    (
-        &[Gone(FileId::Block(2))],
-        Status::Damaged,
-        b"damaged data_2 8192 00000000\n",
-    ),
-];
 
 // Runs with a word over a folder.
 pub(crate) fn run_on<F: Folder>(
@@ -104,42 +41,6 @@ fn empty(alloc: Global, call: u64) -> Result<Mem, Fail> {
     let mut folder = MemFolder::without_trail(alloc);
     folder.fail_at(call, 0)?;
     Ok(SilentFolder::new(folder))
-}
-
-// The folder of the entries with some changes.
-fn folder(alloc: Global, changes: &[Change]) -> Result<Mem, Fail> {
-    let mut f = SilentFolder::new(MemFolder::without_trail(alloc));
-    make(&mut f, 7)?;
-    give_blocks(&mut f, 1024, [1024, 64, 16, 4])?;
-    let mut number: u32 = 0;
-    for (record, key) in ENTRIES {
-        let entry = Entry {
-            record,
-            key,
-            long_key: 0,
-            flags: 0,
-            sizes: [0; 4],
-            addrs: [0; 4],
-        };
-        add(&mut f, number, &entry)?;
-        number = number.wrapping_add(1);
-    }
-    change_all(&mut f, changes)?;
-    Ok(f)
-}
-
-#[test]
-fn a_folder_is_counted_and_counted_again(rt: HostRuntime) -> Result<(), Fail> {
-    for (i, (changes, status, line)) in COUNTS.iter().enumerate() {
-        let mut f = folder(rt.alloc(), changes)?;
-        for time in ["once", "again"] {
-            assert!(rt;
-                answers(rt.alloc(), &mut f, "count", *status, line)?,
-                "{i}, {time}"
-            );
-        }
-    }
-    Ok(())
 }
 
 // The lengths of the index and of the first five block files.

@@ -1,8 +1,10 @@
 // A session of four hundred entries by eight handles, whose last Close fails.
+use crate::counting::run_on;
 use crate::sessions::{LIMITS, Session, held};
 use blk_cache::StepFault;
 use blk_io::{MemSink, SilentFolder, StopFolder};
 use blk_model::{Answer, Command};
+use blk_run::Status;
 use blk_test_folders::found::with_these;
 use blk_test_folders::stopping::{again, empty};
 use itoa::Buffer;
@@ -202,8 +204,12 @@ fn all_but_the_entry_whose_close_failed_are_held(rt: HostRuntime) -> Result<(), 
     };
     assert_eq!(rt; totals, first);
     assert!(rt; shows_first(rt.alloc(), &mut next, &bytes)?);
+    let mut f = again(next.f, u64::MAX);
+    let mut out = MemSink::new(rt.alloc());
+    assert_eq!(rt; run_on(rt.alloc(), &mut f, "count", &mut out)?, Status::Ok);
+    assert_eq!(rt; out.written(), b"items 399 bytes 43840524\n".as_slice());
     assert_eq!(rt;
-        held(rt.alloc(), next.f)?,
+        held(rt.alloc(), f)?,
         (399, 43_840_524, hash_of_first(399, &bytes))
     );
     Ok(())

@@ -15,8 +15,10 @@ use blk_test_folders::stopping::{Mem, empty};
 use std::alloc::Global;
 use std::test::Fail;
 
-// The index of the object, and that it has its first two parts.
+// The index of the object, and the bits that it has: none, or those of its first two parts.
 const INDEX: u32 = 0xC203_0000;
+
+const NO_PART: u32 = 0;
 
 const TWO_PARTS: u32 = 3;
 
@@ -63,10 +65,10 @@ const ENTRIES: [Entry<'static>; 3] = [
     },
 ];
 
-// Says in the index of the object that it has two parts.
-fn put_parts(f: &mut Mem) -> Result<(), Failed> {
+// Says in the index of the object which parts it has.
+fn put_parts(f: &mut Mem, bits: u32) -> Result<(), Failed> {
     let (file, place) = place_of(INDEX);
-    put_words(f, file, place.wrapping_add(64), &[TWO_PARTS])
+    put_words(f, file, place.wrapping_add(64), &[bits])
 }
 
 // A folder with the object and its parts.
@@ -79,7 +81,30 @@ pub(crate) fn sparse_folder(alloc: Global) -> Result<Mem, Fail> {
         put_index(&mut f, index, 1)?;
         add(&mut f, (number & 0xFFFF) as u32, entry)?;
     }
-    put_parts(&mut f)?;
+    put_parts(&mut f, TWO_PARTS)?;
+    Ok(f)
+}
+
+// A folder with the object without its parts, in front of so many plain objects; its index has these bits.
+fn childless_folder(alloc: Global, bits: u32, others: u8) -> Result<Mem, Fail> {
+    let mut f = empty(alloc);
+    make(&mut f, 7)?;
+    give_blocks(&mut f, 1024, [1024, 64, 16, 4])?;
+    put_index(&mut f, INDEX, 1)?;
+    put_parts(&mut f, bits)?;
+    let [_, _, object] = &ENTRIES;
+    add(&mut f, 0, object)?;
+    for number in 1..others.saturating_add(1) {
+        let plain = Entry {
+            record: 0xA001_0002 | (u32::from(number) << 3),
+            key: &[number],
+            long_key: 0,
+            flags: 0,
+            sizes: [0; 4],
+            addrs: [0; 4],
+        };
+        add(&mut f, u32::from(number), &plain)?;
+    }
     Ok(f)
 }
 
@@ -165,6 +190,26 @@ fn whole_gone(f: &mut Mem, dooms: bool) -> Result<(Gone, [u32; 3]), Fault> {
     }
 }
 
+// How the object goes with its parts: it is removed, it is doomed, or its parts go by its record once it is out.
+#[derive(Clone, Copy)]
+enum Going {
+    Removed,
+    Doomed,
+    ByRecord,
+}
+
+// How many items go with the object without its parts, and the folder calls by which it goes.
+fn calls_of(alloc: Global, going: Going, bits: u32, others: u8) -> Result<(u64, u64), Fail> {
+    let mut f = Session::over(alloc, childless_folder(alloc, bits, others)?, LIMITS)?.f;
+    let start = f.calls();
+    let items = match going {
+        Going::Removed => whole_gone(&mut f, false)?.0.items,
+        Going::Doomed => whole_gone(&mut f, true)?.0.items,
+        Going::ByRecord => children_dropped(&mut f, true)?.0,
+    };
+    Ok((items, f.calls().wrapping_sub(start)))
+}
+
 #[test]
 fn parts_are_listed_and_go_alone_or_with_their_object(rt: HostRuntime) -> Result<(), Fail> {
     let mut session = Session::over(rt.alloc(), sparse_folder(rt.alloc())?, LIMITS)?;
@@ -246,6 +291,25 @@ fn an_object_is_removed_or_doomed_with_its_parts(rt: HostRuntime) -> Result<(), 
         let mut f = in_session(rt.alloc())?;
         assert_eq!(rt; whole_gone(&mut f, dooms), Ok((gone, told)));
         assert_eq!(rt; held(rt.alloc(), f)?, (0, 0, 0));
+    }
+    Ok(())
+}
+
+#[test]
+fn no_list_is_walked_where_no_bit_is_set(rt: HostRuntime) -> Result<(), Fail> {
+    for (going, items) in [
+        (Going::Removed, 1),
+        (Going::Doomed, 0),
+        (Going::ByRecord, 0),
+    ] {
+        let (gone, calls) = calls_of(rt.alloc(), going, NO_PART, 1)?;
+        assert_eq!(rt; gone, items);
+        assert_eq!(rt; calls_of(rt.alloc(), going, NO_PART, 4)?, (items, calls));
+        // Where a bit is set, each item of the list takes three calls.
+        let walked = calls.wrapping_add(4);
+        assert_eq!(rt; calls_of(rt.alloc(), going, TWO_PARTS, 1)?, (items, walked));
+        let longer = walked.wrapping_add(9);
+        assert_eq!(rt; calls_of(rt.alloc(), going, TWO_PARTS, 4)?, (items, longer));
     }
     Ok(())
 }

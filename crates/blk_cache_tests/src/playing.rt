@@ -3,6 +3,7 @@ use crate::counting::run_on;
 use crate::sessions::{LIMITS, held};
 use blk_io::{ListClock, MemSink, MemSource};
 use blk_run::{Status, session};
+use blk_test_folders::replies::{is_row, replies_in};
 use blk_test_folders::stopping::{Mem, again, empty};
 use std::alloc::Global;
 use std::test::Fail;
@@ -157,32 +158,6 @@ const AT_REST: [&[u8]; 13] = [
 // More steps than the session makes.
 const MOST_STEPS: u64 = 500;
 
-// How many of the replies were printed, where nothing else was but a front of the next.
-fn replies_in(printed: &[u8]) -> Option<usize> {
-    let mut rest = printed;
-    let mut count: usize = 0;
-    for reply in &REPLIES {
-        let Some(behind) = rest.strip_prefix(*reply) else {
-            return if reply.starts_with(rest) {
-                Some(count)
-            } else {
-                None
-            };
-        };
-        rest = behind;
-        count = count.wrapping_add(1);
-    }
-    if rest.is_empty() { Some(count) } else { None }
-}
-
-// Whether this is the list of what is at rest where so many commands are done.
-fn is_at_rest(done: usize, listed: &[u8]) -> bool {
-    match AT_REST.get(done) {
-        Some(rows) => *rows == listed,
-        None => false,
-    }
-}
-
 // The session of these commands where it is stopped after so many steps: how many replies were printed, what the word `list` prints of
 // what the folder has then, and whether the session came to its end.
 fn stopped_after(alloc: Global, steps: u64) -> Result<(Option<usize>, MemSink, bool), Fail> {
@@ -197,7 +172,7 @@ fn stopped_after(alloc: Global, steps: u64) -> Result<(Option<usize>, MemSink, b
     let mut listed = MemSink::new(alloc);
     let next = run_on(alloc, &mut f, "list", &mut listed)?;
     let replies = if next == Status::Ok {
-        replies_in(out.written())
+        replies_in(&REPLIES, out.written())
     } else {
         None
     };
@@ -211,8 +186,8 @@ fn a_session_of_twelve_commands_may_be_stopped_at_each_word(rt: HostRuntime) -> 
         let (replies, listed, ended) = stopped_after(rt.alloc(), steps)?;
         assert!(rt; replies.is_some(), "{steps}");
         let done = replies.unwrap_or(0);
-        let before = is_at_rest(done, listed.written());
-        let after = !ended && is_at_rest(done.wrapping_add(1), listed.written());
+        let before = is_row(&AT_REST, done, listed.written());
+        let after = !ended && is_row(&AT_REST, done.wrapping_add(1), listed.written());
         assert!(rt; before || after, "{steps}");
         if ended {
             whole = done == REPLIES.len();

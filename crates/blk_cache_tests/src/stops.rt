@@ -1,11 +1,8 @@
 // Commands that are stopped at each of their words.
 use crate::parts::sparse_folder;
 use crate::sessions::{Held, LIMITS, Session, held};
-use blk_audit::ScanFault;
-use blk_io::{FileId, MemSink, read_word};
 use blk_model::Limits;
-use blk_test_folders::folders::{DIRTY, TRANSACTION, audited, place_of};
-use blk_test_folders::stopping::{again, empty};
+use blk_test_folders::stopping::empty;
 use std::alloc::Global;
 use std::test::Fail;
 
@@ -136,122 +133,5 @@ fn a_write_and_a_doom_may_be_stopped(rt: HostRuntime) -> Result<(), Fail> {
         last: (0, 0),
     };
     assert!(rt; is_stopped_well(rt.alloc(), &case)?);
-    Ok(())
-}
-
-// Three objects with bytes, made and closed one after another.
-const WITH_BYTES: [&[u8]; 9] = [
-    b"create 0 a",
-    b"write 0 0 0 6161",
-    b"close 0",
-    b"create 0 b",
-    b"write 0 1 4999 62",
-    b"close 0",
-    b"create 0 c",
-    b"write 0 2 0 636363",
-    b"close 0",
-];
-
-// What is looked at in a session that follows: the list, and the bytes of each object.
-const LOOKS: [&[u8]; 7] = [
-    b"list",
-    b"open 1 a",
-    b"read 1 0 0 9",
-    b"open 2 b",
-    b"read 2 1 4998 9",
-    b"open 3 c",
-    b"read 3 2 0 9",
-];
-
-// What it prints before the second object is used, and after it.
-const AS_MADE: &[u8] = b"main c 0 0 3\nmain b 0 5000 0\nmain a 2 0 0\nend 3\n\
-    ok\ndata 2 6161\nok\ndata 2 0062\nok\ndata 3 636363\n";
-
-const AS_USED: &[u8] = b"main b 0 5000 0\nmain c 0 0 3\nmain a 2 0 0\nend 3\n\
-    ok\ndata 2 6161\nok\ndata 2 0062\nok\ndata 3 636363\n";
-
-// The node at a place of the use list.
-fn node_at(alloc: Global, session: &mut Session, place: usize) -> Result<u32, ScanFault> {
-    let scan = audited(alloc, &mut session.f)?;
-    match scan.kept_nodes().get(place) {
-        Some(node) => Ok(node.word()),
-        None => Ok(0),
-    }
-}
-
-// An Open of the second object that is stopped after so many steps: what the next session prints, whether the transaction word
-// names the node of the object, and whether the Open came to its end.
-fn opened_at(alloc: Global, steps: u64) -> Result<(MemSink, bool, bool), Fail> {
-    let mut session = Session::over(alloc, empty(alloc), LIMITS)?;
-    session.run(&WITH_BYTES)?;
-    let node = node_at(alloc, &mut session, 1)?;
-    let mut session = session.stopping(steps);
-    let ended = session.line(b"open 0 b").is_ok();
-    let mut f = again(session.f, u64::MAX);
-    let named = read_word(&mut f, FileId::Index, TRANSACTION)? == node;
-    let mut next = Session::over(alloc, f, LIMITS)?;
-    next.run(&LOOKS)?;
-    Ok((next.out, named, ended))
-}
-
-#[test]
-fn an_open_turns_at_the_word_that_names_its_node(rt: HostRuntime) -> Result<(), Fail> {
-    let (mut turned, mut whole) = (false, false);
-    for steps in 0..MOST_STEPS {
-        let (out, named, ended) = opened_at(rt.alloc(), steps)?;
-        assert!(rt; steps > 0 || !named);
-        turned = turned || named;
-        assert_eq!(rt; out.written(), if turned { AS_USED } else { AS_MADE });
-        if ended {
-            whole = turned;
-            break;
-        }
-    }
-    assert!(rt; whole);
-    Ok(())
-}
-
-// An object that is closed, and another one that was closed once.
-const CLOSED_ONCE: [&[u8]; 5] = [
-    b"create 0 b",
-    b"close 0",
-    b"create 1 a",
-    b"write 1 1 0 7a",
-    b"close 1",
-];
-
-// How that one is changed.
-const CHANGED: [&[u8]; 2] = [b"open 1 a", b"write 1 0 0 7a7a"];
-
-// A Close of the changed object that is stopped after so many steps: what is held, the dirty word of its node, and whether the
-// Close came to its end.
-fn closed_at(alloc: Global, steps: u64) -> Result<(Held, u32, bool), Fail> {
-    let mut session = Session::over(alloc, empty(alloc), LIMITS)?;
-    session.run(&CLOSED_ONCE)?;
-    let (file, place) = place_of(node_at(alloc, &mut session, 0)?);
-    session.run(&CHANGED)?;
-    let mut session = session.stopping(steps);
-    let ended = session.line(b"close 1").is_ok();
-    let mut f = again(session.f, u64::MAX);
-    let dirty = read_word(&mut f, file, place.wrapping_add(DIRTY))?;
-    Ok((held(alloc, f)?, dirty, ended))
-}
-
-#[test]
-fn a_close_turns_at_the_clean_word(rt: HostRuntime) -> Result<(), Fail> {
-    let (first, _, _) = closed_at(rt.alloc(), 0)?;
-    let (last, _, _) = closed_at(rt.alloc(), u64::MAX)?;
-    assert_eq!(rt; (first.0, first.1), (1, 1));
-    assert_eq!(rt; (last.0, last.1), (2, 5));
-    let mut whole = false;
-    for steps in 0..MOST_STEPS {
-        let (now, dirty, ended) = closed_at(rt.alloc(), steps)?;
-        assert_eq!(rt; now, if dirty == 0 { last } else { first });
-        if ended {
-            whole = dirty == 0;
-            break;
-        }
-    }
-    assert!(rt; whole);
     Ok(())
 }

@@ -1,6 +1,9 @@
-//! Folders in memory for tests: written by the format alone, what is found in them, and those that stop after so many steps.
+//! Folders in memory for tests: written by the format alone, what is found in them, and those that stop after so many steps; and the
+//! inputs and replies of sessions over them.
 #![tactic(auto)]
 
 pub mod folders;
 pub mod found;
+pub mod inputs;
+pub mod replies;
 pub mod stopping;

@@ -1,0 +1,18 @@
+//! The tests of whole runs that meet faults: calls of the folder, the input and the output that fail, stops at each word, folders that
+//! are damaged, and one whose words are computed.
+#![tactic(auto)]
+
+#[cfg(test)]
+mod computed;
+#[cfg(test)]
+mod damaged;
+#[cfg(test)]
+mod failing;
+#[cfg(test)]
+mod hostile;
+#[cfg(test)]
+mod running;
+#[cfg(test)]
+mod stopped;
+#[cfg(test)]
+mod twelve;
