@@ -70,10 +70,59 @@ is 'an input that cannot be read' '4 ' "$? $(cat "$room/said")"
 is 'the folder is left' "$before" "$(both "$room/long")"
 make damaged "$room/damaged"
 before=$(both "$room/damaged")
-for it in session list 'get a 0' 'put a 0' 'doom a' 'trim 0' count; do
+for it in session list 'get a 0' 'put a 0' 'doom a' 'trim 0' count 'inspect list' 'inspect address a1010004' verify 'gen 1 1'; do
     says "$it on a damaged folder" "$room/damaged" 7 "$(line_of damaged)" $it
 done
 is 'they leave it' "$before" "$(both "$room/damaged")"
+
+# A folder is inspected and verified, and left as it is; no index is made.
+mkdir "$room/unmade"
+says 'verify of a folder without an index' "$room/unmade" 0 unfinished verify
+says 'inspect of one' "$room/unmade" 0 unfinished inspect address a1010004
+is 'no index is made' '' "$(picture "$room/unmade")"
+make finished "$room/inspected"
+before=$(both "$room/inspected")
+zeros=$(printf '%s 00000000\n' num_entries num_bytes last_file)
+more=$(printf '%s 00000000\n' crash experiment size head tail transaction operation)
+says 'the index' "$room/inspected" 0 $'magic c103cac3\nversion 00020000\n'"$zeros"$'\nthis_id 00000001\nstats 00000000\ntable_len 00010000\n'"$more" inspect index
+says 'a block address' "$room/inspected" 0 'block 2 1 4 2' inspect address a1010004
+says 'an external address' "$room/inspected" 0 'external 1' inspect address 80000001
+says 'no address' "$room/inspected" 0 none inspect address a4010000
+run "$room/inspected" inspect file 0
+is 'a file that is linked' $'0 16\nmagic c104cac3\nversion 00020000\nthis_file 00000000' "$status $(wc -l <"$room/said")"$'\n'"$(head -n 3 "$room/said")"
+says 'a file that is not linked' "$room/inspected" 0 none inspect file 255
+says 'no node' "$room/inspected" 0 'end 0' inspect list
+says 'no record' "$room/inspected" 0 'end 0' inspect chain 65535
+says 'no entry' "$room/inspected" 0 none inspect entry a1010004
+says 'nothing is kept' "$room/inspected" 0 $'kept 0\nitems 0 bytes 0' verify
+says 'options change nothing' "$room/inspected" 0 $'kept 0\nitems 0 bytes 0' --max 1 -- verify
+is 'the folder is left by all of these' "$before" "$(both "$room/inspected")"
+make entries "$room/entry"
+before=$(both "$room/entry")
+says 'an entry is kept' "$room/entry" 0 $'kept 1\nitems 1 bytes 1' verify
+says 'its node' "$room/entry" 0 $'node 90000000 contents a0010000 dirty 00000000\nend 1' inspect list
+run "$room/entry" inspect entry a0010000
+is 'its record' $'0 16\nstate 00000000\nkey_len 00000001' "$status $(wc -l <"$room/said")"$'\n'"$(sed -n 4,5p "$room/said")"
+is 'its folder is left' "$before" "$(both "$room/entry")"
+
+# The generator. What it prints was worked out by another program.
+generated() {
+    local folder=$room/generated-$((generated_number += 1))
+    mkdir "$folder"
+    says "$*" "$folder" 0 "$1" "${@:2}"
+}
+generated_number=0
+generated $'commands 0 refused 0 evicted 0 read 0\nitems 0 bytes 0' gen 0 0
+generated $'commands 5 refused 1 evicted 0 read 16945\nitems 1 bytes 16949' gen 0 1
+folder=$room/generated-2
+says 'its key' "$folder" 0 $'main k807 16945 0 0\nend 1' list
+is 'its bytes' '16945  00 01 02 03' "$(stat -c %s "$folder/f_000001") $(head -c 4 "$folder/f_000001" | od -An -tx1)"
+says 'a turn whose object is there' "$folder" 0 $'commands 4 refused 0 evicted 0 read 16945\nitems 1 bytes 16949' gen 0 1
+for it in 1 2; do
+    generated $'commands 8847 refused 847 evicted 0 read 20143015\nitems 847 bytes 14808143' gen 7 2000
+done
+generated $'commands 1493 refused 293 evicted 275 read 2761963\nitems 18 bytes 197884' gen 7 300 --max 200000
+generated $'commands 992 refused 192 evicted 152 read 2111745\nitems 40 bytes 357632' --items 40 gen 3 200
 
 # What is in the grammar. The options stand anywhere before a word --, and behind it all words are ordinary.
 folder=$room/grammar
@@ -130,8 +179,20 @@ outside --maximum=5 count
 outside count -- -x
 outside -- --max 5 count
 outside -- -- count
-outside inspect list
-outside verify
-outside gen 0 0
+outside inspect
+outside inspect lists
+outside inspect list 0
+outside inspect file
+outside inspect file 256
+outside inspect chain 65536
+outside inspect address A1010004
+outside inspect address a101000
+outside inspect entry 0xa1010004
+outside verify x
+outside gen 1
+outside gen 1 100001
+outside gen 01 0
+outside gen 18446744073709551616 0
+outside gen 1 1 1
 is 'the folder is left by all of these' "$before" "$(both "$folder")"
 finish

@@ -44,7 +44,9 @@ is 'that file stays' kept "$(cat "$room/others/readme")"
 
 answers 'a folder that is not there' "$room/nowhere" '3 '
 run "$room/nowhere" verify
-is 'it goes before words that are not built' '3 ' "$status $said$complained"
+is 'nor can it be verified' '3 ' "$status $said$complained"
+run "$room/nowhere" verifies
+is 'it goes before words outside the grammar' '3 ' "$status $said$complained"
 printf x >"$room/file"
 answers 'a file in place of the folder' "$room/file" '3 '
 is 'that file stays as it is' x "$(cat "$room/file")"

@@ -22,7 +22,7 @@ refused 'another word' "$folder" counts
 refused 'an upper-case word' "$folder" COUNT
 refused 'an empty word' "$folder" ''
 refused 'a word too many' "$folder" count count
-refused 'a word that is not built yet' "$folder" verify
+refused 'a word behind verify' "$folder" verify verify
 for it in "${bad[@]}"; do
     refused "the word $(printf %q "$it")" "$folder" "$it"
     refused "count and $(printf %q "$it")" "$folder" count "$it"
