@@ -467,7 +467,7 @@ fn at_each_word_of_a_move_the_record_names_old_bytes_or_new(rt: HostRuntime) -> 
 fn few_calls_write_a_stream(rt: HostRuntime) -> Result<(), Fail> {
     let mut f = bare(rt.alloc())?;
     let cases = [
-        (0, 0, false, 1000, 14),
+        (0, 0, false, 1000, 16),
         (0, 10, false, 100, 2),
         (0, 1000, false, 5, 5),
         (0, 1015, false, 5, 6),

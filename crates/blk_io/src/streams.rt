@@ -28,7 +28,8 @@ pub trait Source {
 
 /// Where bytes go that are printed.
 ///
-/// A call that answers `Failed` may have written a front of its bytes, and is counted in `faults`.
+/// A sink may gather bytes, as long as it isn't flushed; those that it holds count as written. A call that answers
+/// `Failed` may have written a front of its bytes, and is counted in `faults`.
 pub trait Sink {
     /// The bytes that were written, where they are told.
     ghost written: { Self → Option (List ℕ) };
@@ -40,6 +41,12 @@ pub trait Sink {
     fn put(&mut self, bytes: &[u8]) -> Result<(), Failed>
         ensures steps { OnOk result (written self.new ≡ option_map (λ w. w ++ bytes.now) (written self.old)) }
         ensures prefix { Appends (written self.old) (written self.new) bytes.now }
+        ensures later { faults self.old ≤ faults self.new }
+        ensures failed { OnErr result (Rises (faults self.old) (faults self.new)) };
+
+    /// Hands on the bytes that are held, at the end of a text. Nothing more is written.
+    fn flush(&mut self) -> Result<(), Failed>
+        ensures stays { written self.new ≡ written self.old }
         ensures later { faults self.old ≤ faults self.new }
         ensures failed { OnErr result (Rises (faults self.old) (faults self.new)) };
 }

@@ -44,4 +44,8 @@ impl Sink for Unshown {
     fn put(&mut self, _bytes: &[u8]) -> Result<(), Failed> {
         Ok(())
     }
+
+    fn flush(&mut self) -> Result<(), Failed> {
+        Ok(())
+    }
 }
