@@ -7,19 +7,24 @@ use crate::spelling::name_of;
 use blk_addr::BLOCK_FILES;
 use blk_io::FileId;
 use std::alloc::{AllocError, Global};
-use std::fs::{File, OpenOptions};
+use std::fs::{File, Metadata, OpenOptions};
 use std::io::ErrorKind;
 use std::os::fd::AsRawFd;
+use std::os::unix::fs::FileExt;
 use std::rt::Files;
 use std::{array, fs, io};
 
 // The descriptors of the standard streams are 0 to this one.
 const LAST_STREAM: i32 = 2;
 
-// An open file of the folder. Its descriptor is none of the standard streams', so nothing that is printed gets into it.
+/// An open file of the folder. Its descriptor is none of the standard streams', so nothing that is printed gets into it.
+///
+/// Nobody else writes the folder, so the machine is asked once for the file's length, and again where a change of it failed.
 #[derive(Drop)]
-struct OpenFile {
+pub struct OpenFile {
     file: File,
+    // The length in bytes, where it is known.
+    length: Option<u64>,
     ghost above: { pos 2 <ℤ file_raw_fd file },
 }
 
@@ -29,8 +34,50 @@ impl OpenFile {
         if file.as_raw_fd() <= LAST_STREAM {
             return Err(io::Error::from(ErrorKind::Other));
         }
-        Ok(OpenFile { file })
+        Ok(OpenFile { file, length: None })
     }
+
+    /// The file of the machine. It has the descriptor of no standard stream.
+    pub fn file(&self) -> &File
+        ensures above { pos 2 <ℤ file_raw_fd result.now }
+    {
+        &self.file
+    }
+
+    /// The length in bytes.
+    pub fn length(&mut self) -> io::Result<u64> {
+        if let Some(length) = self.length {
+            return Ok(length);
+        }
+        let length = metadata_of(&self.file)?.len();
+        self.length = Some(length);
+        Ok(length)
+    }
+
+    /// Gives it this length in bytes, by a call of the machine unless it is known to have it.
+    pub fn set_len(&mut self, length: u64) -> io::Result<()> {
+        if self.length == Some(length) {
+            return Ok(());
+        }
+        self.length = None;
+        self.file.set_len(length)?;
+        self.length = Some(length);
+        Ok(())
+    }
+
+    /// Writes bytes from a place on. The file is longer then, where they end behind its end.
+    pub fn write_at(&mut self, at: u64, bytes: &[u8]) -> io::Result<()> {
+        let known = self.length.take();
+        self.file.write_all_at(bytes, at)?;
+        let end = at.saturating_add(bytes.len() as u64);
+        self.length = known.map(|length| length.max(end));
+        Ok(())
+    }
+}
+
+// What the machine says of a file.
+fn metadata_of(file: &File) -> io::Result<Metadata> {
+    again(|| file.metadata())
 }
 
 // The open files: the index, the block files, and the external file that was used last.
@@ -91,35 +138,33 @@ impl<R: Files<File = File> + Drop> Disk<R> {
         }
     }
 
-    /// A file that is there, which is opened unless it is open. It has the descriptor of no standard stream.
-    pub fn open(&mut self, file: FileId) -> io::Result<&File>
-        ensures above { IfOk result (λ found. pos 2 <ℤ file_raw_fd found.now) }
-    {
+    /// A file that is there, which is opened unless it is open.
+    pub fn open(&mut self, file: FileId) -> io::Result<&mut OpenFile> {
         let place = self.open.place(file);
         match place {
-            Some(open) => Ok(&open.file),
+            Some(open) => Ok(open),
             None => {
                 let path = path_of(self.alloc, self.path.as_str(), file)?;
                 let open = OpenOptions::new()
                     .read(true)
                     .write(true)
                     .open(&self.rt, path)?;
-                Ok(&place.insert(OpenFile::new(open)?).file)
+                Ok(place.insert(OpenFile::new(open)?))
             }
         }
     }
 
-    /// Makes a file that is not there, with no bytes. It fails where there is one. The file has the descriptor of no standard stream.
-    pub fn create(&mut self, file: FileId) -> io::Result<&File>
-        ensures above { IfOk result (λ found. pos 2 <ℤ file_raw_fd found.now) }
-    {
+    /// Makes a file that is not there, with no bytes. It fails where there is one.
+    pub fn create(&mut self, file: FileId) -> io::Result<&mut OpenFile> {
         let path = path_of(self.alloc, self.path.as_str(), file)?;
         let open = OpenOptions::new()
             .read(true)
             .write(true)
             .create_new(true)
             .open(&self.rt, path)?;
-        Ok(&self.open.place(file).insert(OpenFile::new(open)?).file)
+        let mut made = OpenFile::new(open)?;
+        made.length = Some(0);
+        Ok(self.open.place(file).insert(made))
     }
 
     /// Removes a file that is there, and closes it.

@@ -72,8 +72,7 @@ impl<R: Files<File = File> + Drop> DiskFiles<R> {
         if !self.names.has(file) {
             return Ok(None);
         }
-        let open = self.disk.open(file)?;
-        Ok(Some(again(|| open.metadata())?.len()))
+        Ok(Some(self.disk.open(file)?.length()?))
     }
 
     /// Moves the file's bytes from a place on into the front of `out`, as many as there are, and gives their number.
@@ -85,14 +84,14 @@ impl<R: Files<File = File> + Drop> DiskFiles<R> {
         if !self.names.has(file) {
             return Ok(0);
         }
-        read_from(self.disk.open(file)?, at, out)
+        read_from(self.disk.open(file)?.file(), at, out)
     }
 
     /// Writes the bytes over those of the file from a place on.
     pub fn write_at(&mut self, file: FileId, at: u64, bytes: &[u8]) -> io::Result<()>
         ensures { self.new.names ≡ self.old.names }
     {
-        self.disk.open(file)?.write_all_at(bytes, at)
+        self.disk.open(file)?.write_at(at, bytes)
     }
 
     /// Gives the file this length, and makes it where there is none.

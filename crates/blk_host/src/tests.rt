@@ -107,6 +107,15 @@ fn without(folder: &mut Machine, file: FileId, before: FileId) -> Result<Option<
     folder.list(Some(before))
 }
 
+// The lengths of a file after it was given these.
+fn lengths_given(
+    folder: &mut Machine,
+    file: FileId,
+    given: [u64; 3],
+) -> [Result<Option<u64>, Failed>; 3] {
+    given.map(|length| folder.set_len(file, length).and(folder.length(file)))
+}
+
 #[test]
 fn a_real_folder_keeps_its_files(rt: HostRuntime) -> io::Result<()> {
     let path = new_folder(rt, "keeps")?;
@@ -132,6 +141,10 @@ fn a_real_folder_keeps_its_files(rt: HostRuntime) -> io::Result<()> {
     ];
     assert!(rt; bytes_of(&mut folder) == Ok(bytes));
     assert!(rt; without(&mut folder, LOW, block) == Ok(Some(HIGH)));
+    assert!(rt;
+        lengths_given(&mut folder, block, [4096, 4096, 0])
+            == [Ok(Some(4096)), Ok(Some(4096)), Ok(Some(0))]
+    );
     fs::remove_dir_all(&rt, path.as_str())
 }
 
