@@ -1,8 +1,12 @@
 """The workloads, as scripts of the program's own language. Each is drawn from a fixed seed."""
 
 import random
+from collections import namedtuple
 
 SEED = 20261129
+DEFAULT_BYTES = 83_886_080
+LARGE_BYTES = 1_000_000_000
+MIX_BYTES = 16_777_216
 
 
 def data(draw, count):
@@ -43,14 +47,14 @@ def large_writes(out, part):
 
 
 def mix(out, part):
-    """Commands of which a third each write, read and open, at a limit that evicts."""
-    for _ in range(50_000 // part // 3):
-        name = key(out.draw.randrange(20_000 // part))
-        kind = out.draw.randrange(3)
-        if kind == 0:
-            out.write(f"create 0 {name}\nwrite 0 0 0 {data(out.draw, out.draw.randrange(200, 4000))}\nclose 0\n")
+    """Turns of which a third write an entry, new or not, in four commands, and two thirds read one, in three. 40 MB are written, so one of four goes again."""
+    for _ in range(15_000 // part):
+        name = key(out.draw.randrange(4_000 // part))
+        if out.draw.randrange(3) == 0:
+            stream = data(out.draw, out.draw.randrange(200, 16_000))
+            out.write(f"create 0 {name}\nopen 0 {name}\ncut 0 0 0 {stream}\nclose 0\n")
         else:
-            out.write(f"open 0 {name}\nread 0 0 0 4000\nclose 0\n")
+            out.write(f"open 0 {name}\nread 0 0 0 16000\nclose 0\n")
 
 
 def opening(count):
@@ -61,7 +65,7 @@ def opening(count):
 
 
 def sparse(out, part):
-    """Writes over 64 MiB of one object, and ranges in it."""
+    """Writes of 4 KiB over 64 MiB of one object, and the first range of bytes that are there in a mebibyte."""
     mebibytes = 64 // min(part, 64)
     out.write("create 0 sparse\n")
     for _ in range(2_000 // part):
@@ -71,16 +75,23 @@ def sparse(out, part):
     out.write("close 0\n")
 
 
-# Name: what is made before, what is measured, the program's words, and whether its peers can do it.
+# What is made before, what is measured, the limit in bytes, which a smaller part lowers where it is to be met, and the program's last word.
+Workload = namedtuple("Workload", "before work limit word", defaults=(DEFAULT_BYTES, "session"))
+
 WORKLOADS = {
-    "1 small writes": (None, small_writes, ["session"], True),
-    "2 reads": (reads_before, reads, ["session"], True),
-    "3 large writes": (None, large_writes, ["--max", "1000000000", "session"], True),
-    "4 mix with evictions": (None, mix, ["--max", "16777216", "session"], True),
-    "5 opening of 20,000": (opening(20_000), None, ["count"], False),
-    "5 opening of 100,000": (opening(100_000), None, ["--items", "131072", "count"], False),
-    "6 sparse writes": (None, sparse, ["--max", "1000000000", "session"], False),
+    "1 small writes": Workload(None, small_writes),
+    "2 reads": Workload(reads_before, reads),
+    "3 large writes": Workload(None, large_writes, LARGE_BYTES),
+    "4 mix with evictions": Workload(None, mix, MIX_BYTES),
+    "5 opening of 20,000": Workload(opening(20_000), None, word="count"),
+    "5 opening of 100,000": Workload(opening(100_000), None, word="count"),
+    "6 sparse writes": Workload(None, sparse, LARGE_BYTES),
 }
+
+
+def limit_of(workload, part):
+    """The limit in bytes, for a part of the workload. A stream may have an eighth of it."""
+    return max(workload.limit // part, 262_144) if workload.limit == MIX_BYTES else workload.limit
 
 
 class Script:
