@@ -444,11 +444,11 @@ fn first_wrong(alloc: Global, write: &Write, sized: u64, all: u64) -> Result<Opt
 #[test]
 fn at_each_word_of_a_move_the_record_names_old_bytes_or_new(rt: HostRuntime) -> Result<(), Fail> {
     let moves = [
-        (0, 0, false, 10, 13, 15),
-        (10, 10, false, 290, 86, 96),
+        (0, 0, false, 10, 14, 16),
+        (10, 10, false, 290, 87, 97),
         (10, 17000, false, 4, 9, 19),
-        (1100, 0, true, 10, 13, 23),
-        (16385, 0, true, 10, 13, 16),
+        (1100, 0, true, 10, 14, 24),
+        (16385, 0, true, 10, 14, 17),
         (10, 0, true, 0, 2, 12),
     ];
     for (had, offset, cut, count, sized, all) in moves {
@@ -471,14 +471,14 @@ fn few_calls_write_a_stream(rt: HostRuntime) -> Result<(), Fail> {
         (0, 10, false, 100, 2),
         (0, 1000, false, 5, 5),
         (0, 1015, false, 5, 6),
-        (0, 1020, false, 980, 26),
+        (0, 1020, false, 980, 29),
         (0, 2000, false, 18000, 20),
         (0, 20000, false, 5, 6),
-        (0, 0, true, 10, 15),
+        (0, 0, true, 10, 17),
         (0, 0, true, 0, 12),
         (1, 0, false, 20000, 11),
         (1, 0, true, 0, 6),
-        (2, 0, false, 10000, 17),
+        (2, 0, false, 10000, 20),
         (2, 10000, false, 10000, 24),
     ];
     for (stream, offset, cut, count, calls) in cases {
