@@ -1,7 +1,7 @@
 -- The items from the back of the use list, as their nodes are met.
 use Rattle.std.proofs.Common.{◌≡◌, ℕ, suc, ◌+◌, ◌≤◌, Bool, ◌||◌, List, [], ◌∷◌, ◌++◌, length, Option, Some, None, true, false, refl, sym, ap, subst, ◌∙◌, arith, append_assoc}
 use Rattle.std.specs.List.{AllByRecursion}
-use Rattle.std.proofs.lemmas.List.{map-append}
+use Rattle.std.proofs.lemmas.List.{length-map, map-append}
 use Rattle.blk_image.specs.Image.{Image}
 use Rattle.blk_image.proofs.Runs.{some_inj}
 use Rattle.blk_model.specs.Items.{Item}
@@ -18,7 +18,6 @@ use Rattle.blk_handles.specs.Bindings.{is_open}
 use Rattle.blk_kept.proofs.Free.{standing-at}
 use Rattle.blk_lru.specs.Lists.{last_node_of}
 use Rattle.blk_object.specs.ListedParts.{LoadsAt}
-use Rattle.blk_object.proofs.MakingRoom.{uses-few}
 use Rattle.blk_cache.specs.declared.cache.Cache.{Cache}
 use Rattle.blk_items.specs.declared.list_places.Unpinned.{Unpinned}
 use Rattle.blk_cache.specs.declared.covered.Covered.{Covered}
@@ -64,13 +63,6 @@ length-both : (front rest : List Item) → length (front ++ rest) ≡ length fro
 length-both [] rest = omega arith
 length-both (i ∷ front) rest = let e = length-both front rest in omega (arith, e)
 
-longer : (front rest : List Item) → suc (length (front ++ rest)) ≤ length rest → ⊥
-longer front rest few = let e = length-both front rest in omega (arith, e, few)
-
-no-front : (front rest : List Item) → length (front ++ rest) ≤ length rest → front ≡ []
-no-front [] rest few = refl
-no-front (i ∷ front) rest few = absurd (longer front rest few)
-
 -- the record that the node says
 said-contents : (image : Image) (w : ℕ) (n : NodeFields) → node_fields_at image w ≡ Some n → stands_as image rankings w ≡ true → (node_at image w).contents ≡ n.contents
 unfolding node_fields_at
@@ -99,14 +91,15 @@ module _ (cache : Cache) (state : State) (image : Image) (kept : KeepsState cach
   pub none-left : (covered : List Item) (behind : Option ℕ) (p : IsPinnedFrom state kept.layout covered behind) → ◌≡◌ {A = Option ℕ} None (last_node_of (nodes_of kept.layout p.front)) → AreAllPinned state covered
   none-left covered behind p e = subst (λ (is : List Item). AllByRecursion (λ item. is_pinned state covered item ≡ true) is) (sym (p.listed ∙ ap (λ (f : List Item). f ++ p.rest) (ends-none kept.layout p.front e))) p.pinned
 
-  pub all-met : (covered : List Item) (behind : Option ℕ) (count : ℕ) → cache.items ≤ count → (p : IsPinnedSoFar state kept.layout covered behind count) → AreAllPinned state covered
-  all-met covered behind count enough p =
-      let few = uses-few state kept.layout [] image kept.kept.entries in
+  -- no more than that are met
+  pub met-few : (covered : List Item) (behind : Option ℕ) (count : ℕ) → 131073 ≤ count → IsPinnedSoFar state kept.layout covered behind count → ⊥
+  met-few covered behind count enough p =
+      let few = kept.kept.entries.represents.list.few in
       let many = p.many in
-      let are = kept.items_are in
+      let nodes : length (order state kept.layout) ≡ length state.uses = length-map state.uses kept.layout.place in
       let long : length state.uses ≡ length (p.from.front ++ p.from.rest) = ap (λ (is : List Item). length is) p.from.listed in
-      let none : p.from.front ≡ [] = no-front p.from.front p.from.rest (omega (arith, few, many, are, long, enough)) in
-      subst (λ (is : List Item). AllByRecursion (λ item. is_pinned state covered item ≡ true) is) (sym (p.from.listed ∙ ap (λ (f : List Item). f ++ p.from.rest) none)) p.from.pinned
+      let both = length-both p.from.front p.from.rest in
+      omega (arith, few, many, nodes, long, both, enough)
 
   -- a node is in front
   module _ (covered : List Item) (behind : Option ℕ) (p : IsPinnedFrom state kept.layout covered behind) (node : ℕ) (e : ◌≡◌ {A = Option ℕ} (Some node) (last_node_of (nodes_of kept.layout p.front))) where

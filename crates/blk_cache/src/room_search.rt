@@ -8,6 +8,7 @@ ghost use Rattle.blk_model.specs.State.{State};
 ghost use Rattle.blk_disk.specs.Tables.{is_node_among, is_record_among};
 ghost use Rattle.blk_handles.specs.Bindings.{is_open};
 ghost use Rattle.blk_object.specs.FailedChecks.{IsFailedCheck};
+ghost use Rattle.blk_object.specs.ListWalks.{WalkEnds};
 ghost use Rattle.blk_cache.specs.CacheKeeping.{KeepsState};
 ghost use Rattle.blk_cache.specs.Covering.{LieCovered, covers};
 ghost use Rattle.blk_items.specs.ListPlaces.{IsLast, IsPinnedFrom};
@@ -18,11 +19,13 @@ use crate::covered::Covered;
 use blk_addr::Addr;
 use blk_io::{Fault, Folder};
 use blk_items::{Unpinned, in_front};
-use blk_object::entry_named;
+use blk_object::{MOST_NODES, end_walk, entry_named};
+use blk_record::NodeView;
 
 impl Cache {
     /// The last item of the use list that isn't pinned, of those in front of a node, from which on all are; without a
-    /// node, of all items. Nothing is written.
+    /// node, of all items. Nothing is written. A list that goes on behind 131073 nodes, from the back on, is a damage, of the
+    /// prev of the last one.
     pub(crate) fn last_unpinned<F: Folder>(
         &self,
         f: &mut F,
@@ -31,6 +34,10 @@ impl Cache {
     ) -> Result<Option<Unpinned>, Fault>
         requires stands { IfSome behind (λ node. IsTrue (is_node_among self.now.files node)) }
         ensures last { IfOk result (λ found. ForSome (F.told f.old).files (λ image. (state : State) (kept : KeepsState self.now state image) (covered : List Item) → LieCovered state kept.layout covered parts.now → IsPinnedFrom state kept.layout covered behind → IsLast state kept.layout covered found)) }
+
+        // On every folder none is found only where the list ends.
+        ensures ends { IfOk result (λ found. found ≡ None → ForSome (F.told f.old).files (WalkEnds self.now.files NodeView.PREV behind)) }
+
         ensures node_stands { IfOk result (λ found. IfSome found (λ item. IsTrue (is_node_among self.now.files item.node))) }
         ensures record_stands { IfOk result (λ found. IfSome found (λ item. IsTrue (is_record_among self.now.files item.entry))) }
         ensures next_stands { IfOk result (λ found. IfSome found (λ item. IfSome item.behind (λ node. IsTrue (is_node_among self.now.files node)))) }
@@ -46,7 +53,7 @@ impl Cache {
         ensures device { IfDevice result (Rises (F.faults f.old) (F.faults f.new)) }
     {
         let mut behind = behind;
-        for _ in 0..self.items {
+        for _ in 0..MOST_NODES + 1 {
             let Some(node) = in_front(f, &self.files, &behind)? else {
                 return Ok(None);
             };
@@ -60,6 +67,8 @@ impl Cache {
             }
             behind = Some(node);
         }
+        let next = in_front(f, &self.files, &behind)?;
+        end_walk(behind, NodeView::PREV, next)?;
         Ok(None)
     }
 

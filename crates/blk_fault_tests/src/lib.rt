@@ -11,6 +11,8 @@ mod failing;
 #[cfg(test)]
 mod hostile;
 #[cfg(test)]
+mod ring;
+#[cfg(test)]
 mod running;
 #[cfg(test)]
 mod stopped;

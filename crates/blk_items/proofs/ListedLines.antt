@@ -109,6 +109,17 @@ turns-ended state layout next turn before failed old new image k end w = all-pri
       let many = w.many in
       absurd (omega (arith, few, nodes, parts, joined, many, end))
 
+-- a list has no more nodes than that
+pub turns-few : (state : State) (layout : Layout) (next : Option ℕ) (turn : ℕ) (before failed : Bool) (old new : Option (List ℕ)) (image : Image) → Keeps state layout [] image → 131073 ≤ turn
+    → IsListedTo state layout next turn before failed old new → ⊥
+turns-few state layout next turn before failed old new image k end w =
+    let few = k.entries.represents.list.few in
+    let nodes : length (nodes_of layout state.uses) ≡ length state.uses = length-map state.uses layout.place in
+    let parts : length state.uses ≡ length (w.passed ++ w.left) = ap (λ (xs : List Item). length xs) w.split in
+    let joined = length-append w.passed w.left in
+    let many = w.many in
+    omega (arith, few, nodes, parts, joined, many, end)
+
 -- ---- the item at the next node
 
 -- the first of what is left lies there

@@ -15,6 +15,7 @@ ghost use Rattle.blk_format.specs.Names.{read_name};
 ghost use Rattle.blk_format.specs.Records.{child};
 ghost use Rattle.blk_object.specs.FailedChecks.{IsFailedCheck};
 ghost use Rattle.blk_object.specs.ListedParts.{LoadsAt};
+ghost use Rattle.blk_object.specs.ListWalks.{WalkEnds};
 ghost use Rattle.blk_items.specs.ItemRows.{HasState, IsToldBy};
 ghost use Rattle.blk_items.specs.RoomPrinting.{FailsWhereItRose, Prints, PrintsInPart};
 
@@ -26,12 +27,9 @@ use blk_disk::BlockFiles;
 use blk_entry::{Head, key_piece, read_head, record_damage};
 use blk_io::{Fault, Folder, Sink};
 use blk_lru::{after, first};
-use blk_object::entry_named;
+use blk_object::{MOST_NODES, end_walk, entry_named};
 use blk_ranges::read_child_name;
-use blk_record::EntryView;
-
-// The most nodes of a use list.
-const MOST_NODES: u32 = 131_072;
+use blk_record::{EntryView, NodeView};
 
 // The flags of the record of a part.
 const CHILD: u32 = 2;
@@ -40,7 +38,7 @@ const CHILD: u32 = 2;
 /// its streams, and of a part its number and how many bytes it has. Keys and names are read into `name`.
 ///
 /// One folder call finds the first item, and five more are made for each. Nothing is written. After a fault a front of the
-/// lines is printed.
+/// lines is printed. A list that goes on behind 131073 nodes is a damage, of the next of the last one.
 pub fn print_items<F: Folder, K: Sink>(
     f: &mut F,
     files: &BlockFiles,
@@ -51,6 +49,10 @@ pub fn print_items<F: Folder, K: Sink>(
     requires room { most_key ≤ length name.old }
     ensures printed { OnOk result (ForSome (F.told f.old).files (λ image. (p : HasState files.now image) → Prints failed.old failed.new (K.written out.old) (K.written out.new) (flat_map row_line (rows p.state)))) }
     ensures part { ForSome (F.told f.old).files (λ image. (p : HasState files.now image) → PrintsInPart failed.old (K.written out.old) (K.written out.new) (flat_map row_line (rows p.state))) }
+
+    // On every folder it is done only where the list ends.
+    ensures ends { OnOk result (ForSome (F.told f.old).files (WalkEnds files.now NodeView.NEXT None)) }
+
     ensures failed { FailsWhereItRose failed.old failed.new (K.faults out.old) (K.faults out.new) }
     ensures stays { Stays (F.told f.old) (F.told f.new) }
     ensures damaged { IfDamaged result (IsFailedCheck files.now (F.told f.new)) }
@@ -59,15 +61,17 @@ pub fn print_items<F: Folder, K: Sink>(
     ensures later_out { K.faults out.old ≤ K.faults out.new }
     ensures device { IfDevice result (Rises (F.faults f.old) (F.faults f.new)) }
 {
+    let mut last = None;
     let mut next = first(f, files)?;
-    for _ in 0..MOST_NODES {
+    for _ in 0..MOST_NODES + 1 {
         let Some(node) = next else {
             return Ok(());
         };
         print_row(f, files, name, node, out, failed)?;
+        last = Some(node);
         next = after(f, files, node)?;
     }
-    Ok(())
+    end_walk(last, NodeView::NEXT, next)
 }
 
 // Prints the row of an item, by its record and its key or name, which is read into `name`.

@@ -7,12 +7,14 @@ ghost use Rattle.blk_lru.specs.Lists.{last_node_of};
 ghost use Rattle.blk_disk.specs.Open.{IsOpen};
 ghost use Rattle.blk_disk.specs.Tables.{Agrees, is_node_among};
 ghost use Rattle.blk_object.specs.FailedChecks.{IsFailedCheck};
+ghost use Rattle.blk_object.specs.ListWalks.{GoesTo};
 ghost use Rattle.blk_items.specs.ListPlaces.{AreInFront, IsPlaceInList};
 
 use blk_addr::Addr;
 use blk_disk::BlockFiles;
 use blk_io::{Fault, Folder};
 use blk_lru::{before, last};
+use blk_record::NodeView;
 
 /// An item that isn't pinned: its node and its record, and the node next behind it in the use list.
 #[derive(Clone, Copy, Debug)]
@@ -30,6 +32,7 @@ pub fn in_front<F: Folder>(
 ) -> Result<Option<Addr>, Fault>
     requires stands { IfSome behind.now (λ node. IsTrue (is_node_among files.now node)) }
     ensures node { IfOk result (λ node. ForSome (F.told f.old).files (λ image. Agrees files.now image → (front : List ℕ) → AreInFront front behind.now image → node ≡ last_node_of front)) }
+    ensures word { IfOk result (λ found. ForSome (F.told f.old).files (λ image. GoesTo NodeView.PREV image behind.now found)) }
     ensures stands { IfOk result (λ node. IfSome node (λ n. IsTrue (is_node_among files.now n))) }
     ensures stays { Stays (F.told f.old) (F.told f.new) }
     ensures damaged { IfDamaged result (IsFailedCheck files.now (F.told f.new)) }

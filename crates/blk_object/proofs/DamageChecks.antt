@@ -120,7 +120,7 @@ pub search-checked : (files : BlockFiles) (told : Told) (key : List ℕ) (is_chi
 search-checked files told key is_child damage (inl short) = short-checked files told _ _ _ damage short
 search-checked files told key is_child damage (inr (inl dangling)) = FailsPlace (OfLink _ dangling)
 search-checked files told key is_child damage (inr (inr (inl wrong))) = wrong-record-checked files told (length key) damage wrong
-search-checked files told key is_child damage (inr (inr (inr long))) = FailsLong (record { key = key; is_child = is_child; long = long })
+search-checked files told key is_child damage (inr (inr (inr long))) = FailsLong (inl (record { key = key; is_child = is_child; long = long }))
 
 -- the bytes of a key that are read
 pub part-checked : (files : BlockFiles) (told : Told) (entry at size : ℕ) (damage : Damage) → kind_of entry ≡ blocks_256 → stands_among files entry ≡ true → IsPartDamage files told entry at size damage → IsFailedCheck files told damage

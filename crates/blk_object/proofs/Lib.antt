@@ -27,6 +27,7 @@ pub mod CountsOut
 pub mod GoingNext
 pub mod PartNames
 pub mod WalkedParts
+pub mod ListWalks
 pub mod PartsLeft
 pub mod PartsFound
 pub mod HeldDooms

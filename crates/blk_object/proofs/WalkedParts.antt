@@ -274,6 +274,17 @@ turns-ended layout key all items next turn image rest end w = go w.left refl whe
       let within = w.within in
       absurd (omega (arith, few, nodes, parts, joined, many, within, end))
 
+-- a list has no more nodes than that
+pub turns-few : (layout : Layout) (key : List ℕ) (all items : List Item) (next : Option ℕ) (turn : ℕ) (image : Image) → HasListAtRest (nodes_of layout all) image → 131073 ≤ turn → IsWalkedTo layout key all items next turn → ⊥
+turns-few layout key all items next turn image rest end w =
+    let few = rest.whole.few in
+    let nodes : length (nodes_of layout all) ≡ length all = length-map all layout.place in
+    let parts : length all ≡ length (w.before ++ w.left) = ap (λ (xs : List Item). length xs) w.whole in
+    let joined = length-append w.before w.left in
+    let many = w.many in
+    let within = w.within in
+    omega (arith, few, nodes, parts, joined, many, within, end)
+
 -- ---- what was found
 
 pub found-some : (layout : Layout) (key : List ℕ) (items : List Item) (found : Option ListedPart) → is_some found ≡ true → ((part_is : ListedPart) → found ≡ Some part_is → IsFirstPart layout key items part_is) → IsFoundPart layout key items found
@@ -283,3 +294,6 @@ found-some layout key items (Some found) some first = first found refl
 pub found-none : (found : Option ListedPart) → is_some found ≡ false → found ≡ None
 found-none None none = refl
 found-none (Some found) none = absurd (let z : true ≡ false = none in cc)
+
+pub not-none : (found : Option ListedPart) → is_some found ≡ true → found ≡ None → ⊥
+not-none found some none = let z : false ≡ true = sym (ap (λ (o : Option ListedPart). is_some o) none) ∙ some in cc

@@ -30,6 +30,7 @@ use Rattle.blk_entry.specs.Keys.{IsMisplacedKey, IsWordOf, key_bytes, key_len_pl
 use Rattle.blk_entry.specs.Writing.{LiesApart}
 use Rattle.blk_chain.specs.Finding.{EndsUnfound, IsDanglingLink, IsTooLong}
 use Rattle.blk_stream.specs.Streams.{IsMisplacedStream, size_place, size_word, stream_bytes}
+use Rattle.blk_object.specs.ListWalks.{IsListTooLong}
 use Rattle.blk_object.specs.Owning.{is_there}
 
 -- Too few bytes.
@@ -204,6 +205,6 @@ pub data IsFailedCheck (files : BlockFiles) (told : Told) (damage : Damage) : Ty
   FailsLength : HasOtherLength told damage → IsFailedCheck files told damage
   FailsPlace : IsWrongWord files told damage → IsFailedCheck files told damage
   FailsSeal : IsReadUnsealed files told damage → IsFailedCheck files told damage
-  FailsLong : IsWalkTooLong files told damage → IsFailedCheck files told damage
+  FailsLong : IsWalkTooLong files told damage ⊎ IsListTooLong files told damage → IsFailedCheck files told damage
   FailsFull : IsSomeKindFull files told damage ⊎ AreNumbersUsedUp told damage → IsFailedCheck files told damage
   FailsCount : IsSomeCounterDamage files told damage ⊎ IsSomeMiscount files told damage → IsFailedCheck files told damage

@@ -7,6 +7,7 @@ pub mod Counters
 pub mod RemovingNext
 pub mod NextItems
 pub mod ListedParts
+pub mod ListWalks
 pub mod RemovingObjects
 pub mod RemovingParts
 pub mod UnlinkedLoads

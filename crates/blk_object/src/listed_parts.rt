@@ -13,18 +13,17 @@ ghost use Rattle.blk_disk.specs.Tables.{Agrees, is_node_among, stands_among};
 ghost use Rattle.blk_entry.specs.Keys.{most_key};
 ghost use Rattle.blk_object.specs.FailedChecks.{IsFailedCheck};
 ghost use Rattle.blk_object.specs.ListedParts.{ForEachSearch, IsFoundPart, IsPartThere, LoadsAt, SaysPart, first_node, number_said, part_loaded, part_number};
+ghost use Rattle.blk_object.specs.ListWalks.{GoesTo, WalkEnds};
 ghost use Rattle.blk_object.specs.Owning.{LoadsWith};
 
+use crate::list_walks::{MOST_NODES, end_walk, node_damage};
 use blk_addr::Addr;
-use blk_disk::{BlockFiles, file_of};
+use blk_disk::BlockFiles;
 use blk_entry::{key_piece, read_head};
-use blk_io::{Damage, Fault, Folder};
+use blk_io::{Fault, Folder};
 use blk_lru::{after, first};
 use blk_ranges::read_child_name;
-use blk_record::{BlockHead, NodeView, Record};
-
-// The most nodes of a use list.
-const MOST_NODES: u32 = 131_072;
+use blk_record::NodeView;
 
 // The flags of the record of a part.
 const CHILD: u32 = 2;
@@ -43,7 +42,7 @@ pub struct ListedPart {
 /// The first part of a key in the use list, from its front on, or behind the node of an item; `None` where there is none.
 ///
 /// Nothing is changed. This takes three folder calls for each item, and two more for a part, of which the name is read
-/// into `room`. At most as many items are looked at as a cache may have.
+/// into `room`. A walk that goes on behind 131073 nodes is a damage, of the next of the last one.
 pub fn next_part<F: Folder>(
     f: &mut F,
     files: &BlockFiles,
@@ -59,8 +58,14 @@ pub fn next_part<F: Folder>(
     ensures part { IfOk result (λ found. ForSome (F.told f.old).files (λ image. ForEachSearch from image (λ layout items. IsFoundPart layout key.now items found))) }
     ensures there { IfOk result (λ found. IfSome found (IsPartThere files.now)) }
 
+    // On every folder none is found only where the list ends.
+    ensures ends { IfOk result (λ found. found ≡ None → ForSome (F.told f.old).files (WalkEnds files.now NodeView.NEXT from)) }
+
     // On every folder its record has the name of that part.
     ensures named { IfOk result (λ found. IfSome found (λ part. ForSome (F.told f.old).files (SaysPart part.entry key.now part.number))) }
+
+    // And its node names that record.
+    ensures contents { IfOk result (λ found. IfSome found (λ part. ForSome (F.told f.old).files (λ image. part.entry ≡ (node_at image part.node).contents))) }
 
     ensures stays { Stays (F.told f.old) (F.told f.new) }
 
@@ -73,8 +78,9 @@ pub fn next_part<F: Folder>(
     ensures later { F.faults f.old ≤ F.faults f.new }
     ensures device { IfDevice result (Rises (F.faults f.old) (F.faults f.new)) }
 {
+    let mut last = from;
     let mut next = node_behind(f, files, from)?;
-    for _ in 0..MOST_NODES {
+    for _ in 0..MOST_NODES + 1 {
         let Some(node) = next else {
             return Ok(None);
         };
@@ -82,8 +88,10 @@ pub fn next_part<F: Folder>(
         if found.is_some() {
             return Ok(found);
         }
+        last = Some(node);
         next = after(f, files, node)?;
     }
+    end_walk(last, NodeView::NEXT, next)?;
     Ok(None)
 }
 
@@ -96,6 +104,7 @@ fn node_behind<F: Folder>(
     requires from { IfSome from (λ node. IsTrue (is_node_among files.now node)) }
     requires is_open { ForSome (F.told f.old).files (IsOpen files.now) }
     ensures node { IfOk result (λ node. ForSome (F.told f.old).files (λ image. ForEachSearch from image (λ layout items. node ≡ first_node layout items))) }
+    ensures word { IfOk result (λ node. ForSome (F.told f.old).files (λ image. GoesTo NodeView.NEXT image from node)) }
     ensures stands { IfOk result (λ node. IfSome node (λ n. IsTrue (is_node_among files.now n))) }
     ensures stays { Stays (F.told f.old) (F.told f.new) }
     ensures damaged { IfDamaged result (IsFailedCheck files.now (F.told f.new)) }
@@ -122,6 +131,7 @@ fn part_at<F: Folder>(
     ensures part { IfOk result (λ found. ForSome (F.told f.old).files (λ image. (loaded : Loaded) → LoadsAt node loaded image → found ≡ part_loaded key.now node loaded)) }
     ensures there { IfOk result (λ found. IfSome found (IsPartThere files.now)) }
     ensures named { IfOk result (λ found. IfSome found (λ part. ForSome (F.told f.old).files (SaysPart part.entry key.now part.number))) }
+    ensures contents { IfOk result (λ found. IfSome found (λ part. ForSome (F.told f.old).files (λ image. part.entry ≡ (node_at image part.node).contents))) }
     ensures stays { Stays (F.told f.old) (F.told f.new) }
     ensures damaged { IfDamaged result (IsFailedCheck files.now (F.told f.new)) }
     ensures untold { ForSome (F.told f.old).files (Agrees files.now) → ForSome (F.told f.old).files (λ image. (loaded : Loaded) × LoadsAt node loaded image) → IfDamaged result (λ _. (F.told f.old).files ≡ None) }
@@ -157,11 +167,7 @@ pub fn entry_named<F: Folder>(f: &mut F, files: &BlockFiles, node: Addr) -> Resu
     files.read_block(f, node, NodeView::CONTENTS, &mut bytes)?;
     let found = u32::from_le_bytes(bytes);
     let Some(entry) = files.entry(found) else {
-        let file = file_of(node);
-        let at = BlockHead::HEADER_LEN
-            + u64::from(node.start()) * NodeView::SIZE as u64
-            + u64::from(NodeView::CONTENTS);
-        return Err(Fault::Damaged(Damage { file, at, found }));
+        return Err(node_damage(node, NodeView::CONTENTS, found));
     };
     Ok(entry)
 }

@@ -27,12 +27,9 @@ use blk_disk::BlockFiles;
 use blk_entry::record_damage;
 use blk_io::{Fault, Folder};
 use blk_lru::before;
-use blk_object::{ListedPart, next_part, remove_part};
+use blk_object::{ListedPart, MOST_NODES, next_part, remove_part};
 use blk_ranges::child_name;
 use blk_record::EntryView;
-
-// The most nodes of a use list.
-const MOST_NODES: u32 = 131_072;
 
 /// How many items went, and the bytes that they were charged.
 #[derive(Clone, Copy, Debug, PartialEq, Eq)]
@@ -61,7 +58,8 @@ struct Dropped {
 ///
 /// The signature is that of the index of the key's main item, and the names of the parts are made in `room`. This takes
 /// three folder calls for each item of the list, two more for a part of any key, and those of `find` and `remove_part`
-/// for each part that goes. A part that its name doesn't find is a damage, of the hash of its record.
+/// for each part that goes. A part that its name doesn't find is a damage, of the hash of its record. No more parts go than a
+/// list has nodes.
 pub fn drop_parts_with<F: Folder, E: FnMut(u32)>(
     f: &mut F,
     files: &BlockFiles,

@@ -1,9 +1,11 @@
-use Rattle.std.proofs.Common.{◌∙◌, ap}
+use Rattle.std.proofs.Common.{◌∙◌, ap, sym, subst, ℕ, Option}
 use Rattle.blk_lru.proofs.Results.{if_ok_weaker}
 use Rattle.blk_lru.specs.Lists.{last_node_of}
 use Rattle.blk_items.proofs.RoomNodes.{at-end, place-listed, place-rests}
 use Rattle.blk_object.proofs.DamageChecks.{moved, node-word-checked}
 use Rattle.blk_io.proofs.Carried.{if_damaged_weaker}
+use Rattle.blk_record.specs.declared.node.TheConstants.NodeView as NodeView
+use Rattle.blk_object.specs.ListWalks.{GoesTo}
 use Rattle.blk_items.proofs.list_places.in_front.Goals as goal
 
 pub returns-in-Some-clause-untold : goal.returns-in-Some-clause-untold
@@ -27,3 +29,11 @@ returns-in-Some-clause-damaged g c =
 pub returns-in-None-clause-damaged : goal.returns-in-None-clause-damaged
 returns-in-None-clause-damaged g c =
     if_damaged_weaker c.last.result _ _ (λ damage wrong. moved c.args.files.now (g.F.Folder.told c.args.f.now) (g.F.Folder.told c.last.new.f) damage c.last.ensures.stays (node-word-checked c.args.files.now (g.F.Folder.told c.args.f.now) _ _ damage wrong)) c.last.ensures.damaged
+
+pub returns-in-Some-clause-word : goal.returns-in-Some-clause-word
+returns-in-Some-clause-word g c =
+    if_ok_weaker c.before-in-Some.result (λ found word image there. subst (λ (o : Option ℕ). GoesTo NodeView.PREV image o found) (sym c.in-Some.is) (word image there)) c.before-in-Some.ensures.word
+
+pub returns-in-None-clause-word : goal.returns-in-None-clause-word
+returns-in-None-clause-word g c =
+    if_ok_weaker c.last.result (λ found word image there. subst (λ (o : Option ℕ). GoesTo NodeView.PREV image o found) (sym c.in-None.is) (word image there)) c.last.ensures.word

@@ -1,15 +1,15 @@
-use Rattle.std.proofs.Common.{rules, ◌≡◌, ◌+◌, ◌*◌, ◌∙◌, sym, ap, ap₂, arith, true, false, ℕ}
+use Rattle.std.proofs.Common.{rules, ◌≡◌, ◌+◌, ◌∙◌, sym, ap, subst, arith, true, false, None, ℕ}
 use Rattle.blk_disk.specs.Tables.{is_record_among}
-use Rattle.blk_lru.proofs.NodeWords.{node_kind, node_place, node_room, node_stands}
+use Rattle.blk_lru.proofs.NodeWords.{node_kind, node_room, node_stands}
 use Rattle.blk_lru.proofs.LinkReads.{dangling_untold, read_link}
 use Rattle.blk_object.specs.ListedParts.{LoadsAt}
 use Rattle.blk_volume.specs.Loads.{Loaded}
 use Rattle.blk_object.proofs.PartNames.{contents-word, record-named}
 use Rattle.blk_object.proofs.DamageChecks.{handed, moved, short-checked}
-use Rattle.blk_object.specs.FailedChecks.{FailsPlace, NamesNoRecord, OfRecord}
+use Rattle.blk_entry.proofs.KeyPlaces.{err_damaged}
+use Rattle.blk_object.specs.FailedChecks.{FailsPlace, IsFailedCheck, NamesNoRecord, OfRecord}
 use Rattle.blk_format.specs.Address.{file_selector, place}
 use Rattle.blk_io.specs.declared.folder.FileId.TheVariants as names
-use Rattle.blk_disk.proofs.Ranges.{name_is, stands_blocky}
 use Rattle.blk_object.proofs.listed_parts.entry_named.Given as given
 use Rattle.blk_object.proofs.listed_parts.entry_named.Goals as goal
 
@@ -19,13 +19,17 @@ read_block-requires-clause-stands g c = node_stands c.args.files.now c.args.node
 pub read_block-requires-clause-inside : goal.read_block-requires-clause-inside
 read_block-requires-clause-inside g c = let enough = node_room c.args.node (node_kind c.args.files.now c.args.node c.requires.node) in omega (arith, enough)
 
+pub node_damage-requires : goal.node_damage-requires
+node_damage-requires g c = record { kind = node_kind c.args.files.now c.args.node c.requires.node }
+
 pub returns-in_default-clause-untold : goal.returns-in_default-clause-untold
 returns-in_default-clause-untold g c agrees lies =
     let unlike : is_record_among c.args.files.now c.from_le_bytes-found.result ≡ false = search rules in
-    dangling_untold (g.F.Folder.told c.args.f.now).files (λ image. (loaded : Loaded) × LoadsAt c.args.node loaded image)
+    err_damaged ℕ c.node_damage.result c.node_damage.ensures.damage (λ _. (g.F.Folder.told c.args.f.now).files ≡ None) c.node_damage.ensures.is
+    (dangling_untold (g.F.Folder.told c.args.f.now).files (λ image. (loaded : Loaded) × LoadsAt c.args.node loaded image)
     (λ image there at. clash (sym (record-named c.args.files.now image c.args.node at.0 (agrees image there) at.1)
     ∙ ap (is_record_among c.args.files.now) (sym (read_link image c.args.node 24 c.read_block.new.out c.from_le_bytes-found.result (c.in_ok-read_block.ensures.bytes image there) c.from_le_bytes-found.ensures ∙ contents-word image c.args.node)) ∙ unlike))
-    lies
+    lies)
   where
     clash : true ≡ false → ⊥
     clash e = cc
@@ -41,15 +45,18 @@ returns-in_err-read_block-clause-damaged g c =
     (λ damage short. moved c.args.files.now (g.F.Folder.told c.args.f.now) (g.F.Folder.told c.read_block.new.f) damage c.read_block.ensures.stays (short-checked c.args.files.now (g.F.Folder.told c.args.f.now) _ _ _ damage short))
     c.in_err-read_block.was c.from_residual.ensures.1 c.read_block.ensures.short
 
-nameless : (g : given.Over) (c : goal.After-from-in_default g) → NamesNoRecord c.args.files.now (g.F.Folder.told c.args.f.now) (names.Block (file_selector c.args.node)) (place c.args.node + 24) (record { file = c.file_of-file.result; at = 8192 + c.from.result * 36 + c.from-in_default.result; found = c.from_le_bytes-found.result })
+nameless : (g : given.Over) (c : goal.After-node_damage g) → NamesNoRecord c.args.files.now (g.F.Folder.told c.args.f.now) (names.Block (file_selector c.args.node)) (place c.args.node + 24) c.node_damage.ensures.damage
 nameless g c =
-    let kind = node_kind c.args.files.now c.args.node c.requires.node in
+    let word = c.node_damage.ensures.word in
+    let none : is_record_among c.args.files.now c.from_le_bytes-found.result ≡ false = search rules in
     record {
-      of_file = name_is c.args.node c.file_of-file.result (stands_blocky c.args.files.now c.args.node (node_stands c.args.files.now c.args.node c.requires.node)) c.file_of-file.ensures;
-      at_place = ap₂ (λ (a b : ℕ). a + b) (node_place c.args.node c.from.result kind (c.from.ensures ∙ c.start.ensures)) c.from-in_default.ensures;
-      unlike = search rules;
-      there = λ image there. read_link image c.args.node 24 c.read_block.new.out c.from_le_bytes-found.result (c.in_ok-read_block.ensures.bytes image there) c.from_le_bytes-found.ensures;
+      of_file = word.of_file;
+      at_place = word.at_place;
+      unlike = subst (λ (n : ℕ). is_record_among c.args.files.now n ≡ false) (sym word.of_word) none;
+      there = λ image there. word.of_word ∙ read_link image c.args.node 24 c.read_block.new.out c.from_le_bytes-found.result (c.in_ok-read_block.ensures.bytes image there) c.from_le_bytes-found.ensures;
     }
 
 pub returns-in_default-clause-damaged : goal.returns-in_default-clause-damaged
-returns-in_default-clause-damaged g c = moved c.args.files.now (g.F.Folder.told c.args.f.now) (g.F.Folder.told c.read_block.new.f) _ c.in_ok-read_block.ensures.stays (FailsPlace (OfRecord _ _ (nameless g c)))
+returns-in_default-clause-damaged g c =
+    err_damaged ℕ c.node_damage.result c.node_damage.ensures.damage (IsFailedCheck c.args.files.now (g.F.Folder.told c.read_block.new.f)) c.node_damage.ensures.is
+    (moved c.args.files.now (g.F.Folder.told c.args.f.now) (g.F.Folder.told c.read_block.new.f) _ c.in_ok-read_block.ensures.stays (FailsPlace (OfRecord _ _ (nameless g c))))

@@ -1,4 +1,4 @@
-use Rattle.std.proofs.Common.{rules, ◌≡◌, ◌∙◌, None, Option, ℕ, true, false, sym, ap, subst, arith}
+use Rattle.std.proofs.Common.{rules, inl, refl, ◌≡◌, ◌∙◌, None, Option, ℕ, IsTrue, true, false, sym, ap, subst, arith}
 use Rattle.std.specs.Option.{ForSome}
 use Rattle.std.specs.Prelude.{IfSome, filter, is_some}
 use Rattle.blk_image.specs.Image.{Image}
@@ -7,10 +7,14 @@ use Rattle.blk_image.proofs.Runs.{some_inj}
 use Rattle.blk_io.specs.Faults.{IfDamaged}
 use Rattle.blk_io.proofs.Carried.{carried}
 use Rattle.blk_volume.specs.Loads.{Loaded}
-use Rattle.blk_disk.specs.Tables.{Agrees}
+use Rattle.blk_volume.specs.View.{node_at}
+use Rattle.blk_record.specs.declared.node.TheConstants.NodeView as NodeView
+use Rattle.blk_disk.specs.Tables.{Agrees, is_node_among}
 use Rattle.blk_lru.specs.Lists.{IsListed}
 use Rattle.blk_object.specs.ListedParts.{LoadsAt, SaysPart}
-use Rattle.blk_object.proofs.WalkedParts.{IsWalkedTo, found-none, found-some, step-finds, step-listed, step-loads, step-walks, turns-ended, walk-begun, walk-ended}
+use Rattle.blk_object.specs.ListWalks.{GoesTo}
+use Rattle.blk_object.proofs.ListWalks.{node-passed, nodes-kinds, none-passed, walk-ends, walk-over, walk-too-long}
+use Rattle.blk_object.proofs.WalkedParts.{IsWalkedTo, found-none, found-some, not-none, step-finds, step-listed, step-loads, step-walks, turns-ended, turns-few, walk-begun, walk-ended}
 use Rattle.blk_object.proofs.DamageChecks.{handed, moved, node-word-checked}
 use Rattle.blk_object.proofs.listed_parts.next_part.Goals as goal
 
@@ -22,7 +26,10 @@ returns-in_err-next-clause-untold g c from there state layout keep chains unlink
 pub loop-init : goal.loop-init
 loop-init g c = record {
   walks = λ image there. walk-begun c.args.from c.args.key.now c.in_ok-next.next image (c.in_ok-next.ensures.node image there);
+  passed = λ image there. none-passed c.args.files.now NodeView.NEXT c.args.from image;
+  goes = c.in_ok-next.ensures.word;
   stands = c.in_ok-next.ensures.stands;
+  stands_last = c.requires.from;
   room = c.requires.room;
   stays = c.in_ok-next.ensures.stays;
   later = c.in_ok-next.ensures.later;
@@ -64,7 +71,13 @@ loop-preserved g c = record {
       step-walks state layout keep chains unlinked c.args.key.now items c.in-Some.node c.loop.counter from k (subst (λ (o : Option ℕ). IsWalkedTo layout c.args.key.now (filter keep state.uses) items o c.loop.counter) c.in-Some.is (c.loop.invariant.walks from there state layout keep chains unlinked items k are)) c.in_ok-next-2.next
       (λ loaded at. sym (found-none c.in_ok-found.found none) ∙ c.in_ok-found.ensures.part from (ap (λ (t : Told). t.files) c.loop.invariant.stays ∙ there) loaded at)
       (c.in_ok-next-2.ensures.node from (ap (λ (t : Told). t.files) (c.in_ok-found.ensures.stays ∙ c.loop.invariant.stays) ∙ there) (c.requires.is_open from there).agrees);
+  passed = λ image there.
+      node-passed c.args.files.now NodeView.NEXT c.args.from c.loop.last c.loop.counter image c.in-Some.node (c.loop.invariant.passed image there)
+      (subst (λ (o : Option ℕ). GoesTo NodeView.NEXT image c.loop.last o) c.in-Some.is (c.loop.invariant.goes image there))
+      (subst (λ (o : Option ℕ). IfSome o (λ n. IsTrue (is_node_among c.args.files.now n))) c.in-Some.is c.loop.invariant.stands);
+  goes = λ image there. c.in_ok-next-2.ensures.word image (ap (λ (t : Told). t.files) (c.in_ok-found.ensures.stays ∙ c.loop.invariant.stays) ∙ there);
   stands = c.in_ok-next-2.ensures.stands;
+  stands_last = subst (λ (o : Option ℕ). IfSome o (λ n. IsTrue (is_node_among c.args.files.now n))) c.in-Some.is c.loop.invariant.stands;
   room = (let one = c.part_at.auto.room in let two = c.loop.invariant.room in omega (arith, one, two));
   stays = c.in_ok-next-2.ensures.stays ∙ c.in_ok-found.ensures.stays ∙ c.loop.invariant.stays;
   later = (let one = c.loop.invariant.later in let two = c.in_ok-found.ensures.later in let three = c.in_ok-next-2.ensures.later in omega (arith, one, two, three));
@@ -72,7 +85,7 @@ loop-preserved g c = record {
 
 pub returns-clause-part : goal.returns-clause-part
 returns-clause-part g c from there state layout keep chains unlinked items k are =
-    turns-ended layout c.args.key.now (filter keep state.uses) items c.loop.next c.loop.counter from k.list (search rules) (c.loop.invariant.walks from there state layout keep chains unlinked items k are)
+    turns-ended layout c.args.key.now (filter keep state.uses) items c.loop.next c.loop.counter from k.list (omega (arith, c.loop-test.false)) (c.loop.invariant.walks from there state layout keep chains unlinked items k are)
 
 pub returns-in_err-next-2-clause-damaged : goal.returns-in_err-next-2-clause-damaged
 returns-in_err-next-2-clause-damaged g c =
@@ -83,3 +96,37 @@ returns-in_err-next-2-clause-damaged g c =
 pub returns-then-is_some-clause-named : goal.returns-then-is_some-clause-named
 returns-then-is_some-clause-named g c =
     subst (λ (t : Told). IfSome c.in_ok-found.found (λ part. ForSome t.files (SaysPart part.entry c.args.key.now part.number))) c.loop.invariant.stays c.in_ok-found.ensures.named
+
+pub returns-then-is_some-clause-contents : goal.returns-then-is_some-clause-contents
+returns-then-is_some-clause-contents g c =
+    subst (λ (t : Told). IfSome c.in_ok-found.found (λ part. ForSome t.files (λ image. part.entry ≡ (node_at image part.node).contents))) c.loop.invariant.stays c.in_ok-found.ensures.contents
+
+-- behind the loop
+
+pub end_walk-requires : goal.end_walk-requires
+end_walk-requires g c = record { kind = nodes-kinds c.args.files.now c.loop.last c.loop.invariant.stands_last }
+
+pub returns-in_err-end_walk-clause-damaged : goal.returns-in_err-end_walk-clause-damaged
+returns-in_err-end_walk-clause-damaged g c =
+    handed c.end_walk.result c.from_residual-in_err-end_walk.result c.in_err-end_walk.field-0.0 _ c.args.files.now (g.F.Folder.told c.loop.f)
+    (λ damage behind. walk-too-long c.args.files.now (g.F.Folder.told c.loop.f) NodeView.NEXT c.args.from c.loop.last c.loop.next c.loop.counter damage (inl refl) (omega (arith, c.loop-test.false)) c.loop.invariant.stands_last c.loop.invariant.stands
+    (λ image now. c.loop.invariant.passed image (ap (λ (t : Told). t.files) (sym c.loop.invariant.stays) ∙ now))
+    (λ image now. c.loop.invariant.goes image (ap (λ (t : Told). t.files) (sym c.loop.invariant.stays) ∙ now)) behind)
+    c.in_err-end_walk.was c.from_residual-in_err-end_walk.ensures.1 c.end_walk.ensures.damaged
+
+pub returns-in_err-end_walk-clause-untold : goal.returns-in_err-end_walk-clause-untold
+returns-in_err-end_walk-clause-untold g c from there state layout keep chains unlinked items k are =
+    absurd (turns-few layout c.args.key.now (filter keep state.uses) items c.loop.next c.loop.counter from k.list (omega (arith, c.loop-test.false)) (c.loop.invariant.walks from there state layout keep chains unlinked items k are))
+
+pub returns-in_default-clause-ends : goal.returns-in_default-clause-ends
+returns-in_default-clause-ends g c none image there =
+    walk-ends c.args.files.now NodeView.NEXT c.args.from c.loop.last c.loop.next c.loop.counter image (c.loop.invariant.passed image there) (c.loop.invariant.goes image there) (search rules)
+
+pub returns-then-is_some-clause-ends : goal.returns-then-is_some-clause-ends
+returns-then-is_some-clause-ends g c none =
+    let some : is_some c.in_ok-found.found ≡ true = search rules in
+    absurd (not-none c.in_ok-found.found some none)
+
+pub returns-clause-ends : goal.returns-clause-ends
+returns-clause-ends g c none image there =
+    walk-over c.args.files.now NodeView.NEXT c.args.from c.loop.last c.loop.next c.loop.counter image (omega (arith, c.loop-test.false)) (c.loop.invariant.passed image there) (c.loop.invariant.goes image there) c.in_ok-end_walk.ensures.ended

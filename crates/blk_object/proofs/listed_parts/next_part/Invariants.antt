@@ -2,14 +2,19 @@ use Rattle.std.proofs.Common.{◌≤◌, IsTrue, length, IfSome}
 use Rattle.std.specs.Option.{ForSome}
 use Rattle.blk_image.specs.Told.{Stays}
 use Rattle.blk_disk.specs.Tables.{is_node_among}
+use Rattle.blk_record.specs.declared.node.TheConstants.NodeView as NodeView
 use Rattle.blk_entry.specs.Keys.{most_key}
+use Rattle.blk_object.specs.ListWalks.{GoesTo, HasPassedNodes}
 use Rattle.blk_object.proofs.WalkedParts.{Walks}
 use Rattle.blk_object.proofs.listed_parts.next_part.Given as goal
 
 abbrev pub invariant-loop : goal.invariant-loop
 invariant-loop g l = record {
   walks : ForSome (g.F.Folder.told l.fn.f).files (Walks l.fn.from l.key l.next l.counter);
+  passed : ForSome (g.F.Folder.told l.fn.f).files (HasPassedNodes l.files NodeView.NEXT l.fn.from l.last l.counter);
+  goes : ForSome (g.F.Folder.told l.fn.f).files (λ image. GoesTo NodeView.NEXT image l.last l.next);
   stands : IfSome l.next (λ n. IsTrue (is_node_among l.files n));
+  stands_last : IfSome l.last (λ n. IsTrue (is_node_among l.files n));
   room : most_key ≤ length l.room;
   stays : Stays (g.F.Folder.told l.fn.f) (g.F.Folder.told l.f);
   later : g.F.Folder.faults l.fn.f ≤ g.F.Folder.faults l.f;

@@ -9,6 +9,8 @@ use Rattle.blk_object.specs.ListedParts.{AreSearched}
 use Rattle.blk_object.proofs.WalkedParts.{begins-behind, begins-listed, list-rests, starts-first}
 use Rattle.blk_object.proofs.DamageChecks.{moved, node-word-checked}
 use Rattle.blk_io.proofs.Carried.{if_damaged_weaker}
+use Rattle.blk_record.specs.declared.node.TheConstants.NodeView as NodeView
+use Rattle.blk_object.specs.ListWalks.{GoesTo}
 use Rattle.blk_object.proofs.listed_parts.node_behind.Goals as goal
 
 pub returns-in-Some-clause-node : goal.returns-in-Some-clause-node
@@ -40,3 +42,11 @@ returns-in-Some-clause-damaged g c =
 pub returns-in-None-clause-damaged : goal.returns-in-None-clause-damaged
 returns-in-None-clause-damaged g c =
     if_damaged_weaker c.first.result _ _ (λ damage wrong. moved c.args.files.now (g.F.Folder.told c.args.f.now) (g.F.Folder.told c.first.new.f) damage c.first.ensures.stays (node-word-checked c.args.files.now (g.F.Folder.told c.args.f.now) _ _ damage wrong)) c.first.ensures.damaged
+
+pub returns-in-Some-clause-word : goal.returns-in-Some-clause-word
+returns-in-Some-clause-word g c =
+    if_ok_weaker c.after.result (λ found word image there. subst (λ (o : Option ℕ). GoesTo NodeView.NEXT image o found) (sym c.in-Some.is) (word image there)) c.after.ensures.word
+
+pub returns-in-None-clause-word : goal.returns-in-None-clause-word
+returns-in-None-clause-word g c =
+    if_ok_weaker c.first.result (λ found word image there. subst (λ (o : Option ℕ). GoesTo NodeView.NEXT image o found) (sym c.in-None.is) (word image there)) c.first.ensures.word

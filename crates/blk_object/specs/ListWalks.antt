@@ -1,0 +1,66 @@
+-- A walk over the use list, from node to node: where it ends, and where it goes on behind more nodes than a list has.
+use Rattle.std.specs.Prelude.{◌≡◌, ℕ, ◌+◌, ◌==◌, List, [], ◌∷◌, length, Option, None, Some, if◌then◌else◌, true}
+use Rattle.std.specs.Option.{ForSome}
+use Rattle.blk_image.specs.Image.{Image}
+use Rattle.blk_image.specs.Told.{Told}
+use Rattle.blk_volume.specs.ListView.{ListView, most_nodes}
+use Rattle.blk_volume.specs.View.{list_of}
+use Rattle.blk_record.specs.declared.node.TheConstants.NodeView as NodeView
+use Rattle.blk_io.specs.declared.fault.Damage.{Damage}
+use Rattle.blk_disk.specs.declared.tables.BlockFiles.{BlockFiles}
+use Rattle.blk_disk.specs.Tables.{is_node_among}
+use Rattle.blk_entry.specs.Keys.{IsWordOf}
+use Rattle.blk_lru.specs.Nodes.{IsLinkPlace, link_at}
+use Rattle.blk_lru.specs.Plans.{word_or_zero}
+use Rattle.blk_chain.specs.Finding.{last_passed}
+
+-- A walk goes along the nexts of the nodes, from the head of the list on, or along their prevs, from its tail on. The place in a node of the word by which it goes says which.
+
+-- the end of the list at which such a walk begins
+abbrev pub end_word : (at : ℕ) → ListView → ℕ
+end_word at list = if at == NodeView.NEXT then list.head else list.tail
+
+-- behind a node a walk goes on at the word at this place of it, or nowhere where the node names itself; without a node it begins at the end of the list, or nowhere where this is 0
+abbrev pub GoesTo : (at : ℕ) → Image → (before next : Option ℕ) → Type 0
+GoesTo at image None next = word_or_zero next ≡ end_word at (list_of image)
+GoesTo at image (Some node) next = next ≡ (if link_at image node at == node then None else Some (link_at image node at))
+
+-- a walk passes these nodes, one behind the other, each of which stands
+abbrev pub Follows : BlockFiles → (at : ℕ) → Image → (from : Option ℕ) → List ℕ → Type 0
+Follows files at image from [] = Unit {0}
+Follows files at image from (node ∷ nodes) = GoesTo at image from (Some node) × ((is_node_among files node ≡ true) × Follows files at image (Some node) nodes)
+
+-- a walk that began behind a node, or at the end of the list, has passed so many nodes, the last of which is `before`
+pub record HasPassedNodes (files : BlockFiles) (at : ℕ) (from before : Option ℕ) (count : ℕ) (image : Image) : Type 0 where
+  pub nodes : List ℕ
+  pub many : length nodes ≡ count
+  pub last : last_passed from nodes ≡ before
+  pub follows : Follows files at image from nodes
+
+-- and it goes on nowhere
+pub record WalkEnds (files : BlockFiles) (at : ℕ) (from : Option ℕ) (image : Image) : Type 0 where
+  pub before : Option ℕ
+  pub count : ℕ
+  pub passed : HasPassedNodes files at from before count image
+  pub ends : GoesTo at image before None
+
+-- Where it would go on too long.
+
+-- behind this node there is another one: the damage has the place of the word at `at` of the node, and finds the other one
+pub record IsWordBehind (before : Option ℕ) (at : ℕ) (next : Option ℕ) (damage : Damage) : Type 0 where
+  pub last : ℕ
+  pub is_last : before ≡ Some last
+  pub is_next : next ≡ Some damage.found
+  pub of_word : IsWordOf last at damage.found damage
+
+-- a walk has passed one node more than a list has, and goes on: the damage has the place of the next or the prev of the last one, and finds the node that would be followed
+pub record IsListTooLong (files : BlockFiles) (told : Told) (damage : Damage) : Type 0 where
+  pub at : ℕ
+  pub link : IsLinkPlace at
+  pub from : Option ℕ
+  pub last : ℕ
+  pub stands : is_node_among files last ≡ true
+  pub of_word : IsWordOf last at damage.found damage
+  pub names : is_node_among files damage.found ≡ true
+  pub passed : ForSome told.files (HasPassedNodes files at from (Some last) (most_nodes + 1))
+  pub goes_on : ForSome told.files (λ image. GoesTo at image (Some last) (Some damage.found))
