@@ -1,9 +1,14 @@
 -- A page that is written over.
-use Rattle.std.proofs.Common.{◌≡◌, ℕ, zero, suc, ◌+◌, ◌-◌, ◌*◌, Bool, true, false, if◌then◌else◌, List, [], ◌∷◌, length, take, drop, Option, None, Some, option_and_then, refl, sym, ◌∙◌, ap}
+use Rattle.std.proofs.Common.{◌≡◌, ℕ, zero, suc, ◌+◌, ◌-◌, ◌*◌, ◌≤◌, Bool, true, false, ◌&&◌, nat_lt, if◌then◌else◌, List, [], ◌∷◌, length, take, drop, Option, None, Some, option_and_then, refl, sym, ◌∙◌, ap, arith}
 use Rattle.std.specs.Option.{ForSome}
+use Rattle.std.proofs.lemmas.Bool.Decides.{nat_tests}
+use Rattle.std.proofs.lemmas.List.{length-take, drop_all}
 use Rattle.blk_image.specs.Bytes.{spliced}
 use Rattle.blk_image.specs.Image.{File, same_file}
+use Rattle.blk_image.proofs.Splices.{spliced-none}
+use Rattle.blk_io.proofs.Splicing.{spliced-past}
 use Rattle.blk_window.specs.Held.{Page, reaches, overwritten, written}
+use Rattle.blk_window.proofs.Lists.{pick}
 
 -- the first bytes of what is written over
 pub take-spliced : (n i : ℕ) (new old : List ℕ) → take n (spliced i new old) ≡ spliced i new (take n old)
@@ -34,3 +39,29 @@ cut_off true of file number at kept bytes same there =
     let page : Page = record { file = of; number = number; bytes = kept } in
     ap (λ b. if b then Some (overwritten at bytes page) else None) (there page refl)
     ∙ ap (λ b. if b then (if reaches (at + length bytes) page then Some (overwritten at bytes page) else None) else Some page) (sym same)
+
+not_less : (a b : ℕ) → nat_lt a b ≡ false → b ≤ a
+not_less a b e = grind (arith, nat_tests)
+
+-- bytes that lie behind a list, or in front of it, leave it as it is
+apart_from : (start count at : ℕ) (items bytes : List ℕ) → (nat_lt (at - start) count && nat_lt (start - at) (length bytes)) ≡ false → spliced (at - start) (drop (start - at) bytes) (take count items) ≡ take count items
+apart_from start count at items bytes apart = pick (nat_lt (at - start) count)
+    (λ inside.
+    let before : length bytes ≤ start - at = not_less (start - at) (length bytes) (sym (ap (λ b. b && nat_lt (start - at) (length bytes)) inside) ∙ apart) in
+    ap (λ (l : List ℕ). spliced (at - start) l (take count items)) (drop_all (start - at) bytes before) ∙ spliced-none (at - start) (take count items))
+    (λ outside.
+    let behind : count ≤ at - start = not_less (at - start) count outside in
+    spliced-past (at - start) (drop (start - at) bytes) (take count items) (omega (arith, length-take count items, behind)))
+
+-- a slot that a write doesn't touch is left as it is
+pub untouched : (held : Bool) (of file : File) (number count at : ℕ) (items bytes : List ℕ) → (nat_lt (at - 4096 * number) count && nat_lt (4096 * number - at) (length bytes)) ≡ false
+    → ForSome (slot_of held of number (take count items)) (λ page. true ≡ reaches (at + length bytes) page) → option_and_then (written file at bytes) (slot_of held of number (take count items)) ≡ slot_of held of number (take count items)
+untouched false of file number count at items bytes apart there = refl
+untouched true of file number count at items bytes apart there = by_file (same_file of file)
+  where
+    page : Page
+    page = record { file = of; number = number; bytes = take count items }
+
+    by_file : (same : Bool) → (if same then (if reaches (at + length bytes) page then Some (overwritten at bytes page) else None) else Some page) ≡ Some page
+    by_file false = refl
+    by_file true = ap (λ b. if b then Some (overwritten at bytes page) else None) (sym (there page refl)) ∙ ap (λ l. slot_of true of number l) (apart_from (4096 * number) count at items bytes apart)

@@ -1,10 +1,11 @@
 // A page of a file, with room for its bytes.
-ghost use Rattle.std.specs.Prelude.{◌≡◌, ◌+◌, ◌-◌, ◌*◌, ◌<◌, ◌≤◌, ◌^◌, length, take, drop, min, Some, None, IfOk, OnOk, OnErr, option_and_then, is_some, IsTrue};
+ghost use Rattle.std.specs.Prelude.{◌≡◌, ◌+◌, ◌-◌, ◌*◌, ◌<◌, ◌≤◌, ◌^◌, true, false, not, ◌&&◌, ◌||◌, nat_lt, length, take, drop, min, Some, None, IfOk, OnOk, OnErr, option_and_then, is_some, IsTrue};
 ghost use Rattle.std.specs.Option.{ForSome};
 ghost use Rattle.blk_image.specs.Bytes.{spliced};
+ghost use Rattle.blk_image.specs.Image.{same_file};
 ghost use Rattle.blk_image.specs.Told.{Stays, Rises};
 ghost use Rattle.blk_io.specs.FileNames.{file_of};
-ghost use Rattle.blk_window.specs.Held.{Agrees, reaches, unless_of, written};
+ghost use Rattle.blk_window.specs.Held.{Agrees, start_of, reaches, unless_of, written};
 
 use blk_io::{Failed, FileId, Folder};
 use std::alloc::{AllocError, Global};
@@ -101,6 +102,20 @@ impl Page {
         );
     }
 
+    /// Whether bytes that are written change what it holds: it holds a page of the file, and they have a place in it, or go beyond its end where it isn't full.
+    pub fn is_touched(&self, file: FileId, at: u64, bytes: &[u8]) -> bool
+        ensures left { result ≡ false → option_and_then (written (file_of file) at bytes.now) (seen self.now) ≡ seen self.now }
+        ensures of { result ≡ true → IsTrue (is_some (seen self.now)) × ForSome (seen self.now) (λ page. IsTrue (same_file page.file (file_of file))) }
+        ensures only { result ≡ true → ForSome (seen self.now) (λ page. IsTrue (nat_lt (at - start_of page) (length page.bytes) && nat_lt (start_of page - at) (length bytes.now) || not (reaches (at + length bytes.now) page))) }
+    {
+        if !self.is_held || self.file != file {
+            return false;
+        }
+        let start = self.number * PAGE_SIZE as u64;
+        let n = bytes.len() as u64;
+        meets(start, self.count as u64, at, n) || !self.reaches(start, at, n)
+    }
+
     // Whether it has the bytes of a range that lie in its places.
     fn reaches(&self, start: u64, at: u64, n: u64) -> bool
         requires { start ≡ 4096 * self.now.number }
@@ -135,6 +150,13 @@ impl Page {
         self.count = count;
         Ok(())
     }
+}
+
+// Whether one of the n places from a place on is among the count places from another on.
+fn meets(start: u64, count: u64, at: u64, n: u64) -> bool
+    ensures { result ≡ (nat_lt (at - start) count && nat_lt (start - at) n) }
+{
+    at.saturating_sub(start) < count && start.saturating_sub(at) < n
 }
 
 // The bytes from a place on.

@@ -1,5 +1,5 @@
 // The slots of a window, in the order of their use.
-ghost use Rattle.std.specs.Prelude.{◌≡◌, [], ◌∷◌, ◌+◌, ◌-◌, ◌*◌, ◌<◌, ◌≤◌, ◌%◌, ◌^◌, length, Some, None, IfOk, IfSome, IfNone, is_none, is_some, nat_eq, option_and_then};
+ghost use Rattle.std.specs.Prelude.{◌≡◌, false, [], ◌∷◌, ◌+◌, ◌-◌, ◌*◌, ◌<◌, ◌≤◌, ◌%◌, length, Some, None, IfOk, IfSome, IfNone, is_none, is_some, nat_eq, slice_index_or, option_and_then};
 ghost use Rattle.std.specs.Option.{ForSome, option_map};
 ghost use Rattle.std.specs.List.{All, IsDistinct, filter_map, find};
 ghost use Rattle.std.specs.Map.{keys_of, lookup};
@@ -15,12 +15,15 @@ use std::alloc::{AllocError, Global};
 use std::mem;
 use std::num::NonZeroUsize;
 
+// How many slots there are at the most.
+const MOST_SLOTS: usize = 4096;
+
 /// The slots of a window, which are all made at the start. Each has a number, and they are in the order of their use.
 #[derive(Drop)]
 pub struct Pages {
     slots: LruCache<u16, Page>,
     ghost some: { 0 < slots.cap },
-    ghost few: { slots.cap < 2 ^ 16 },
+    ghost few: { slots.cap ≤ 4096 },
     ghost count: { length slots.entries ≡ slots.cap },
     ghost distinct: { IsDistinct nat_eq (keys_of slots.entries) } by { Prim.hlevel props },
     ghost below: { All (λ number. number < slots.cap) (keys_of slots.entries) },
@@ -32,7 +35,8 @@ impl Pages {
 
     /// So many slots, which hold nothing.
     pub fn new(alloc: Global, pages: u16) -> Result<Pages, AllocError>
-        requires { 0 < pages }
+        requires some { 0 < pages }
+        requires few { pages ≤ 4096 }
         ensures places { IfOk result (λ made. places_of made ≡ pages) }
         ensures held { IfOk result (λ made. held_of made ≡ []) }
     {
@@ -147,14 +151,31 @@ impl Pages {
         }
     }
 
+    // By the number of each slot, whether bytes that are written change what it holds.
+    fn touched(&self, file: FileId, at: u64, bytes: &[u8]) -> [bool; MOST_SLOTS]
+        ensures length { length result ≡ 4096 }
+        ensures left { All (λ slot. slice_index_or result slot.0 false ≡ false → option_and_then (written (file_of file) at bytes.now) (seen slot.1) ≡ seen slot.1) self.now.slots.entries }
+    {
+        let mut touched = [false; MOST_SLOTS];
+        for (slot, page) in self.slots.iter() {
+            if page.is_touched(file, at, bytes) {
+                touched[usize::from(*slot)] = true;
+            }
+        }
+        touched
+    }
+
     /// Writes over bytes of the pages of a file.
     pub fn write(&mut self, file: FileId, at: u64, bytes: &[u8])
         ensures held { held_of self.new ≡ filter_map (written (file_of file) at bytes.now) (held_of self.old) }
         ensures places { places_of self.new ≡ places_of self.old }
     {
+        let touched = self.touched(file, at, bytes);
         for slot in 0..self.slots.cap().get() as u16 {
-            if let Some(page) = self.slots.peek_mut(&slot) {
-                page.write(file, at, bytes);
+            if touched[usize::from(slot)] {
+                if let Some(page) = self.slots.peek_mut(&slot) {
+                    page.write(file, at, bytes);
+                }
             }
         }
     }

@@ -28,7 +28,8 @@ pub struct Window<F: Folder> {
 
 // The slots of a window, and one more.
 fn make(alloc: Global, pages: u16) -> Result<(Pages, Page), AllocError>
-    requires { 0 < pages }
+    requires some { 0 < pages }
+    requires few { pages ≤ 4096 }
     ensures places { IfOk result (λ made. places_of made.0 ≡ pages) }
     ensures held { IfOk result (λ made. held_of made.0 ≡ []) }
 {
