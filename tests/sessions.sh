@@ -109,15 +109,15 @@ run "$room/faulty" session
 is 'a line that is too long, and one that is not' $'1 fault 1 7 TooLong\ntotal 1 1\nrefused 13 BadKey\ntotal 1 1' "$status $said"
 : >"$room/input"
 
-# The input is taken 4096 bytes at a time: where the first reply can't be printed the rest of it is left.
+# The input is read 65536 bytes at a time: where the first reply can't be printed the rest of it is left.
 mkdir "$room/pieces"
-printf 'total\n%.0s' $(seq 3000) >"$room/lines"
+printf 'total\n%.0s' $(seq 20000) >"$room/lines"
 {
     "$program" "$room/pieces" session >/dev/full 2>"$room/complained"
     status=$?
     left=$(wc -c)
 } <"$room/lines"
-is 'a first reply that is not printed leaves all but 4096 bytes of the input' '5 13904' "$status $left"
+is 'a first reply that is not printed leaves all but 65536 bytes of the input' '5 54464' "$status $left"
 
 # A reply is there before the next line is given.
 coproc talk { "$program" "$room/pieces" session 2>"$room/complained"; }

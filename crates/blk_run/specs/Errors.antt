@@ -1,5 +1,5 @@
 -- Answers of what prints.
-use Rattle.std.specs.Prelude.{Result, Ok, Err}
+use Rattle.std.specs.Prelude.{◌≡◌, ◌⊎◌, IsOk, Result, Ok, Err}
 use Rattle.blk_cache.specs.declared.fault.StepFault.{StepFault}
 use Rattle.blk_cache.specs.declared.fault.StepFault.TheVariants as fault
 
@@ -9,3 +9,7 @@ IsOnlySink (Ok a) = Unit {0}
 IsOnlySink (Err fault.Sink) = Unit {0}
 IsOnlySink (Err fault.Device) = ⊥
 IsOnlySink (Err (fault.Damaged damage)) = ⊥
+
+-- an answer, before and after what was printed is flushed: it is the same, or there was one and the sink failed in the flush
+abbrev pub IsFlushed : {A E : Type 0} → (before after : Result A E) → (sink : E) → (failed : Type 0) → Type 0
+IsFlushed before after sink failed = (after ≡ before) ⊎ (IsOk before × ((after ≡ Err sink) × failed))

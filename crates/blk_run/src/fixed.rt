@@ -120,8 +120,8 @@ fn print_opened<K: Sink>(out: &mut K, answer: &Answer) -> Result<(), StepFault>
         Answer::Refused(why) => print_reply(out, &Answer::Refused(why)),
         _ => print_reply(out, &Answer::Done),
     };
-    match printed {
-        Ok(()) => Ok(()),
-        Err(_) => Err(StepFault::Sink),
+    match (printed, out.flush()) {
+        (Ok(()), Ok(())) => Ok(()),
+        _ => Err(StepFault::Sink),
     }
 }

@@ -5,6 +5,7 @@ ghost use Rattle.blk_io.specs.Streams.{Readings};
 ghost use Rattle.blk_model.specs.State.{Bounds};
 ghost use Rattle.blk_inspect.specs.Texts.{inspect_text, verify_text};
 ghost use Rattle.blk_run.specs.Shown.{PrintsFault, status_shown};
+ghost use Rattle.blk_run.specs.Errors.{IsFlushed};
 ghost use Rattle.blk_run.specs.Work.{Performs, folder_text};
 
 use crate::ending::Status;
@@ -24,7 +25,7 @@ pub(crate) fn show_part<F: Folder, K: Sink>(
     ensures stays { Stays (F.told folder.old) (F.told folder.new) }
     ensures later { (F.faults folder.old ≤ F.faults folder.new) × (K.faults out.old ≤ K.faults out.new) }
 {
-    let shown = inspect(alloc, folder, out, part);
+    let shown = flush_text(inspect(alloc, folder, out, part), out);
     end_shown(&shown, out)
 }
 
@@ -34,8 +35,20 @@ pub(crate) fn show_verdict<F: Folder, K: Sink>(alloc: Global, out: &mut K, folde
     ensures stays { Stays (F.told folder.old) (F.told folder.new) }
     ensures later { (F.faults folder.old ≤ F.faults folder.new) × (K.faults out.old ≤ K.faults out.new) }
 {
-    let shown = verify(alloc, folder, out);
+    let shown = flush_text(verify(alloc, folder, out), out);
     end_shown(&shown, out)
+}
+
+// Flushes the text that an inspection printed. Where it has one and that fails, the sink failed; a fault stays the answer.
+fn flush_text<K: Sink>(shown: Result<(), InspectFault>, out: &mut K) -> Result<(), InspectFault>
+    ensures flushed { IsFlushed shown result InspectFault.Sink (Rises (K.faults out.old) (K.faults out.new)) }
+    ensures stays { K.written out.new ≡ K.written out.old }
+    ensures later { K.faults out.old ≤ K.faults out.new }
+{
+    match (shown, out.flush()) {
+        (Ok(()), Err(_)) => Err(InspectFault::Sink),
+        (shown, _) => shown,
+    }
 }
 
 // The status where an inspection answers so. A damage is printed.

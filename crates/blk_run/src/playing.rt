@@ -10,7 +10,7 @@ ghost use Rattle.blk_headline.specs.Script.{ended, line_script, session_script};
 ghost use Rattle.blk_headline.specs.Run.{turns};
 ghost use Rattle.blk_run.specs.Playing.{cut_behind};
 ghost use Rattle.blk_cache.specs.Stepping.{IfDone, IfSink, IfStepDevice};
-ghost use Rattle.blk_run.specs.Errors.{IsOnlySink};
+ghost use Rattle.blk_run.specs.Errors.{IsFlushed, IsOnlySink};
 ghost use Rattle.blk_run.specs.Pending.{Holds, pending};
 ghost use Rattle.blk_run.specs.Playing.{Asks, SoFar, StandsAt, PlaysPart, has_refused, refuses};
 ghost use Rattle.blk_disk.specs.Open.{IsOpen};
@@ -44,7 +44,8 @@ fn print_error<K: Sink>(out: &mut K, number: u64, why: LineFault) -> Result<(), 
             Field::Number(why.number().into()),
             Field::Word(why.name()),
         ],
-    )
+    )?;
+    out.flush()
 }
 
 // Plays one line: it is a command, or why it is none is printed.
@@ -113,7 +114,7 @@ pub(crate) fn is_refusal(answer: &Answer) -> bool
     }
 }
 
-// Does a command, at the next reading of the clock, and prints its reply.
+// Does a command, at the next reading of the clock, and prints its reply, which is flushed.
 pub(crate) fn ask<F: Folder, K: Sink, C: Clock>(
     cache: &mut Cache,
     command: &Command,
@@ -129,7 +130,23 @@ pub(crate) fn ask<F: Folder, K: Sink, C: Clock>(
     ensures device { IfStepDevice result (Rises (F.faults folder.old) (F.faults folder.new)) }
     ensures sink { IfSink result (Rises (K.faults out.old) (K.faults out.new)) }
 {
-    cache.step(folder, out, clock.now(), command)
+    let answered = cache.step(folder, out, clock.now(), command);
+    flush_reply(answered, out)
+}
+
+// Flushes what a command printed. Where it has an answer and that fails, the sink failed; what went before stays the answer.
+fn flush_reply<K: Sink>(
+    answered: Result<Answer, StepFault>,
+    out: &mut K,
+) -> Result<Answer, StepFault>
+    ensures flushed { IsFlushed answered result StepFault.Sink (Rises (K.faults out.old) (K.faults out.new)) }
+    ensures stays { K.written out.new ≡ K.written out.old }
+    ensures later { K.faults out.old ≤ K.faults out.new }
+{
+    match (answered, out.flush()) {
+        (Ok(_), Err(_)) => Err(StepFault::Sink),
+        (answered, _) => answered,
+    }
 }
 
 // Prints why a line is no command.

@@ -1,4 +1,4 @@
-// The lines that are printed. Each goes to the sink in pieces, and takes no memory.
+// The lines that are printed. Each goes to the sink in pieces, takes no memory, and is flushed at its end.
 ghost use Rattle.std.specs.Prelude.{◌≡◌, ◌++◌, ◌≤◌, OnOk, OnErr, drop, length};
 ghost use Rattle.std.specs.List.{flat_map};
 ghost use Rattle.std.specs.Option.{option_map};
@@ -7,12 +7,12 @@ ghost use Rattle.blk_io.specs.Streams.{Appends};
 ghost use Rattle.blk_io.specs.Faults.{damage_of};
 ghost use Rattle.blk_io.specs.Texts.{hex_text};
 ghost use Rattle.blk_headline.specs.Script.{totals_line};
-ghost use Rattle.blk_run.specs.Texts.{damage_line};
+ghost use Rattle.blk_run.specs.Texts.{damage_line, usage_text};
 
 use blk_io::{Damage, Failed, FileId, Sink};
 use itoa::Buffer;
 
-// Prints these pieces, one after another.
+// Prints these pieces, one after another, and flushes behind the last.
 fn print_all<K: Sink>(out: &mut K, pieces: &[&[u8]]) -> Result<(), Failed>
     ensures steps { OnOk result (K.written out.new ≡ option_map (λ w. w ++ flat_map (λ piece. piece.now) pieces.now) (K.written out.old)) }
     ensures prefix { Appends (K.written out.old) (K.written out.new) (flat_map (λ piece. piece.now) pieces.now) }
@@ -22,7 +22,20 @@ fn print_all<K: Sink>(out: &mut K, pieces: &[&[u8]]) -> Result<(), Failed>
     for piece in pieces {
         out.put(piece)?;
     }
-    Ok(())
+    out.flush()
+}
+
+/// Prints the usage, on a line.
+///
+/// Where the sink fails, a front of the line may have been printed.
+pub(crate) fn print_usage<K: Sink>(out: &mut K) -> Result<(), Failed>
+    ensures steps { OnOk result (K.written out.new ≡ option_map (λ w. w ++ usage_text) (K.written out.old)) }
+    ensures prefix { Appends (K.written out.old) (K.written out.new) usage_text }
+    ensures later { K.faults out.old ≤ K.faults out.new }
+    ensures failed { OnErr result (Rises (K.faults out.old) (K.faults out.new)) }
+{
+    out.put(b"usage\n")?;
+    out.flush()
 }
 
 // The eight hexadecimal digits of a word.

@@ -1,8 +1,17 @@
+use Rattle.std.proofs.Common.{arith}
 use Rattle.blk_inspect.specs.Texts.{inspect_text}
+use Rattle.blk_run.proofs.Flushing.{answer_flushed, inspect_device_flushed, inspect_sink_flushed, text_flushed, unprinted_flushed}
 use Rattle.blk_run.proofs.Showing.{shown_performs}
 use Rattle.blk_run.proofs.inspecting.show_part.Goals as goal
 
 pub returns-clause-performs : goal.returns-clause-performs
 returns-clause-performs g c limits left clock =
-    shown_performs (inspect_text c.args.part.now) limits _ _ _ _ _ _ _ _ _ left clock c.inspect-shown.ensures.stays c.inspect-shown.ensures.sink_later c.end_shown.ensures.later
-    c.inspect-shown.result c.end_shown.result c.end_shown.ensures.status c.inspect-shown.ensures.printed c.inspect-shown.ensures.answer c.inspect-shown.ensures.unprinted c.inspect-shown.ensures.device c.inspect-shown.ensures.sink c.end_shown.ensures.printed
+    let flushed = c.flush_text-shown.ensures.flushed in
+    shown_performs (inspect_text c.args.part.now) limits _ _ _ _ _ _ _ _ _ left clock c.inspect.ensures.stays (omega (arith, c.inspect.ensures.sink_later, c.flush_text-shown.ensures.later)) c.end_shown.ensures.later
+    c.flush_text-shown.result c.end_shown.result c.end_shown.ensures.status
+    (λ image here. text_flushed _ _ _ c.flush_text-shown.ensures.stays c.inspect.result c.flush_text-shown.result _ flushed _ (c.inspect.ensures.printed image here))
+    (λ image here. answer_flushed c.inspect.result c.flush_text-shown.result _ flushed image (c.inspect.ensures.answer image here))
+    (unprinted_flushed _ _ _ c.flush_text-shown.ensures.stays c.inspect.result c.flush_text-shown.result _ flushed c.inspect.ensures.unprinted)
+    (inspect_device_flushed c.inspect.result c.flush_text-shown.result _ _ flushed c.inspect.ensures.device)
+    (inspect_sink_flushed c.inspect.result c.flush_text-shown.result _ _ _ c.inspect.ensures.sink_later c.flush_text-shown.ensures.later flushed c.inspect.ensures.sink)
+    c.end_shown.ensures.printed

@@ -22,5 +22,6 @@ loop-piece-preserved g c = record {
 pub returns-clause-prefix : goal.returns-clause-prefix
 returns-clause-prefix g c =
     whole_part _ _ _
-    (c.loop-piece.invariant.written
+    (c.flush.ensures.stays
+    ∙ c.loop-piece.invariant.written
     ∙ ap (λ (t : List ℕ). option_map (λ (w : List ℕ). w ++ t) (g.K.Sink.written c.args.out.now)) (ap (flat_map (λ piece. piece.now)) (take_all c.loop-piece.piece-index c.args.pieces.now c.loop-piece-test.false)))
