@@ -14,6 +14,7 @@ import tempfile
 
 import floor
 import workloads
+from kinds import KINDS
 
 KEY = "https://example.test/r/{:06d}"
 
@@ -54,15 +55,6 @@ LINES = [
     ("Trim that evicts one entry", "trim {bytes}"),
 ]
 
-# Which system calls a column of the program's counts has.
-COLUMNS = {
-    "pwrites": ("pwrite64",),
-    "preads": ("pread64",),
-    "lengths, files": ("ftruncate", "openat", "unlink", "unlinkat", "close"),
-    "statx": ("statx", "fstat", "newfstatat"),
-    "output": ("write",),
-    "input": ("read",),
-}
 
 
 def write_folder_script(path):
@@ -135,13 +127,13 @@ def print_asked(steps):
 
 
 def print_made(steps, found):
-    print("\n| Command | pwrites asked | " + " | ".join(COLUMNS) + " | other | pwrites beside |")
-    print("|---" * (len(COLUMNS) + 4) + "|")
+    print("\n| Command | pwrites asked | " + " | ".join(KINDS) + " | other | pwrites beside |")
+    print("|---" * (len(KINDS) + 4) + "|")
     for (label, _), of, calls in zip(LINES, steps, found):
         if label:
             n = floor.counts(of)
             writes = n["word"] + n["data"]
-            columns = {name: sum(calls[it] for it in names) for name, names in COLUMNS.items()}
+            columns = {name: sum(calls[it] for it in names) for name, names in KINDS.items()}
             other = sum(calls.values()) - sum(columns.values())
             print(f"| {label} | {writes} | " + " | ".join(map(str, columns.values())) + f" | {other} | {columns['pwrites'] - writes} |")
 

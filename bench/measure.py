@@ -16,6 +16,7 @@ import time
 
 import floor
 import workloads
+from kinds import KINDS
 from peers import STEPS
 
 PART = int(os.environ.get("BENCH_PART", "1"))
@@ -29,16 +30,6 @@ KEEPERS = ("sqlite-wal", "files")
 
 # What is wanted at the most: of the floor's calls and of its seconds, of the seconds of `cat` for an opening, and of those of the best peer for large entries.
 MOST_CALLS, MOST_SECONDS, MOST_OF_CAT, MOST_OF_PEER = 1.3, 1.5, 2, 1
-
-# The kinds of system calls of the program, by their names.
-KINDS = {
-    "pwrites": ("pwrite64",),
-    "preads": ("pread64",),
-    "lengths, files": ("ftruncate", "openat", "unlink", "unlinkat", "close"),
-    "statx": ("statx", "fstat", "newfstatat"),
-    "output": ("write",),
-    "input": ("read",),
-}
 
 HEADINGS = (
     "Workload",
