@@ -30,7 +30,7 @@ impl Cache {
     /// becomes 0. Else nothing is written.
     ///
     /// It is refused with `BadHandle` where the name is free, or 4096 or more. For a last name one folder call reads the
-    /// record; four more make the dirty word 0; for a doomed object one more reads its places, and each of at most six
+    /// record; three more make the dirty word 0; for a doomed object one more reads its places, and each of at most six
     /// places takes seven at most. After a fault nothing is promised of the cache but that it may be let go.
     pub(crate) fn close<F: Folder>(&mut self, f: &mut F, handle: u16) -> Result<Answer, Fault>
         requires is_open { ForSome (F.told f.old).files (IsOpen self.old.files) }

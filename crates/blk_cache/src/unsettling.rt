@@ -20,7 +20,7 @@ impl Cache {
     /// Unsettles the object that a handle names, live or doomed, where it is settled: the dirty word of its node becomes
     /// the number of the session, and its names are marked so.
     ///
-    /// This takes four folder calls, and none where it isn't settled.
+    /// This takes three folder calls, and none where it isn't settled.
     pub(crate) fn unsettle<F: Folder>(&mut self, f: &mut F, handle: u16) -> Result<(), Fault>
         requires bound { IsSome (binding_of self.old.handles handle) }
         requires is_open { ForSome (F.told f.old).files (IsOpen self.old.files) }

@@ -66,7 +66,7 @@ fn objects_are_found_by_their_chains(rt: HostRuntime) -> Result<(), Fail> {
             most = most.max(calls);
         }
         let (_, calls) = close(&mut session, 0)?;
-        assert!(rt; calls <= 6);
+        assert!(rt; calls <= 5);
     }
     assert!(rt; most <= 70, "{most} calls");
     assert_eq!(rt; growths, 4);
@@ -75,7 +75,7 @@ fn objects_are_found_by_their_chains(rt: HostRuntime) -> Result<(), Fail> {
     assert!(rt; calls <= 2);
     let (answer, calls) = open(&mut session, 0, b"k2000")?;
     assert_eq!(rt; answer, Answer::Done);
-    assert!(rt; calls <= 44);
+    assert!(rt; calls <= 41);
     Ok(())
 }
 

@@ -14,11 +14,11 @@ fn an_eviction_reads_a_charge_once(rt: HostRuntime) -> Result<(), Fail> {
         session.out.written(),
         b"ok\nok 2\nok\nevicted a\nok 1\n".as_slice()
     );
-    assert_eq!(rt; calls, 50);
+    assert_eq!(rt; calls, 49);
     let mut session = Session::over(rt.alloc(), sparse_folder(rt.alloc())?, LIMITS)?;
     let calls = session.line(b"trim 0")?;
     let printed = b"evicted v\nevicted v part 1\nevicted v part 0\nok 3\n";
     assert_eq!(rt; session.out.written(), printed.as_slice());
-    assert_eq!(rt; calls, 175);
+    assert_eq!(rt; calls, 172);
     Ok(())
 }

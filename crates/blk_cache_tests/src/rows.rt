@@ -218,7 +218,7 @@ fn commands_take_few_folder_calls(rt: HostRuntime) -> Result<(), Fail> {
     let mut session = Session::over(rt.alloc(), empty(rt.alloc()), LIMITS)?;
     session.run(&[b"create 0 a", b"create 1 b", b"write 0 0 4999 7a"])?;
     for (line, most) in [
-        (b"read 0 0 0 4000".as_slice(), 12),
+        (b"read 0 0 0 4000".as_slice(), 9),
         (b"close 1", 12),
         (b"doom 0", 40),
     ] {
@@ -228,6 +228,6 @@ fn commands_take_few_folder_calls(rt: HostRuntime) -> Result<(), Fail> {
     session.line(b"create 1 c")?;
     session.write(1, 0, 300)?;
     let calls = session.write(1, 0, 100)?;
-    assert!(rt; calls <= 16, "{calls} calls");
+    assert!(rt; calls <= 13, "{calls} calls");
     Ok(())
 }

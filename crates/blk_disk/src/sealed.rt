@@ -32,7 +32,7 @@ impl BlockFiles {
     /// seal, and the new word; no two are of one place.
     ///
     /// The record is read by one folder call. Then its seal becomes 0, the words are written in the
-    /// order given, and the seal becomes the hash: one call for each word. A record that has too few
+    /// order given, and the seal becomes the hash: words that lie side by side by one call. A record that has too few
     /// bytes or doesn't check is a damage, and nothing is written. `Device` comes only where the folder
     /// failed in this call; a front of the words has then lasted.
     pub fn update_sealed<F: Folder>(

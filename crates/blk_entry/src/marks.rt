@@ -14,8 +14,8 @@ use blk_record::NodeView;
 
 /// Marks a node dirty, with a number that isn't 0.
 ///
-/// The node is read by one folder call. Then its seal becomes 0, the mark is written, and the seal
-/// becomes the hash: one call for each word. A node that has too few bytes or doesn't check is a
+/// The node is read by one folder call. Then its seal becomes 0, and by one call more the mark is written and the seal
+/// behind it becomes the hash. A node that has too few bytes or doesn't check is a
 /// damage, and nothing is written.
 pub fn set_dirty<F: Folder>(
     f: &mut F,

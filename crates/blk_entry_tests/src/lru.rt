@@ -260,7 +260,7 @@ fn changes_take_few_calls(rt: HostRuntime) -> Result<(), Fail> {
     let (mut f, files) = listing(rt.alloc(), &[zero, one])?;
     for (change, word, calls) in [
         (Change::Insert, two, 17),
-        (Change::Touch, one, 39),
+        (Change::Touch, one, 36),
         (Change::Remove, two, 17),
     ] {
         assert_eq!(rt; calls_of(&mut f, &files, change, word), Ok(calls));

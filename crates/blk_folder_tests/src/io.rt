@@ -1,7 +1,7 @@
 // Examples on the objects in memory.
 use blk_io::{
-    Clock, Failed, FileId, Folder, ListClock, MemFolder, MemSink, MemSource, NoMemory,
-    SilentFolder, Sink, Source, StopFolder, write_run,
+    Clock, Failed, Fault, FileId, Folder, ListClock, MemFolder, MemSink, MemSource, NoMemory,
+    SilentFolder, Sink, Source, StopFolder, read_word, write_run, write_words,
 };
 use std::alloc::Global;
 use std::test::Fail;
@@ -93,6 +93,86 @@ fn neighbouring_words_are_written_by_one_call(rt: HostRuntime) -> Result<(), Fai
     assert_eq!(rt; counted_two(&mut f), Ok((2, Some(2))));
     let bytes = [9, 9, 9, 9, 1, 2, 3, 4, 5, 0, 0, 0, 9, 9, 9, 9];
     assert_eq!(rt; holds(&mut f, &bytes, None), Ok(true));
+    Ok(())
+}
+
+// The words of an index of zeros once fourteen are written, each its number: three side by side, ten side by side, and one
+// apart.
+const FOURTEEN: [u32; 18] = [0, 1, 2, 3, 0, 4, 5, 6, 7, 8, 9, 10, 11, 12, 13, 0, 14, 0];
+
+// Writes the fourteen words.
+fn write_fourteen(f: &mut SilentFolder<MemFolder>) -> Result<(), Failed> {
+    let words = [
+        (4, 1),
+        (8, 2),
+        (12, 3),
+        (20, 4),
+        (24, 5),
+        (28, 6),
+        (32, 7),
+        (36, 8),
+        (40, 9),
+        (44, 10),
+        (48, 11),
+        (52, 12),
+        (56, 13),
+        (64, 14),
+    ];
+    write_words(f, FileId::Index, &words)
+}
+
+// Whether the index has so many of the fourteen, from the first on, and zeros.
+fn has_front(f: &mut MemFolder, count: u64) -> Result<bool, Fault> {
+    let front = FOURTEEN.map(|word: u32| -> u32 {
+        if u64::from(word) <= count { word } else { 0 }
+    });
+    let mut words = [0; 18];
+    for (slot, number) in words.iter_mut().zip(0..18u64) {
+        *slot = read_word(f, FileId::Index, number.wrapping_mul(4))?;
+    }
+    Ok(words == front)
+}
+
+// A folder whose index has zeros. Of the one inside the call with a number fails, and so many of its words last.
+fn zeros_failing(
+    alloc: Global,
+    call: u64,
+    words: u64,
+) -> Result<SilentFolder<MemFolder>, NoMemory> {
+    let mut f = MemFolder::new(alloc);
+    f.add_file(FileId::Index, &[0; 72])?;
+    f.fail_at(call, words)?;
+    Ok(SilentFolder::new(f))
+}
+
+#[test]
+fn at_most_eight_words_side_by_side_are_written_by_one_call(rt: HostRuntime) -> Result<(), Fail> {
+    let mut f = zeros_failing(rt.alloc(), u64::MAX, 0)?;
+
+    // One call writes three words, two write ten, and one writes one.
+    assert_eq!(rt; (write_fourteen(&mut f), f.calls()), (Ok(()), 4));
+    let mut f = f.into_inner();
+    assert_eq!(rt; (f.steps(), has_front(&mut f, 14)), (Some(14), Ok(true)));
+    for count in 0..14 {
+        let mut image = image_at(&f, count)?;
+        assert_eq!(rt; has_front(&mut image, count), Ok(true), "{count}");
+    }
+    Ok(())
+}
+
+#[test]
+fn words_side_by_side_last_in_part(rt: HostRuntime) -> Result<(), Fail> {
+    // The second of the writes fails, of eight words: the fourth call inside, where each write looks at the length first.
+    for words in [0, 1, 7, 8] {
+        let mut f = zeros_failing(rt.alloc(), 4, words)?;
+        assert_eq!(rt; (write_fourteen(&mut f), f.calls()), (Err(Failed), 2));
+        let mut f = f.into_inner();
+        let steps = words.wrapping_add(3);
+        assert_eq!(rt;
+            (f.steps(), has_front(&mut f, steps)),
+            (Some(steps), Ok(true))
+        );
+    }
     Ok(())
 }
 

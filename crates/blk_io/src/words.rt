@@ -1,5 +1,5 @@
 // Words and bytes that are read whole, and words that are written one by one or side by side.
-ghost use Rattle.std.specs.Prelude.{◌≡◌, ◌⊎◌, ◌+◌, ◌*◌, ◌%◌, ◌^◌, ◌≤◌, ◌<◌, ℕ, All, length, map, OnOk, OnErr, IfOk};
+ghost use Rattle.std.specs.Prelude.{◌≡◌, ◌⊎◌, ◌+◌, ◌*◌, ◌%◌, ◌^◌, ◌≤◌, ◌<◌, ℕ, All, length, map, OnOk, OnErr, IfOk, take};
 ghost use Rattle.std.specs.Option.{ForSome};
 ghost use Rattle.blk_image.specs.Bytes.{range_at, word_bytes};
 ghost use Rattle.blk_image.specs.Image.{HasRange, byte, word};
@@ -7,7 +7,7 @@ ghost use Rattle.blk_image.specs.Steps.{word_step, word_steps};
 ghost use Rattle.blk_image.specs.Told.{Applies, AppliesPrefix, Stays, Rises};
 ghost use Rattle.blk_io.specs.FileNames.{file_of};
 ghost use Rattle.blk_io.specs.Faults.{IfDamaged, IfDevice, IsShort};
-ghost use Rattle.blk_io.specs.Neighbours.{run_from};
+ghost use Rattle.blk_io.specs.Neighbours.{AreSideBySide, run_from};
 
 use crate::{Damage, Failed, Fault, FileId, Folder};
 
@@ -23,8 +23,12 @@ pub fn write_word<F: Folder>(f: &mut F, file: FileId, at: u64, value: u32) -> Re
     f.write_at(file, at, &value.to_le_bytes())
 }
 
-/// Writes these words in turn, each at its place and by a call of its own. `Failed` comes where the folder
-/// failed; some of the words may then be written, from the first on.
+// The most words that go by one call.
+const MOST_TOGETHER: usize = 8;
+
+/// Writes these words in turn, each at its place. Words that lie side by side, each behind the one before, go by one
+/// call, eight of them at the most. `Failed` comes where the folder failed; some of the words may then be written,
+/// from the first on.
 pub fn write_words<F: Folder>(f: &mut F, file: FileId, words: &[(u64, u32)]) -> Result<(), Failed>
     requires aligned { All (λ w. w.0 % 4 ≡ 0) words.now }
     requires inside { ForSome (F.told f.old).files (λ image. All (λ w. HasRange image (file_of file) w.0 4) words.now) }
@@ -33,10 +37,60 @@ pub fn write_words<F: Folder>(f: &mut F, file: FileId, words: &[(u64, u32)]) -> 
     ensures later { F.faults f.old ≤ F.faults f.new }
     ensures failed { OnErr result (Rises (F.faults f.old) (F.faults f.new)) }
 {
-    for (at, value) in words {
-        write_word(f, file, *at, *value)?;
+    let mut start = 0;
+    while start < words.len() {
+        let run = front_run(&words[start..]);
+        write_together(f, file, run)?;
+        start += run.len();
     }
     Ok(())
+}
+
+// The words at the front that lie side by side, each behind the one before: eight at the most.
+fn front_run(words: &[(u64, u32)]) -> &[(u64, u32)]
+    requires some { 0 < length words.now }
+    ensures inside { length result.now ≤ length words.now }
+    ensures front { result.now ≡ take (length result.now) words.now }
+    ensures some { 0 < length result.now }
+    ensures few { length result.now ≤ 8 }
+    ensures side_by_side { AreSideBySide result.now }
+{
+    let mut count = 1;
+    while count < words.len()
+        && count < MOST_TOGETHER
+        && words[count - 1].0.checked_add(4) == Some(words[count].0)
+    {
+        count += 1;
+    }
+    &words[..count]
+}
+
+// Writes words that lie side by side, by one call.
+fn write_together<F: Folder>(f: &mut F, file: FileId, words: &[(u64, u32)]) -> Result<(), Failed>
+    requires some { 0 < length words.now }
+    requires few { length words.now ≤ 8 }
+    requires side_by_side { AreSideBySide words.now }
+    requires aligned { All (λ w. w.0 % 4 ≡ 0) words.now }
+    requires inside { ForSome (F.told f.old).files (λ image. All (λ w. HasRange image (file_of file) w.0 4) words.now) }
+    ensures steps { OnOk result (Applies (F.told f.old) (F.told f.new) (word_steps (file_of file) words.now)) }
+    ensures prefix { AppliesPrefix (F.told f.old) (F.told f.new) (word_steps (file_of file) words.now) }
+    ensures later { F.faults f.old ≤ F.faults f.new }
+    ensures failed { OnErr result (Rises (F.faults f.old) (F.faults f.new)) }
+{
+    let bytes = bytes_of_all(words);
+    f.write_at(file, words[0].0, bytes[..words.len()].as_flattened())
+}
+
+// The bytes of each of these words, its low byte first.
+fn bytes_of_all(words: &[(u64, u32)]) -> [[u8; 4]; MOST_TOGETHER]
+    requires few { length words.now ≤ 8 }
+    ensures { take (length words.now) result ≡ map (λ w. word_bytes w.1) words.now }
+{
+    let mut bytes = [[0u8; 4]; MOST_TOGETHER];
+    for (i, (_, word)) in words.iter().enumerate() {
+        bytes[i] = word.to_le_bytes();
+    }
+    bytes
 }
 
 /// Writes neighbouring words from a place on, by one call. `Failed` comes where the folder failed; some of

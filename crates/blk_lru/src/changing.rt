@@ -102,7 +102,7 @@ pub fn remove<F: Folder>(f: &mut F, files: &BlockFiles, node: Addr) -> Result<()
 /// The operation word and the transaction word are written, the node is taken out, the operation
 /// word becomes that of an insert, and the node is put in front; then the transaction ends. Where the
 /// node is the first one already no transaction is started. At last the times are written. Damages
-/// are those of an insert and a removal. This takes at most 39 folder calls.
+/// are those of an insert and a removal. This takes at most 36 folder calls.
 pub fn touch<F: Folder>(f: &mut F, files: &BlockFiles, node: Addr, moment: u64) -> Result<(), Fault>
     requires stands { IsTrue (is_node_among files.now node) }
     requires is_open { ForSome (F.told f.old).files (IsOpen files.now) }

@@ -47,7 +47,7 @@ pub(crate) fn read_counters<F: Folder>(f: &mut F) -> Result<Counters, Fault>
     })
 }
 
-/// Writes the counters for one entry more, with its charge, by three folder calls.
+/// Writes the counters for one entry more, with its charge, by two folder calls.
 pub(crate) fn count_entry<F: Folder>(
     f: &mut F,
     files: &BlockFiles,
@@ -69,7 +69,7 @@ pub(crate) fn count_entry<F: Folder>(
 }
 
 /// Counts one entry less, with a charge, in the counters of the index, which are words: three folder calls read them,
-/// and three write them.
+/// and two write them.
 pub fn count_less<F: Folder>(f: &mut F, files: &BlockFiles, charge: u64) -> Result<(), Fault>
     requires is_open { ForSome (F.told f.old).files (IsOpen files.now) }
     ensures counted { OnOk result (ForSome (F.told f.old).files (λ from. ForSome (F.told f.new).files (AreCountedLess (charge % 2 ^ 32) from))) }
@@ -91,7 +91,7 @@ pub fn count_less<F: Folder>(f: &mut F, files: &BlockFiles, charge: u64) -> Resu
 }
 
 /// Counts so many entries more in the counters of the index, and a charge more, as words: three folder calls read them,
-/// and three write them.
+/// and two write them.
 pub fn count_more<F: Folder>(
     f: &mut F,
     files: &BlockFiles,
@@ -156,7 +156,7 @@ fn set_bytes<F: Folder>(f: &mut F, files: &BlockFiles, bytes: u32) -> Result<(),
     write_words(f, FileId::Index, &[(IndexHead::NUM_BYTES, bytes)])
 }
 
-// Writes the counters of the index, by three folder calls.
+// Writes the counters of the index, by two folder calls: the first two lie side by side.
 fn set_counters<F: Folder>(
     f: &mut F,
     files: &BlockFiles,

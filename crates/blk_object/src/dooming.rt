@@ -63,7 +63,7 @@ pub fn doom_record<F: Folder>(f: &mut F, files: &BlockFiles, entry: Addr) -> Res
 /// is freed: its places stay its until the last handle is closed.
 ///
 /// Its record stands in its chain behind the record before, or is the first; and it names this node. This takes as many
-/// folder calls as `take_out`, four for the record, and six for the counters.
+/// folder calls as `take_out`, four for the record, and five for the counters.
 pub fn doom_plain<F: Folder>(
     f: &mut F,
     files: &BlockFiles,

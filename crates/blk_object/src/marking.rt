@@ -14,7 +14,7 @@ use blk_entry::{set_clean, set_dirty};
 use blk_io::{Fault, Folder};
 
 /// Makes the dirty word of a node this number, where 0 says that its object is settled: one folder call reads the node,
-/// and three write.
+/// and two write.
 pub fn set_mark<F: Folder>(
     f: &mut F,
     files: &BlockFiles,

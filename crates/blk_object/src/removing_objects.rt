@@ -28,7 +28,7 @@ use blk_io::{Fault, Folder};
 /// given, in bytes.
 ///
 /// Its record stands in its chain behind the record before, or is the first; and it names this node. This takes at most
-/// 23 folder calls until it is out, seven for each of its places, and six for the counters.
+/// 23 folder calls until it is out, seven for each of its places, and five for the counters.
 pub fn remove_item<F: Folder>(
     f: &mut F,
     files: &BlockFiles,

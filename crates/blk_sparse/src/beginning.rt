@@ -37,7 +37,7 @@ const PARENT: u32 = 1;
 /// Makes a plain object, that isn't settled and has nothing in its second and its third stream, a sparse one with a
 /// signature: its third stream gets the index of a parent without parts, and then its record the flags of a parent.
 ///
-/// The counters of the index stay. One folder call reads the record, and seven write the flags, beside those of
+/// The counters of the index stay. One folder call reads the record, and four give it the flags, beside those of
 /// `write_object`.
 ///
 /// A damage is one of `write_object`, a record that doesn't check, or one with a key of a length that no object's has.
