@@ -1,10 +1,10 @@
 -- An answer, before and after what was printed is flushed.
-use Rattle.std.proofs.Common.{ℕ, ◌≤◌, ◌≡◌, inl, inr, true, false, List, [], ◌∷◌, ◌++◌, Option, None, Some, OnOk, Ok, Err, Result, refl, sym, ◌∙◌, subst, arith}
-use Rattle.std.specs.Option.{ForSome, option_map}
+use Rattle.std.proofs.Common.{ℕ, ◌≤◌, ◌≡◌, inl, inr, true, false, List, [], ◌∷◌, Option, Ok, Err, Result, sym, subst, arith}
 use Rattle.std.proofs.lemmas.List.{append-nil}
 use Rattle.blk_image.specs.Image.{Image}
 use Rattle.blk_image.specs.Told.{Rises, Told}
-use Rattle.blk_io.specs.Streams.{Appends, Readings}
+use Rattle.blk_io.specs.declared.fault.Damage.{Damage}
+use Rattle.blk_io.specs.Streams.{Readings}
 use Rattle.blk_model.specs.declared.Answer.{Answer}
 use Rattle.blk_model.specs.Request.{Request}
 use Rattle.blk_model.specs.State.{State}
@@ -14,7 +14,7 @@ use Rattle.blk_cache.specs.declared.fault.StepFault.TheVariants as fault
 use Rattle.blk_cache.specs.Stepping.{IfDone, IfSink, IfStepDevice}
 use Rattle.blk_inspect.specs.declared.fault.InspectFault.{InspectFault}
 use Rattle.blk_inspect.specs.declared.fault.InspectFault.TheVariants as inspect_fault
-use Rattle.blk_inspect.specs.Inspecting.{AnswersFor, IfInspectDevice, IfInspectSink, PrintsAt, UnlessSink}
+use Rattle.blk_inspect.specs.Inspecting.{AnswersFor, IfInspectDamaged, IfInspectDevice, IfInspectSink, PrintsAt, UnlessSink}
 use Rattle.blk_run.specs.Errors.{IsFlushed}
 use Rattle.blk_run.specs.Playing.{AreMade, AreMadeTo, Asks, SoFar, has_refused}
 use Rattle.blk_run.proofs.Asking.{around}
@@ -112,6 +112,11 @@ answer_flushed (Err why) after failed (inr how) image answers = absurd (no_answe
 pub inspect_device_flushed : (before after : Result (Unit {0}) InspectFault) (failed P : Type 0) → IsFlushed before after inspect_fault.Sink failed → IfInspectDevice before P → IfInspectDevice after P
 inspect_device_flushed before after failed P (inl same) device = subst (λ (r : Result (Unit {0}) InspectFault). IfInspectDevice r P) (sym same) device
 inspect_device_flushed before after failed P (inr how) device = subst (λ (r : Result (Unit {0}) InspectFault). IfInspectDevice r P) (sym how.1.0) tt
+
+-- a check failed only where it did before
+pub inspect_damaged_flushed : (before after : Result (Unit {0}) InspectFault) (failed : Type 0) (P : Damage → Type 0) → IsFlushed before after inspect_fault.Sink failed → IfInspectDamaged before P → IfInspectDamaged after P
+inspect_damaged_flushed before after failed P (inl same) damaged = subst (λ (r : Result (Unit {0}) InspectFault). IfInspectDamaged r P) (sym same) damaged
+inspect_damaged_flushed before after failed P (inr how) damaged = subst (λ (r : Result (Unit {0}) InspectFault). IfInspectDamaged r P) (sym how.1.0) tt
 
 inspect_sink_until : (r : Result (Unit {0}) InspectFault) (a b c : ℕ) → b ≤ c → IfInspectSink r (Rises a b) → IfInspectSink r (Rises a c)
 inspect_sink_until (Ok done) a b c more rose = tt

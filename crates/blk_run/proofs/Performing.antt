@@ -11,6 +11,7 @@ use Rattle.blk_headline.specs.Opening.{IsUsable}
 use Rattle.blk_headline.specs.Script.{Script}
 use Rattle.blk_run.specs.declared.ending.Status.{Status}
 use Rattle.blk_run.specs.declared.ending.Status.TheVariants as status
+use Rattle.blk_run.specs.Failing.{IsDamagedRun}
 use Rattle.blk_run.specs.Inputs.{IsReadWhole, IsTakenPast, IsTakenUpTo}
 use Rattle.blk_run.specs.Session.{DoesNothing, FixedScript, IsCompleteScript, IsDamagedBy, LeavesUnput, OnDamage, Outside, Put}
 use Rattle.blk_run.specs.Statuses.{CauseOf}
@@ -19,20 +20,20 @@ use Rattle.blk_run.specs.WholeInputs.{IsWholeInRoom, longest_input}
 use Rattle.blk_run.specs.Work.{Performs, ReadsOnDamage, no_input, whole_input}
 
 -- a cause, where the source can't have failed and nothing is too long
-pub cause_wider : (s : Status) (files : Option Image) (device source sink long : Type 0) → CauseOf s files device ⊥ sink ⊥ → CauseOf s files device source sink long
-cause_wider status.Ok files device source sink long cause = tt
-cause_wider status.Refused files device source sink long cause = tt
-cause_wider status.Words files device source sink long cause = cause
-cause_wider status.Device files device source sink long cause = cause
-cause_wider status.Source files device source sink long cause = absurd cause
-cause_wider status.Sink files device source sink long cause = cause
-cause_wider status.Memory files device source sink long cause = tt
-cause_wider status.Damaged files device source sink long cause = cause
-cause_wider status.TooLong files device source sink long cause = absurd cause
+pub cause_wider : (s : Status) (damaged device source sink long : Type 0) → CauseOf s damaged device ⊥ sink ⊥ → CauseOf s damaged device source sink long
+cause_wider status.Ok damaged device source sink long cause = tt
+cause_wider status.Refused damaged device source sink long cause = tt
+cause_wider status.Words damaged device source sink long cause = cause
+cause_wider status.Device damaged device source sink long cause = cause
+cause_wider status.Source damaged device source sink long cause = absurd cause
+cause_wider status.Sink damaged device source sink long cause = cause
+cause_wider status.Memory damaged device source sink long cause = tt
+cause_wider status.Damaged damaged device source sink long cause = cause
+cause_wider status.TooLong damaged device source sink long cause = absurd cause
 
 -- no work ends with the usage
-pub never_words : (s : Status) (files : Option Image) (device source sink long : Type 0) → CauseOf s files device source sink long → s ≡ status.Words → ⊥
-never_words s files device source sink long cause is = subst (λ (x : Status). CauseOf x files device source sink long) is cause
+pub never_words : (s : Status) (damaged device source sink long : Type 0) → CauseOf s damaged device source sink long → s ≡ status.Words → ⊥
+never_words s damaged device source sink long cause is = subst (λ (x : Status). CauseOf x damaged device source sink long) is cause
 
 -- the key that a field says
 pub same_key : {a b : List ℕ} → ◌≡◌ {A = Result (List ℕ) LineFault} (Ok a) (Ok b) → a ≡ b
@@ -86,7 +87,7 @@ pub record RunsScript (script : Script) (result : Status) (limits : Bounds) (dev
   pub plays : ForSome old.folder.files (λ from. IsUsable from → ForSome old.clock (λ readings. FixedScript result script limits from readings (Rises before now) old new))
   pub complete : ForSome old.folder.files (λ from. IsUsable from → ForSome old.clock (λ readings. (device → ⊥) → (Rises before now → ⊥) → IsCompleteScript result script limits from readings old new))
   pub damage : ForSome old.folder.files (λ from. (damage : Damage) → IsDamagedBy damage from → OnDamage result damage before now old new)
-  pub cause : CauseOf result old.folder.files device ⊥ (Rises before now) ⊥
+  pub cause : CauseOf result (IsDamagedRun old.folder new.folder old.written new.written before now) device ⊥ (Rises before now) ⊥
 
 module _ (result : Status) (limits : Bounds) (device source : Type 0) (before now : ℕ) (old new : Outside) where
   -- a script that leaves the input unread
@@ -95,7 +96,7 @@ module _ (result : Status) (limits : Bounds) (device source : Type 0) (before no
     plays = runs.plays;
     complete = λ from there usable readings clock no_device no_source no_sink. runs.complete from there usable readings clock no_device no_sink;
     damage = runs.damage;
-    cause = cause_wider result old.folder.files device source (Rises before now) ⊥ runs.cause;
+    cause = cause_wider result (IsDamagedRun old.folder new.folder old.written new.written before now) device source (Rises before now) ⊥ runs.cause;
     takes = unread;
   })
 
@@ -105,7 +106,7 @@ module _ (result : Status) (limits : Bounds) (device source : Type 0) (before no
     plays = does.plays;
     complete = λ from there usable readings clock no_device no_source no_sink. does.complete from there usable readings clock no_device (λ x. x) no_sink;
     damage = does.damage;
-    cause = cause_wider result old.folder.files device source (Rises before now) ⊥ does.cause;
+    cause = cause_wider result (IsDamagedRun old.folder new.folder old.written new.written before now) device source (Rises before now) ⊥ does.cause;
     takes = does.takes;
   }
 
@@ -144,7 +145,7 @@ module _ (result : Status) (limits : Bounds) (device source : Type 0) (before no
     complete = λ from there usable readings clock no_device no_source no_sink input left within.
         subst (λ (s : Script). IsCompleteScript result s limits from readings (record old { left = new.left }) new) (same ∙ ap script (whole input left).0) (runs.complete from there usable readings clock no_device no_sink);
     damage = λ from there damage is. reads_of result damage (λ input left. (whole input left).1) (runs.damage from there damage is);
-    cause = cause_wider result old.folder.files device source (Rises before now) (ForSome old.left (λ input. longest_input < length input)) runs.cause;
+    cause = cause_wider result (IsDamagedRun old.folder new.folder old.written new.written before now) device source (Rises before now) (ForSome old.left (λ input. longest_input < length input)) runs.cause;
     takes = λ input left. up_to_more longest_input (longest_input + 1) new.left input (omega arith) (all_taken longest_input input new.left (whole input left).1);
   }
 

@@ -1,7 +1,6 @@
 -- The cause of how a fixed script ended, and that a folder that tells its files gives no damage.
-use Rattle.std.proofs.Common.{ℕ, ◌≤◌, ◌≡◌, ◌≢◌, ◌⊎◌, inl, inr, Bool, true, false, List, Option, None, Some, Result, Ok, Err, sym, ◌∙◌, subst, arith}
+use Rattle.std.proofs.Common.{ℕ, ◌≤◌, ◌≡◌, ◌≢◌, ◌⊎◌, inl, inr, Bool, true, false, List, Result, Ok, Err, sym, ◌∙◌, subst, arith}
 use Rattle.std.specs.Prelude.{if◌then◌else◌}
-use Rattle.std.specs.Option.{ForSome}
 use Rattle.blk_image.specs.Image.{Image}
 use Rattle.blk_image.specs.Told.{Rises}
 use Rattle.blk_io.specs.Streams.{Readings}
@@ -9,35 +8,26 @@ use Rattle.blk_model.specs.State.{State}
 use Rattle.blk_headline.specs.Run.{Turn}
 use Rattle.blk_cache.specs.declared.fault.StepFault.{StepFault}
 use Rattle.blk_cache.specs.declared.fault.StepFault.TheVariants as step_fault
-use Rattle.blk_cache.specs.Stepping.{IfDone, IfSink, IfStepDevice}
+use Rattle.blk_cache.specs.Stepping.{IfDone, IfSink, IfStepDamaged, IfStepDevice}
 use Rattle.blk_run.specs.declared.ending.Status.{Status}
 use Rattle.blk_run.specs.declared.ending.Status.TheVariants as status
 use Rattle.blk_run.specs.Playing.{Around, PlaysPart, SoFar, StandsAt}
 use Rattle.blk_run.specs.Scripts.{closes_script, script_status}
 use Rattle.blk_run.specs.Statuses.{CauseOf}
-use Rattle.blk_run.proofs.SessionEnds.{cause_since}
 
 no_true : false ≡ true → ⊥
 no_true e = cc
 
--- what is said of an image, where none is told
-pub of_none : (P : Image → Type 0) → ForSome None P
-of_none P image there = absurd (none there)
-  where
-    none : {image : Image} → ◌≡◌ {A = Option Image} None (Some image) → ⊥
-    none e = cc
+cause_of_result : (r : Result (Unit {0}) StepFault) (refused : Bool) (damaged device sink : Type 0) → IfStepDamaged r (λ _. damaged) → IfStepDevice r device → IfSink r sink → CauseOf (script_status r refused) damaged device ⊥ sink ⊥
+cause_of_result (Ok done) true damaged device sink c d k = tt
+cause_of_result (Ok done) false damaged device sink c d k = tt
+cause_of_result (Err step_fault.Sink) refused damaged device sink c d k = k
+cause_of_result (Err step_fault.Device) refused damaged device sink c d k = d
+cause_of_result (Err (step_fault.Damaged damage)) refused damaged device sink c d k = c
 
-cause_of_result : (r : Result (Unit {0}) StepFault) (refused : Bool) (device sink : Type 0) → IfStepDevice r device → IfSink r sink → CauseOf (script_status r refused) None device ⊥ sink ⊥
-cause_of_result (Ok done) true device sink d k = tt
-cause_of_result (Ok done) false device sink d k = tt
-cause_of_result (Err step_fault.Sink) refused device sink d k = k
-cause_of_result (Err step_fault.Device) refused device sink d k = d
-cause_of_result (Err (step_fault.Damaged damage)) refused device sink d k = of_none _
-
--- of how a script came to an end; the count of the folder may rise behind it
-pub script_cause : (s : Status) (r : Result (Unit {0}) StepFault) (refused : Bool) (device later sink : Type 0) → s ≡ script_status r refused → (device → later) → IfStepDevice r device → IfSink r sink → CauseOf s None later ⊥ sink ⊥
-script_cause s r refused device later sink is more d k =
-    cause_since s None device later ⊥ sink ⊥ more (λ damaged. of_none _) (subst (λ (x : Status). CauseOf x None device ⊥ sink ⊥) (sym is) (cause_of_result r refused device sink d k))
+-- of how a script came to an end
+pub script_cause : (s : Status) (r : Result (Unit {0}) StepFault) (refused : Bool) (damaged device sink : Type 0) → s ≡ script_status r refused → IfStepDamaged r (λ _. damaged) → IfStepDevice r device → IfSink r sink → CauseOf s damaged device ⊥ sink ⊥
+script_cause s r refused damaged device sink is c d k = subst (λ (x : Status). CauseOf x damaged device ⊥ sink ⊥) (sym is) (cause_of_result r refused damaged device sink c d k)
 
 -- a count that rose before has risen since
 pub rises_until : (a b c : ℕ) → b ≤ c → Rises a b → Rises a c
@@ -79,10 +69,10 @@ script_kept (Err step_fault.Device) part far keeps notes left old new may plays 
 script_kept (Err (step_fault.Damaged damage)) part far keeps notes left old new may plays = absurd (no_true may)
 
 -- of how `count` ended: there are three ways
-pub count_cause : (s : Status) (files : Option Image) (device sink : Type 0) → (s ≡ status.Ok) ⊎ ((s ≡ status.Sink) ⊎ (s ≡ status.Device)) → (s ≡ status.Device → device) → (s ≡ status.Sink → sink) → CauseOf s files device ⊥ sink ⊥
-count_cause s files device sink (inl is) on_device on_sink = subst (λ (x : Status). CauseOf x files device ⊥ sink ⊥) (sym is) tt
-count_cause s files device sink (inr (inl is)) on_device on_sink = subst (λ (x : Status). CauseOf x files device ⊥ sink ⊥) (sym is) (on_sink is)
-count_cause s files device sink (inr (inr is)) on_device on_sink = subst (λ (x : Status). CauseOf x files device ⊥ sink ⊥) (sym is) (on_device is)
+pub count_cause : (s : Status) (damaged device sink : Type 0) → (s ≡ status.Ok) ⊎ ((s ≡ status.Sink) ⊎ (s ≡ status.Device)) → (s ≡ status.Device → device) → (s ≡ status.Sink → sink) → CauseOf s damaged device ⊥ sink ⊥
+count_cause s damaged device sink (inl is) on_device on_sink = subst (λ (x : Status). CauseOf x damaged device ⊥ sink ⊥) (sym is) tt
+count_cause s damaged device sink (inr (inl is)) on_device on_sink = subst (λ (x : Status). CauseOf x damaged device ⊥ sink ⊥) (sym is) (on_sink is)
+count_cause s damaged device sink (inr (inr is)) on_device on_sink = subst (λ (x : Status). CauseOf x damaged device ⊥ sink ⊥) (sym is) (on_device is)
 
 -- where what is open may be closed, the script was done
 pub done_open : (r : Result (Unit {0}) StepFault) (P : Type 0) → closes_script r ≡ true → IfDone r P → P

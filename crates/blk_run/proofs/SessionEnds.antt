@@ -4,7 +4,6 @@ use Rattle.std.specs.Prelude.{IsErrAnd, if◌then◌else◌}
 use Rattle.std.specs.Option.{option_map, ForSome}
 use Rattle.blk_image.specs.Image.{Image}
 use Rattle.blk_image.specs.Told.{Rises, Told}
-use Rattle.blk_io.specs.Faults.{damage_of}
 use Rattle.blk_io.specs.declared.fault.Damage.{Damage}
 use Rattle.blk_io.specs.declared.fault.Fault.{Fault}
 use Rattle.blk_io.specs.declared.fault.Fault.TheVariants as fault
@@ -16,17 +15,12 @@ use Rattle.blk_volume.specs.Found.{found}
 use Rattle.blk_headline.specs.Opening.{IsUsable}
 use Rattle.blk_cache.specs.declared.fault.StepFault.{StepFault}
 use Rattle.blk_cache.specs.declared.fault.StepFault.TheVariants as step_fault
-use Rattle.blk_cache.specs.declared.fault.OpenFault.{OpenFault}
-use Rattle.blk_cache.specs.declared.fault.OpenFault.TheVariants as open_fault
-use Rattle.blk_cache.specs.Opened.{IsFirstDamage}
 use Rattle.blk_cache.specs.Opening as opening
-use Rattle.blk_cache.specs.Opening.{IfOpenDamaged}
-use Rattle.blk_cache.specs.Stepping.{IfSink, IfStepDevice}
+use Rattle.blk_cache.specs.Stepping.{IfSink, IfStepDamaged, IfStepDevice}
 use Rattle.blk_run.specs.declared.ending.Status.{Status}
 use Rattle.blk_run.specs.declared.ending.Status.TheVariants as status
 use Rattle.blk_run.specs.declared.input.InputEnd.{InputEnd}
 use Rattle.blk_run.specs.declared.input.InputEnd.TheVariants as end
-use Rattle.blk_run.specs.Count.{IsDamaged}
 use Rattle.blk_run.specs.Ending.{EndsRun}
 use Rattle.blk_run.specs.Inputs.{IfFailed, IfTooLong, IsTakenUpTo, PlaysInput}
 use Rattle.blk_run.specs.Playing.{Around, SoFar, StandsAt}
@@ -127,29 +121,31 @@ session_of_runs status.Memory limits budget from readings input source sink old 
 -- Causes.
 
 -- of how an input came to an end
-pub cause_after : (r : Result InputEnd StepFault) (refused : Bool) (device source sink long : Type 0) → IfStepDevice r device → IfFailed r source → IfSink r sink → IfTooLong r long → CauseOf (status_after r refused) None device source sink long
-cause_after (Ok end.Whole) true device source sink long d s k l = tt
-cause_after (Ok end.Whole) false device source sink long d s k l = tt
-cause_after (Ok end.Failed) refused device source sink long d s k l = s
-cause_after (Ok end.TooLong) refused device source sink long d s k l = l
-cause_after (Err step_fault.Sink) refused device source sink long d s k l = k
-cause_after (Err step_fault.Device) refused device source sink long d s k l = d
-cause_after (Err (step_fault.Damaged damage)) refused device source sink long d s k l = λ image there. absurd (none there)
-  where
-    none : {image : Image} → ◌≡◌ {A = Option Image} None (Some image) → ⊥
-    none e = cc
+cause_after : (r : Result InputEnd StepFault) (refused : Bool) (damaged device source sink long : Type 0) → IfStepDamaged r (λ _. damaged) → IfStepDevice r device → IfFailed r source → IfSink r sink → IfTooLong r long → CauseOf (status_after r refused) damaged device source sink long
+cause_after (Ok end.Whole) true damaged device source sink long c d s k l = tt
+cause_after (Ok end.Whole) false damaged device source sink long c d s k l = tt
+cause_after (Ok end.Failed) refused damaged device source sink long c d s k l = s
+cause_after (Ok end.TooLong) refused damaged device source sink long c d s k l = l
+cause_after (Err step_fault.Sink) refused damaged device source sink long c d s k l = k
+cause_after (Err step_fault.Device) refused damaged device source sink long c d s k l = d
+cause_after (Err (step_fault.Damaged damage)) refused damaged device source sink long c d s k l = c
 
--- the count of the folder may have risen before
-pub cause_since : (s : Status) (files : Option Image) (device device_all source sink long : Type 0) → (device → device_all) → (s ≡ status.Damaged → ForSome files IsDamaged) → CauseOf s None device source sink long → CauseOf s files device_all source sink long
-cause_since status.Ok files device device_all source sink long more damaged cause = tt
-cause_since status.Refused files device device_all source sink long more damaged cause = tt
-cause_since status.Words files device device_all source sink long more damaged cause = cause
-cause_since status.Device files device device_all source sink long more damaged cause = more cause
-cause_since status.Source files device device_all source sink long more damaged cause = cause
-cause_since status.Sink files device device_all source sink long more damaged cause = cause
-cause_since status.Memory files device device_all source sink long more damaged cause = tt
-cause_since status.Damaged files device device_all source sink long more damaged cause = damaged refl
-cause_since status.TooLong files device device_all source sink long more damaged cause = cause
+-- the same of the status
+pub input_cause : (s : Status) (r : Result InputEnd StepFault) (refused : Bool) (damaged device source sink long : Type 0) → s ≡ status_after r refused → IfStepDamaged r (λ _. damaged) → IfStepDevice r device → IfFailed r source → IfSink r sink → IfTooLong r long
+    → CauseOf s damaged device source sink long
+input_cause s r refused damaged device source sink long is c d f k l = subst (λ (x : Status). CauseOf x damaged device source sink long) (sym is) (cause_after r refused damaged device source sink long c d f k l)
+
+-- the count of the folder may have risen before, and of a damage more may be known
+pub cause_since : (s : Status) (damaged damaged_all device device_all source sink long : Type 0) → (s ≡ status.Damaged → damaged → damaged_all) → (device → device_all) → CauseOf s damaged device source sink long → CauseOf s damaged_all device_all source sink long
+cause_since status.Ok damaged damaged_all device device_all source sink long known more cause = tt
+cause_since status.Refused damaged damaged_all device device_all source sink long known more cause = tt
+cause_since status.Words damaged damaged_all device device_all source sink long known more cause = cause
+cause_since status.Device damaged damaged_all device device_all source sink long known more cause = more cause
+cause_since status.Source damaged damaged_all device device_all source sink long known more cause = cause
+cause_since status.Sink damaged damaged_all device device_all source sink long known more cause = cause
+cause_since status.Memory damaged damaged_all device device_all source sink long known more cause = tt
+cause_since status.Damaged damaged damaged_all device device_all source sink long known more cause = known refl cause
+cause_since status.TooLong damaged damaged_all device device_all source sink long known more cause = cause
 
 -- a fault of a closing that is handed on
 pub ends_handed : (q : Result (Unit {0}) Fault) (why : Fault) (far : SoFar) (new : Told) (clock_old clock_new : Option Readings) → IsErrAnd q (λ (x : Fault). x ≡ why) → EndsRun (Err why) far new clock_old clock_new → EndsRun q far new clock_old clock_new
@@ -218,22 +214,16 @@ opened_at None middle is_open silent opened image here = absurd (no_image (sym (
     no_image e = cc
 opened_at (Some from) middle is_open silent opened image here = opened from refl image here
 
--- a damage that is the first of the folder
-pub first_of : (A : Type 0) (f : OpenFault) (damage : Damage) (files : Option Image) → f ≡ open_fault.Damaged damage → IfOpenDamaged {A = A} (Err f) (λ d. ForSome files (IsFirstDamage d)) → ForSome files IsDamaged
-first_of A f damage files is first image there =
-    let own = subst (λ (x : OpenFault). IfOpenDamaged {A = A} (Err x) (λ d. ForSome files (IsFirstDamage d))) is first image there in
-    record { finished = own.finished; damage = damage_of damage; first = own.first }
-
 -- the count rose since an earlier moment
 pub rises_since : (a b c : ℕ) → a ≤ b → Rises b c → Rises a c
 rises_since a b c less rises few = let r = rises few in omega (arith, r, less)
 
 -- the cause of a status that is this one
-pub device_cause : (s : Status) (files : Option Image) (device source sink long : Type 0) → CauseOf s files device source sink long → s ≡ status.Device → device
-device_cause s files device source sink long cause is = subst (λ (x : Status). CauseOf x files device source sink long) is cause
+pub device_cause : (s : Status) (damaged device source sink long : Type 0) → CauseOf s damaged device source sink long → s ≡ status.Device → device
+device_cause s damaged device source sink long cause is = subst (λ (x : Status). CauseOf x damaged device source sink long) is cause
 
-pub source_cause : (s : Status) (files : Option Image) (device source sink long : Type 0) → CauseOf s files device source sink long → s ≡ status.Source → source
-source_cause s files device source sink long cause is = subst (λ (x : Status). CauseOf x files device source sink long) is cause
+pub source_cause : (s : Status) (damaged device source sink long : Type 0) → CauseOf s damaged device source sink long → s ≡ status.Source → source
+source_cause s damaged device source sink long cause is = subst (λ (x : Status). CauseOf x damaged device source sink long) is cause
 
-pub sink_cause : (s : Status) (files : Option Image) (device source sink long : Type 0) → CauseOf s files device source sink long → s ≡ status.Sink → sink
-sink_cause s files device source sink long cause is = subst (λ (x : Status). CauseOf x files device source sink long) is cause
+pub sink_cause : (s : Status) (damaged device source sink long : Type 0) → CauseOf s damaged device source sink long → s ≡ status.Sink → sink
+sink_cause s damaged device source sink long cause is = subst (λ (x : Status). CauseOf x damaged device source sink long) is cause

@@ -11,8 +11,9 @@ use Rattle.blk_model.specs.State.{Bounds}
 use Rattle.blk_headline.specs.Opening.{IsUsable}
 use Rattle.blk_inspect.specs.declared.fault.InspectFault.{InspectFault}
 use Rattle.blk_inspect.specs.declared.fault.InspectFault.TheVariants as fault
-use Rattle.blk_inspect.specs.Inspecting.{AnswersFor, IfInspectDevice, IfInspectSink, IsDamagedFirst, PrintsAt, UnlessSink}
+use Rattle.blk_inspect.specs.Inspecting.{AnswersFor, IfInspectDamaged, IfInspectDevice, IfInspectSink, IsDamagedFirst, IsInspectDamage, PrintsAt, UnlessSink}
 use Rattle.blk_run.specs.declared.ending.Status.{Status}
+use Rattle.blk_run.specs.Failing.{IsFailedInReading}
 use Rattle.blk_run.specs.Session.{IsDamagedBy, Outside}
 use Rattle.blk_run.specs.Shown.{PrintsFault, status_shown}
 use Rattle.blk_run.specs.Texts.{Prints, damage_line}
@@ -53,23 +54,23 @@ module _ (text : Image → List ℕ) (limits : Bounds) (device : Type 0) (before
   abbrev new : Outside
   new = record { folder = final; written = w_new; left = left; clock = clock }
 
-  shown_at : (r : Result (Unit {0}) InspectFault) → ForSome start.files (λ image. PrintsAt r (text image) w_old w_mid) → ForSome start.files (AnswersFor r) → UnlessSink r (w_mid ≡ w_old) → IfInspectDevice r device → IfInspectSink r (Rises before between)
-      → PrintsFault r w_mid w_new between now → Performs (folder_text text) (status_shown r) limits device ⊥ before now old new
-  shown_at (Ok done) printed answer unprinted device_is sink_is behind = record {
+  shown_at : (r : Result (Unit {0}) InspectFault) → ForSome start.files (λ image. PrintsAt r (text image) w_old w_mid) → ForSome start.files (AnswersFor r) → UnlessSink r (w_mid ≡ w_old) → IfInspectDamaged r (IsInspectDamage start) → IfInspectDevice r device
+      → IfInspectSink r (Rises before between) → PrintsFault r w_mid w_new between now → Performs (folder_text text) (status_shown r) limits device ⊥ before now old new
+  shown_at (Ok done) printed answer unprinted cause_is device_is sink_is behind = record {
     plays = λ from there usable readings c. record { printed = behind ∙ printed from there; unwritten = stays; unread = refl };
     complete = λ from there usable readings c no_device no_source no_sink. behind ∙ printed from there;
     damage = λ from there damage is. sound damage from (answer from there) is;
     cause = tt;
     takes = refl;
   }
-  shown_at (Err fault.Device) printed answer unprinted device_is sink_is behind = record {
+  shown_at (Err fault.Device) printed answer unprinted cause_is device_is sink_is behind = record {
     plays = λ from there usable readings c. record { printed = behind ∙ unprinted; unwritten = stays; unread = refl };
     complete = λ from there usable readings c no_device no_source no_sink. no_device device_is;
     damage = λ from there damage is. record { unread = refl; unprinted = behind ∙ unprinted };
     cause = device_is;
     takes = refl;
   }
-  shown_at (Err (fault.Damaged found)) printed answer unprinted device_is sink_is behind = record {
+  shown_at (Err (fault.Damaged found)) printed answer unprinted cause_is device_is sink_is behind = record {
     plays = λ from there usable readings c. sound (damage_of found) from usable (damaged_by found from (answer from there));
     complete = λ from there usable readings c no_device no_source no_sink. sound (damage_of found) from usable (damaged_by found from (answer from there));
     damage = λ from there damage is. record {
@@ -78,17 +79,22 @@ module _ (text : Image → List ℕ) (limits : Bounds) (device : Type 0) (before
       printed = subst (λ (d : checks.Damage). Prints w_old w_new before now (damage_line d)) (one_damage (damage_of found) damage from (damaged_by found from (answer from there)) is)
           (printed_since w_old w_mid w_new before between now (damage_line (damage_of found)) unprinted less behind);
     };
-    cause = λ from there. record { finished = (answer from there).0; damage = damage_of found; first = (answer from there).1 };
+    cause = record {
+      damage = found;
+      cause = cause_is;
+      first = λ from there. record { finished = (answer from there).0; first = (answer from there).1 };
+      printed = printed_since w_old w_mid w_new before between now (damage_line (damage_of found)) unprinted less behind;
+    };
     takes = refl;
   }
-  shown_at (Err fault.Sink) printed answer unprinted device_is sink_is behind = record {
+  shown_at (Err fault.Sink) printed answer unprinted cause_is device_is sink_is behind = record {
     plays = λ from there usable readings c. record { printed = subst (λ (w : Option (List ℕ)). Appends w_old w (text from)) (sym behind) (printed from there); unwritten = stays; unread = refl };
     complete = λ from there usable readings c no_device no_source no_sink. no_sink (rises_until before between now later sink_is);
     damage = λ from there damage is. sound damage from (answer from there) is;
     cause = rises_until before between now later sink_is;
     takes = refl;
   }
-  shown_at (Err fault.Memory) printed answer unprinted device_is sink_is behind = record {
+  shown_at (Err fault.Memory) printed answer unprinted cause_is device_is sink_is behind = record {
     plays = λ from there usable readings c. record { printed = behind ∙ unprinted; unwritten = stays; unread = refl };
     complete = λ from there usable readings c no_device no_source no_sink. record { unwritten = stays; unread = refl; unprinted = behind ∙ unprinted };
     damage = λ from there damage is. record { unwritten = stays; unread = refl; unprinted = behind ∙ unprinted };
@@ -97,10 +103,10 @@ module _ (text : Image → List ℕ) (limits : Bounds) (device : Type 0) (before
   }
 
   -- by the status of what an inspection answered
-  pub shown_performs : (r : Result (Unit {0}) InspectFault) (s : Status) → s ≡ status_shown r → ForSome start.files (λ image. PrintsAt r (text image) w_old w_mid) → ForSome start.files (AnswersFor r) → UnlessSink r (w_mid ≡ w_old) → IfInspectDevice r device
-      → IfInspectSink r (Rises before between) → PrintsFault r w_mid w_new between now → Performs (folder_text text) s limits device ⊥ before now old new
-  shown_performs r s is printed answer unprinted device_is sink_is behind =
-      subst (λ (x : Status). Performs (folder_text text) x limits device ⊥ before now old new) (sym is) (shown_at r printed answer unprinted device_is sink_is behind)
+  pub shown_performs : (r : Result (Unit {0}) InspectFault) (s : Status) → s ≡ status_shown r → ForSome start.files (λ image. PrintsAt r (text image) w_old w_mid) → ForSome start.files (AnswersFor r) → UnlessSink r (w_mid ≡ w_old) → IfInspectDamaged r (IsInspectDamage start)
+      → IfInspectDevice r device → IfInspectSink r (Rises before between) → PrintsFault r w_mid w_new between now → Performs (folder_text text) s limits device ⊥ before now old new
+  shown_performs r s is printed answer unprinted cause_is device_is sink_is behind =
+      subst (λ (x : Status). Performs (folder_text text) x limits device ⊥ before now old new) (sym is) (shown_at r printed answer unprinted cause_is device_is sink_is behind)
 
 -- a call that has no source
 pub text_wider : (text : Image → List ℕ) (result : Status) (limits : Bounds) (device source : Type 0) (before now : ℕ) (old new : Outside) → Performs (folder_text text) result limits device ⊥ before now old new → Performs (folder_text text) result limits device source before now old new
@@ -108,6 +114,6 @@ text_wider text result limits device source before now old new does = record {
   plays = does.plays;
   complete = λ from there usable readings clock no_device no_source no_sink. does.complete from there usable readings clock no_device (λ x. x) no_sink;
   damage = does.damage;
-  cause = cause_wider result old.folder.files device source (Rises before now) ⊥ does.cause;
+  cause = cause_wider result (IsFailedInReading old.folder old.written new.written before now) device source (Rises before now) ⊥ does.cause;
   takes = does.takes;
 }

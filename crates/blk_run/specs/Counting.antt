@@ -8,7 +8,8 @@ use Rattle.blk_io.specs.Streams.{later_of}
 use Rattle.blk_cache.specs.Opening.{HoldsStill}
 use Rattle.blk_run.specs.declared.ending.Status.{Status}
 use Rattle.blk_run.specs.declared.ending.Status.TheVariants as status
-use Rattle.blk_run.specs.Count.{AnswersFor, EndsSame, IsMadeAtNext, ShowsDamage, ShowsTotals}
+use Rattle.blk_run.specs.Count.{AnswersFor, EndsSame, IsMadeAtNext, ShowsTotals}
+use Rattle.blk_run.specs.Failing.{IsFailedInOpening}
 use Rattle.blk_run.specs.Session.{Outside}
 
 -- it was done, or the sink failed
@@ -21,7 +22,7 @@ pub record Counts (result : Status) (limits : Bounds) (before now : ℕ) (old ne
   pub answer : ForSome old.folder.files (AnswersFor result)
   -- what is printed of what the folder holds, and of a damage
   pub printed : ShowsTotals result limits old.folder.files old.written new.written
-  pub damage : result ≡ status.Damaged → ShowsDamage old.folder new.folder old.written new.written before now
+  pub damage : result ≡ status.Damaged → IsFailedInOpening old.folder new.folder old.written new.written before now
   -- in the end the same is found, and the folder is sound
   pub ended : IsDoneOrSink result → ForSome old.folder.files (λ start. ForSome new.folder.files (EndsSame start))
   -- an unfinished folder is made at the next reading of the clock, and keeps that moment

@@ -1,15 +1,11 @@
 -- The status of a session, and its cause.
 use Rattle.std.specs.Prelude.{Bool, true, false, if◌then◌else◌, Result, Ok, Err}
-use Rattle.std.specs.Option.{ForSome}
-use Rattle.std.specs.declared.option.Option.{Option}
-use Rattle.blk_image.specs.Image.{Image}
 use Rattle.blk_cache.specs.declared.fault.StepFault.{StepFault}
 use Rattle.blk_cache.specs.declared.fault.StepFault.TheVariants as fault
 use Rattle.blk_run.specs.declared.ending.Status.{Status}
 use Rattle.blk_run.specs.declared.ending.Status.TheVariants as status
 use Rattle.blk_run.specs.declared.input.InputEnd.{InputEnd}
 use Rattle.blk_run.specs.declared.input.InputEnd.TheVariants as end
-use Rattle.blk_run.specs.Count.{IsDamaged}
 
 -- the status where an input came to an end so, and something was refused or not; the folder may fail in what is closed then
 abbrev pub status_after : Result InputEnd StepFault → (refused : Bool) → Status
@@ -27,14 +23,14 @@ may_close (Err fault.Sink) = true
 may_close (Err fault.Device) = false
 may_close (Err (fault.Damaged damage)) = false
 
--- the cause of each status: the count of the folder, of the source or of the sink rose; a check of the headers fails, where the folder tells its files; more bytes follow than the budget. Of want of memory none is said
-abbrev pub CauseOf : Status → Option Image → (device source sink long : Type 0) → Type 0
-CauseOf status.Ok files device source sink long = Unit {0}
-CauseOf status.Refused files device source sink long = Unit {0}
-CauseOf status.Words files device source sink long = ⊥
-CauseOf status.Device files device source sink long = device
-CauseOf status.Source files device source sink long = source
-CauseOf status.Sink files device source sink long = sink
-CauseOf status.Memory files device source sink long = Unit {0}
-CauseOf status.Damaged files device source sink long = ForSome files IsDamaged
-CauseOf status.TooLong files device source sink long = long
+-- the cause of each status: a check fails; the count of the folder, of the source or of the sink rose; more bytes follow than the budget. Of want of memory none is said
+abbrev pub CauseOf : Status → (damaged device source sink long : Type 0) → Type 0
+CauseOf status.Ok damaged device source sink long = Unit {0}
+CauseOf status.Refused damaged device source sink long = Unit {0}
+CauseOf status.Words damaged device source sink long = ⊥
+CauseOf status.Device damaged device source sink long = device
+CauseOf status.Source damaged device source sink long = source
+CauseOf status.Sink damaged device source sink long = sink
+CauseOf status.Memory damaged device source sink long = Unit {0}
+CauseOf status.Damaged damaged device source sink long = damaged
+CauseOf status.TooLong damaged device source sink long = long

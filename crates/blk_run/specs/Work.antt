@@ -16,6 +16,7 @@ use Rattle.blk_words.specs.Tasks.{Task, do_count, do_doom, do_generate, do_get, 
 use Rattle.blk_words.specs.Words.{Invocation}
 use Rattle.blk_run.specs.declared.ending.Status.{Status}
 use Rattle.blk_run.specs.declared.ending.Status.TheVariants as status
+use Rattle.blk_run.specs.Failing.{IsDamagedRun, IsFailedInReading}
 use Rattle.blk_run.specs.Inputs.{IsReadWhole, IsTakenUpTo}
 use Rattle.blk_run.specs.Session.{FixedScript, IsComplete, IsCompleteScript, IsDamagedBy, LeavesUnput, OnDamage, Outside, Put, Session, TakesUnput}
 use Rattle.blk_run.specs.Shown.{IsCompleteText, ShowsText}
@@ -88,6 +89,13 @@ Takes (whole_input script) old new = ForSome old (IsTakenUpTo (longest_input + 1
 Takes (no_input script) old new = new ≡ old
 Takes (folder_text text) old new = new ≡ old
 
+-- a check of the work fails: of a run, or of what is read for a text
+abbrev pub IsDamagedWork : Work → (before now : ℕ) → Outside → Outside → Type 0
+IsDamagedWork input_lines before now old new = IsDamagedRun old.folder new.folder old.written new.written before now
+IsDamagedWork (whole_input script) before now old new = IsDamagedRun old.folder new.folder old.written new.written before now
+IsDamagedWork (no_input script) before now old new = IsDamagedRun old.folder new.folder old.written new.written before now
+IsDamagedWork (folder_text text) before now old new = IsFailedInReading old.folder old.written new.written before now
+
 -- the work was done; device and source say that the count of each rose, before and now are the sink's counts of faults
 pub record Performs (work : Work) (result : Status) (limits : Bounds) (device source : Type 0) (before now : ℕ) (old new : Outside) : Type 0 where
   -- on a folder that is unfinished or well formed it is the run on the map model
@@ -97,7 +105,7 @@ pub record Performs (work : Work) (result : Status) (limits : Bounds) (device so
   -- on a finished folder of which a check fails that is printed, and no more is done
   pub damage : ForSome old.folder.files (λ from. (damage : Damage) → IsDamagedBy damage from → MeetsDamage work result damage before now old new)
   -- the cause of each status, on every folder
-  pub cause : CauseOf result old.folder.files device source (Rises before now) (IsTooLong work old.left)
+  pub cause : CauseOf result (IsDamagedWork work before now old new) device source (Rises before now) (IsTooLong work old.left)
   pub takes : Takes work old.left new.left
 
 -- the work leaves the input unread

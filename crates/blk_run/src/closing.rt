@@ -2,8 +2,9 @@
 ghost use Rattle.std.specs.Prelude.{◌≡◌, ◌≤◌, ◌+◌, ◌*◌, ℕ, OnOk, None, is_some, position};
 ghost use Rattle.std.specs.Option.{ForSome};
 ghost use Rattle.blk_image.specs.Told.{Rises};
-ghost use Rattle.blk_io.specs.Faults.{IfDevice};
+ghost use Rattle.blk_io.specs.Faults.{IfDamaged, IfDevice};
 ghost use Rattle.blk_model.specs.Sizes.{handle_names};
+ghost use Rattle.blk_object.specs.FailedChecks.{IsFailedCheck};
 ghost use Rattle.blk_run.specs.Closings.{ClosesAll};
 ghost use Rattle.blk_run.specs.Playing.{SoFar, StandsAt};
 ghost use Rattle.blk_disk.specs.Open.{IsOpen};
@@ -23,6 +24,7 @@ pub(crate) fn close_all<F: Folder, C: Clock>(
     ensures free { OnOk result (position is_some (cache.new.handles) ≡ None) }
     ensures is_open { OnOk result (ForSome (F.told folder.new).files (IsOpen cache.new.files)) }
     ensures later { F.faults folder.old ≤ F.faults folder.new }
+    ensures damaged { IfDamaged result (IsFailedCheck cache.new.files (F.told folder.new)) }
     ensures device { IfDevice result (Rises (F.faults folder.old) (F.faults folder.new)) }
 {
     while cache.has_names() {

@@ -18,8 +18,9 @@ ghost use Rattle.blk_cache.specs.BoundNames.{AreAllFree};
 ghost use Rattle.blk_cache.specs.CacheKeeping.{KeepsState};
 ghost use Rattle.blk_cache.specs.Opening.{EndsSession, HoldsStill, WasMadeAt};
 ghost use Rattle.blk_cache.specs.Stepping.{IfSink};
-ghost use Rattle.blk_run.specs.Count.{AnswersFor, EndsSame, IsMadeAtNext, PrintsAt, ShowsDamage, ShowsTotals};
+ghost use Rattle.blk_run.specs.Count.{AnswersFor, EndsSame, IsMadeAtNext, PrintsAt, ShowsTotals};
 ghost use Rattle.blk_run.specs.Errors.{IsOnlySink};
+ghost use Rattle.blk_run.specs.Failing.{IsDamagedRun, IsFailedInOpening};
 ghost use Rattle.blk_run.specs.Playing.{StandsAt};
 ghost use Rattle.blk_run.specs.Session.{FixedRuns, FixedScript, IsCompleteScript, IsDamagedBy, OnDamage};
 ghost use Rattle.blk_run.specs.Statuses.{CauseOf};
@@ -49,7 +50,7 @@ pub(crate) fn run_count<F: Folder, K: Sink, C: Clock>(
     ensures shows { ForSome (F.told folder.old).files (λ from. (damage : check_damage) → IsDamagedBy damage from → (left : Option (List ℕ)) → OnDamage result damage (K.faults out.old) (K.faults out.new) (record { folder = F.told folder.old; written = K.written out.old; left = left; clock = C.readings clock.old }) (record { folder = F.told folder.new; written = K.written out.new; left = left; clock = C.readings clock.new })) }
 
     // The cause of each status, on every folder.
-    ensures cause { CauseOf result (F.told folder.old).files (Rises (F.faults folder.old) (F.faults folder.new)) ⊥ (Rises (K.faults out.old) (K.faults out.new)) ⊥ }
+    ensures cause { CauseOf result (IsDamagedRun (F.told folder.old) (F.told folder.new) (K.written out.old) (K.written out.new) (K.faults out.old) (K.faults out.new)) (Rises (F.faults folder.old) (F.faults folder.new)) ⊥ (Rises (K.faults out.old) (K.faults out.new)) ⊥ }
     ensures later { (F.faults folder.old ≤ F.faults folder.new) × (K.faults out.old ≤ K.faults out.new) }
 
     // The folder decides the status, but for failures and want of memory.
@@ -57,7 +58,7 @@ pub(crate) fn run_count<F: Folder, K: Sink, C: Clock>(
 
     // What is printed of what the folder holds, and of a damage.
     ensures printed { ShowsTotals result (bounds_of limits) (F.told folder.old).files (K.written out.old) (K.written out.new) }
-    ensures damage { result ≡ Status.Damaged → ShowsDamage (F.told folder.old) (F.told folder.new) (K.written out.old) (K.written out.new) (K.faults out.old) (K.faults out.new) }
+    ensures damage { result ≡ Status.Damaged → IsFailedInOpening (F.told folder.old) (F.told folder.new) (K.written out.old) (K.written out.new) (K.faults out.old) (K.faults out.new) }
 
     // In the end the same is found, and the folder is sound.
     ensures ended { (result ≡ Status.Ok) ⊎ (result ≡ Status.Sink) → ForSome (F.told folder.old).files (λ start. ForSome (F.told folder.new).files (EndsSame start)) }

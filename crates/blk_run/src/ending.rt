@@ -20,8 +20,8 @@ pub enum Status {
     Sink = 5,
     /// There was no memory. Nothing was done.
     Memory = 6,
-    /// A check of the folder failed at the start. What it found was printed. Where the folder tells its files nothing was
-    /// written.
+    /// A check of the folder failed. At the start what it found was printed, and where the folder tells its files nothing was
+    /// written. Later one fails only in a folder that doesn't tell its files, and nothing of it is printed.
     Damaged = 7,
     /// The input is longer than it may be.
     TooLong = 8,

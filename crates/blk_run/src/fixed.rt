@@ -9,7 +9,8 @@ ghost use Rattle.blk_script.specs.Reply.{reply_text};
 ghost use Rattle.blk_headline.specs.Script.{is_missing_refusal, put_script, refusal_of, until_refused};
 ghost use Rattle.blk_headline.specs.Run.{turns};
 ghost use Rattle.blk_run.specs.Fixed.{opened_answer};
-ghost use Rattle.blk_cache.specs.Stepping.{IfDone, IfSink, IfStepDevice};
+ghost use Rattle.blk_object.specs.FailedChecks.{IsFailedCheck};
+ghost use Rattle.blk_cache.specs.Stepping.{IfDone, IfSink, IfStepDamaged, IfStepDevice};
 ghost use Rattle.blk_run.specs.Errors.{IsOnlySink};
 ghost use Rattle.blk_run.specs.Playing.{PlaysPart, SoFar, StandsAt};
 ghost use Rattle.blk_disk.specs.Open.{IsOpen};
@@ -36,6 +37,7 @@ pub(crate) fn play_until_refused<F: Folder, K: Sink, C: Clock>(
     ensures is_open { IfDone result (ForSome (F.told folder.new).files (IsOpen cache.new.files)) }
     ensures later { F.faults folder.old ≤ F.faults folder.new }
     ensures printed_later { K.faults out.old ≤ K.faults out.new }
+    ensures damaged { IfStepDamaged result (IsFailedCheck cache.new.files (F.told folder.new)) }
     ensures device { IfStepDevice result (Rises (F.faults folder.old) (F.faults folder.new)) }
     ensures sink { IfSink result (Rises (K.faults out.old) (K.faults out.new)) }
 {
@@ -64,6 +66,7 @@ pub(crate) fn play_put<F: Folder, K: Sink, C: Clock>(
     ensures is_open { IfDone result (ForSome (F.told folder.new).files (IsOpen cache.new.files)) }
     ensures later { F.faults folder.old ≤ F.faults folder.new }
     ensures printed_later { K.faults out.old ≤ K.faults out.new }
+    ensures damaged { IfStepDamaged result (IsFailedCheck cache.new.files (F.told folder.new)) }
     ensures device { IfStepDevice result (Rises (F.faults folder.old) (F.faults folder.new)) }
     ensures sink { IfSink result (Rises (K.faults out.old) (K.faults out.new)) }
 {

@@ -9,7 +9,8 @@ ghost use Rattle.blk_headline.specs.Script.{totals_line};
 ghost use Rattle.blk_gen.specs.Counting.{counts_line};
 ghost use Rattle.blk_gen.specs.Draws.{generated_bytes};
 ghost use Rattle.blk_gen.specs.Generator.{created_turn, gen_script, turn_script, used_turn};
-ghost use Rattle.blk_cache.specs.Stepping.{IfDone, IfSink, IfStepDevice};
+ghost use Rattle.blk_object.specs.FailedChecks.{IsFailedCheck};
+ghost use Rattle.blk_cache.specs.Stepping.{IfDone, IfSink, IfStepDamaged, IfStepDevice};
 ghost use Rattle.blk_run.specs.Errors.{IsOnlySink};
 ghost use Rattle.blk_run.specs.Generating.{AreWithin, AsksCounted, Following, IsAsked, PlaysCounted, evicted_by, unshown};
 ghost use Rattle.blk_run.specs.Playing.{PlaysPart, SoFar, StandsAt};
@@ -45,6 +46,7 @@ pub(crate) fn play_generated<F: Folder, K: Sink, C: Clock>(
     ensures is_open { IfDone result (ForSome (F.told folder.new).files (IsOpen cache.new.files)) }
     ensures later { F.faults folder.old ≤ F.faults folder.new }
     ensures printed_later { K.faults out.old ≤ K.faults out.new }
+    ensures damaged { IfStepDamaged result (IsFailedCheck cache.new.files (F.told folder.new)) }
     ensures device { IfStepDevice result (Rises (F.faults folder.old) (F.faults folder.new)) }
     ensures sink { IfSink result (Rises (K.faults out.old) (K.faults out.new)) }
 {
@@ -74,6 +76,7 @@ fn play_turn<F: Folder, C: Clock>(
     ensures played { (far : SoFar) (left commands : ℕ) (following : Following) (written : Option (List ℕ)) (refused : Bool) → commands + 5 < 2 ^ 36 → AreWithin commands counts.old → StandsAt far (KeepsState cache.old) (cache.old.notes) (left + 10) (F.told folder.old) → PlaysCounted result (commands + 5) counts.new (turn_script number turn.now counts.old following) (following counts.new) far (KeepsState cache.new) (cache.new.notes) left (unshown (F.told folder.old) written (C.readings clock.old) refused) (unshown (F.told folder.new) written (C.readings clock.new) refused) }
     ensures is_open { IfDone result (ForSome (F.told folder.new).files (IsOpen cache.new.files)) }
     ensures later { F.faults folder.old ≤ F.faults folder.new }
+    ensures damaged { IfStepDamaged result (IsFailedCheck cache.new.files (F.told folder.new)) }
     ensures device { IfStepDevice result (Rises (F.faults folder.old) (F.faults folder.new)) }
     ensures no_sink { IfSink result ⊥ }
 {
@@ -106,6 +109,7 @@ fn play_missing<F: Folder, C: Clock>(
     ensures played { (far : SoFar) (left commands : ℕ) (following : Following) (written : Option (List ℕ)) (refused : Bool) → commands + 4 < 2 ^ 36 → AreWithin commands counts.old → StandsAt far (KeepsState cache.old) (cache.old.notes) (left + 8) (F.told folder.old) → PlaysCounted result (commands + 4) counts.new (created_turn number turn.now counts.old following) (following counts.new) far (KeepsState cache.new) (cache.new.notes) left (unshown (F.told folder.old) written (C.readings clock.old) refused) (unshown (F.told folder.new) written (C.readings clock.new) refused) }
     ensures is_open { IfDone result (ForSome (F.told folder.new).files (IsOpen cache.new.files)) }
     ensures later { F.faults folder.old ≤ F.faults folder.new }
+    ensures damaged { IfStepDamaged result (IsFailedCheck cache.new.files (F.told folder.new)) }
     ensures device { IfStepDevice result (Rises (F.faults folder.old) (F.faults folder.new)) }
     ensures no_sink { IfSink result ⊥ }
 {
@@ -134,6 +138,7 @@ fn play_used<F: Folder, C: Clock>(
     ensures played { (far : SoFar) (left commands : ℕ) (following : Following) (written : Option (List ℕ)) (refused : Bool) → commands + 3 < 2 ^ 36 → AreWithin commands counts.old → StandsAt far (KeepsState cache.old) (cache.old.notes) (left + 6) (F.told folder.old) → PlaysCounted result (commands + 3) counts.new (used_turn number turn.now counts.old following) (following counts.new) far (KeepsState cache.new) (cache.new.notes) left (unshown (F.told folder.old) written (C.readings clock.old) refused) (unshown (F.told folder.new) written (C.readings clock.new) refused) }
     ensures is_open { IfDone result (ForSome (F.told folder.new).files (IsOpen cache.new.files)) }
     ensures later { F.faults folder.old ≤ F.faults folder.new }
+    ensures damaged { IfStepDamaged result (IsFailedCheck cache.new.files (F.told folder.new)) }
     ensures device { IfStepDevice result (Rises (F.faults folder.old) (F.faults folder.new)) }
     ensures no_sink { IfSink result ⊥ }
 {
@@ -179,6 +184,7 @@ fn ask_counted<F: Folder, C: Clock>(
     ensures asked { (far : SoFar) (left : ℕ) → StandsAt far (KeepsState cache.old) (cache.old.notes) (left + 2) (F.told folder.old) → AsksCounted result (request_of command.now) counts.old counts.new far (KeepsState cache.new) (cache.new.notes) left (F.told folder.old) (F.told folder.new) (C.readings clock.old) (C.readings clock.new) }
     ensures is_open { IfDone result (ForSome (F.told folder.new).files (IsOpen cache.new.files)) }
     ensures later { F.faults folder.old ≤ F.faults folder.new }
+    ensures damaged { IfStepDamaged result (IsFailedCheck cache.new.files (F.told folder.new)) }
     ensures device { IfStepDevice result (Rises (F.faults folder.old) (F.faults folder.new)) }
     ensures no_sink { IfSink result ⊥ }
 {

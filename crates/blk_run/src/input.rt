@@ -2,7 +2,8 @@
 ghost use Rattle.std.specs.Prelude.{◌≡◌, ◌≤◌, ◌<◌, ◌+◌, ◌^◌, ℕ, List, [], length, take, drop, IfOk, OnErr, OnOk};
 ghost use Rattle.std.specs.Option.{ForSome, option_map};
 ghost use Rattle.blk_image.specs.Told.{Rises};
-ghost use Rattle.blk_cache.specs.Stepping.{IfDone, IfSink, IfStepDevice};
+ghost use Rattle.blk_object.specs.FailedChecks.{IsFailedCheck};
+ghost use Rattle.blk_cache.specs.Stepping.{IfDone, IfSink, IfStepDamaged, IfStepDevice};
 ghost use Rattle.blk_run.specs.Pending.{Holds, pending};
 ghost use Rattle.blk_run.specs.Playing.{SoFar, StandsAt};
 ghost use Rattle.blk_run.specs.Inputs.{IsTakenUpTo, PlaysInput, IfFailed, IfTooLong};
@@ -73,6 +74,7 @@ pub(crate) fn play_input<F: Folder, S: Source, K: Sink, C: Clock>(
     ensures later { F.faults folder.old ≤ F.faults folder.new }
     ensures printed_later { K.faults out.old ≤ K.faults out.new }
     ensures taken_later { S.faults input.old ≤ S.faults input.new }
+    ensures damaged { IfStepDamaged result (IsFailedCheck cache.new.files (F.told folder.new)) }
     ensures device { IfStepDevice result (Rises (F.faults folder.old) (F.faults folder.new)) }
     ensures sink { IfSink result (Rises (K.faults out.old) (K.faults out.new)) }
     ensures source { IfFailed result (Rises (S.faults input.old) (S.faults input.new)) }

@@ -9,7 +9,8 @@ ghost use Rattle.blk_script.specs.Reply.{line_fault_text};
 ghost use Rattle.blk_headline.specs.Script.{ended, line_script, session_script};
 ghost use Rattle.blk_headline.specs.Run.{turns};
 ghost use Rattle.blk_run.specs.Playing.{cut_behind};
-ghost use Rattle.blk_cache.specs.Stepping.{IfDone, IfSink, IfStepDevice};
+ghost use Rattle.blk_object.specs.FailedChecks.{IsFailedCheck};
+ghost use Rattle.blk_cache.specs.Stepping.{IfDone, IfSink, IfStepDamaged, IfStepDevice};
 ghost use Rattle.blk_run.specs.Errors.{IsFlushed, IsOnlySink};
 ghost use Rattle.blk_run.specs.Pending.{Holds, pending};
 ghost use Rattle.blk_run.specs.Playing.{Asks, SoFar, StandsAt, PlaysPart, has_refused, refuses};
@@ -66,6 +67,7 @@ pub(crate) fn play_line<F: Folder, K: Sink, C: Clock>(
     ensures is_open { IfDone result (ForSome (F.told folder.new).files (IsOpen cache.new.files)) }
     ensures later { F.faults folder.old ≤ F.faults folder.new }
     ensures printed_later { K.faults out.old ≤ K.faults out.new }
+    ensures damaged { IfStepDamaged result (IsFailedCheck cache.new.files (F.told folder.new)) }
     ensures device { IfStepDevice result (Rises (F.faults folder.old) (F.faults folder.new)) }
     ensures sink { IfSink result (Rises (K.faults out.old) (K.faults out.new)) }
 {
@@ -94,6 +96,7 @@ fn play_command<F: Folder, K: Sink, C: Clock>(
     ensures is_open { IfDone result (ForSome (F.told folder.new).files (IsOpen cache.new.files)) }
     ensures later { F.faults folder.old ≤ F.faults folder.new }
     ensures printed_later { K.faults out.old ≤ K.faults out.new }
+    ensures damaged { IfStepDamaged result (IsFailedCheck cache.new.files (F.told folder.new)) }
     ensures device { IfStepDevice result (Rises (F.faults folder.old) (F.faults folder.new)) }
     ensures sink { IfSink result (Rises (K.faults out.old) (K.faults out.new)) }
 {
@@ -127,6 +130,7 @@ pub(crate) fn ask<F: Folder, K: Sink, C: Clock>(
     ensures is_open { IfDone result (ForSome (F.told folder.new).files (IsOpen cache.new.files)) }
     ensures later { F.faults folder.old ≤ F.faults folder.new }
     ensures printed_later { K.faults out.old ≤ K.faults out.new }
+    ensures damaged { IfStepDamaged result (IsFailedCheck cache.new.files (F.told folder.new)) }
     ensures device { IfStepDevice result (Rises (F.faults folder.old) (F.faults folder.new)) }
     ensures sink { IfSink result (Rises (K.faults out.old) (K.faults out.new)) }
 {
@@ -202,6 +206,7 @@ pub(crate) fn play_bytes<F: Folder, K: Sink, C: Clock>(
     ensures is_open { IfDone result (ForSome (F.told folder.new).files (IsOpen cache.new.files)) }
     ensures later { F.faults folder.old ≤ F.faults folder.new }
     ensures printed_later { K.faults out.old ≤ K.faults out.new }
+    ensures damaged { IfStepDamaged result (IsFailedCheck cache.new.files (F.told folder.new)) }
     ensures device { IfStepDevice result (Rises (F.faults folder.old) (F.faults folder.new)) }
     ensures sink { IfSink result (Rises (K.faults out.old) (K.faults out.new)) }
 {

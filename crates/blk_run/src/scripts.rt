@@ -12,7 +12,9 @@ ghost use Rattle.blk_model.specs.State.{Bounds};
 ghost use Rattle.blk_volume.specs.Found.{found};
 ghost use Rattle.blk_headline.specs.Opening.{IsUsable};
 ghost use Rattle.blk_headline.specs.Run.{turns};
-ghost use Rattle.blk_cache.specs.Stepping.{IfDone, IfSink, IfStepDevice};
+ghost use Rattle.blk_object.specs.FailedChecks.{IsFailedCheck};
+ghost use Rattle.blk_cache.specs.Stepping.{IfDone, IfSink, IfStepDamaged, IfStepDevice};
+ghost use Rattle.blk_run.specs.Failing.{IsDamagedRun, IsFailedSomewhere};
 ghost use Rattle.blk_run.specs.Playing.{PlaysPart, SoFar, StandsAt};
 ghost use Rattle.blk_run.specs.Scripts.{commands_in, script_of, script_status, closes_script};
 ghost use Rattle.blk_run.specs.Session.{FixedRuns, FixedScript, IsCompleteScript, IsDamagedBy, OnDamage};
@@ -55,6 +57,7 @@ fn play_turns<F: Folder, K: Sink, C: Clock>(
     ensures is_open { IfDone result (ForSome (F.told folder.new).files (IsOpen cache.new.files)) }
     ensures later { F.faults folder.old ≤ F.faults folder.new }
     ensures printed_later { K.faults out.old ≤ K.faults out.new }
+    ensures damaged { IfStepDamaged result (IsFailedCheck cache.new.files (F.told folder.new)) }
     ensures device { IfStepDevice result (Rises (F.faults folder.old) (F.faults folder.new)) }
     ensures sink { IfSink result (Rises (K.faults out.old) (K.faults out.new)) }
 {
@@ -105,7 +108,7 @@ pub(crate) fn play_script<F: Folder, K: Sink, C: Clock>(
     ensures runs { (from : Image) (limits : Bounds) (readings : Readings) (left : Option (List ℕ)) (start : Told) (first : Option Readings) → start.files ≡ Some from → first ≡ Some readings → C.readings clock.old ≡ option_map later_of first → StandsAt (record { start = start; from = from; opened = open_state (found from) limits; done = [] }) (KeepsState cache) cache.notes (2 * handle_names + 2 * commands_in fixed.entry) (F.told folder.old) → FixedRuns result (script_of fixed.entry) limits from readings (Rises (K.faults out.old) (K.faults out.new)) (record { folder = start; written = K.written out.old; left = left; clock = first }) (record { folder = F.told folder.new; written = K.written out.new; left = left; clock = C.readings clock.new }) }
     ensures later { (F.faults folder.old ≤ F.faults folder.new) × (K.faults out.old ≤ K.faults out.new) }
     ensures untold { (far : SoFar) → StandsAt far (KeepsState cache) cache.notes (2 * handle_names + 2 * commands_in fixed.entry) (F.told folder.old) → result ≢ Status.Damaged }
-    ensures cause { CauseOf result None (Rises (F.faults folder.old) (F.faults folder.new)) ⊥ (Rises (K.faults out.old) (K.faults out.new)) ⊥ }
+    ensures cause { CauseOf result (IsFailedSomewhere (F.told folder.new)) (Rises (F.faults folder.old) (F.faults folder.new)) ⊥ (Rises (K.faults out.old) (K.faults out.new)) ⊥ }
 {
     let mut refused = false;
     let played = play_turns(&mut cache, &mut refused, fixed, out, folder, clock);
@@ -140,7 +143,7 @@ pub(crate) fn run_script<F: Folder, K: Sink, C: Clock>(
     ensures damage { ForSome (F.told folder.old).files (λ from. (damage : check_damage) → IsDamagedBy damage from → (left : Option (List ℕ)) → OnDamage result damage (K.faults out.old) (K.faults out.new) (record { folder = F.told folder.old; written = K.written out.old; left = left; clock = C.readings clock.old }) (record { folder = F.told folder.new; written = K.written out.new; left = left; clock = C.readings clock.new })) }
 
     // The cause of each status, on every folder.
-    ensures cause { CauseOf result (F.told folder.old).files (Rises (F.faults folder.old) (F.faults folder.new)) ⊥ (Rises (K.faults out.old) (K.faults out.new)) ⊥ }
+    ensures cause { CauseOf result (IsDamagedRun (F.told folder.old) (F.told folder.new) (K.written out.old) (K.written out.new) (K.faults out.old) (K.faults out.new)) (Rises (F.faults folder.old) (F.faults folder.new)) ⊥ (Rises (K.faults out.old) (K.faults out.new)) ⊥ }
     ensures later { (F.faults folder.old ≤ F.faults folder.new) × (K.faults out.old ≤ K.faults out.new) }
 {
     match Cache::start(alloc, folder, limits, clock.now()) {

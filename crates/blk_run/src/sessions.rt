@@ -4,7 +4,7 @@ ghost use Rattle.std.specs.Option.{ForSome, option_map};
 ghost use Rattle.blk_image.specs.Image.{Image};
 ghost use Rattle.blk_image.specs.Checks.{Damage as check_damage};
 ghost use Rattle.blk_image.specs.Told.{Rises, Told};
-ghost use Rattle.blk_io.specs.Faults.{IfDevice};
+ghost use Rattle.blk_io.specs.Faults.{IfDamaged, IfDevice};
 ghost use Rattle.blk_io.specs.Streams.{Readings, later_of};
 ghost use Rattle.blk_model.specs.Bounds.{bounds_of};
 ghost use Rattle.blk_model.specs.Holding.{open_state};
@@ -15,6 +15,7 @@ ghost use Rattle.blk_disk.specs.Open.{IsOpen};
 ghost use Rattle.blk_headline.specs.Opening.{IsUsable};
 ghost use Rattle.blk_cache.specs.CacheKeeping.{KeepsState};
 ghost use Rattle.blk_run.specs.Ending.{EndsRun};
+ghost use Rattle.blk_run.specs.Failing.{IsCommandDamage, IsDamagedRun, IsFailedSomewhere};
 ghost use Rattle.blk_run.specs.Inputs.{IsTakenUpTo};
 ghost use Rattle.blk_run.specs.Pending.{Holds, pending};
 ghost use Rattle.blk_run.specs.Playing.{SoFar, StandsAt};
@@ -58,7 +59,7 @@ pub fn session<F: Folder, S: Source, K: Sink, C: Clock>(
     ensures damage { ForSome (F.told folder.old).files (λ from. (damage : check_damage) → IsDamagedBy damage from → OnDamage result damage (K.faults out.old) (K.faults out.new) (record { folder = F.told folder.old; written = K.written out.old; left = S.left input.old; clock = C.readings clock.old }) (record { folder = F.told folder.new; written = K.written out.new; left = S.left input.new; clock = C.readings clock.new })) }
 
     // The cause of each status, on every folder.
-    ensures cause { CauseOf result (F.told folder.old).files (Rises (F.faults folder.old) (F.faults folder.new)) (Rises (S.faults input.old) (S.faults input.new)) (Rises (K.faults out.old) (K.faults out.new)) (ForSome (S.left input.old) (λ bytes. budget < length bytes)) }
+    ensures cause { CauseOf result (IsDamagedRun (F.told folder.old) (F.told folder.new) (K.written out.old) (K.written out.new) (K.faults out.old) (K.faults out.new)) (Rises (F.faults folder.old) (F.faults folder.new)) (Rises (S.faults input.old) (S.faults input.new)) (Rises (K.faults out.old) (K.faults out.new)) (ForSome (S.left input.old) (λ bytes. budget < length bytes)) }
     ensures later { (F.faults folder.old ≤ F.faults folder.new) × ((S.faults input.old ≤ S.faults input.new) × (K.faults out.old ≤ K.faults out.new)) }
 
     // No more of the input is taken than the budget and one byte.
@@ -107,7 +108,7 @@ fn play<F: Folder, S: Source, K: Sink, C: Clock>(
     requires nothing { Holds line.old [] }
     ensures runs { (from : Image) (limits : Bounds) (readings : Readings) (bytes : List ℕ) (start : Told) (first : Option Readings) → start.files ≡ Some from → first ≡ Some readings → C.readings clock.old ≡ option_map later_of first → S.left input.old ≡ Some bytes → StandsAt (record { start = start; from = from; opened = open_state (found from) limits; done = [] }) (KeepsState cache) cache.notes (2 * handle_names + (budget + 1)) (F.told folder.old) → Runs result limits budget from readings bytes (Rises (S.faults input.old) (S.faults input.new)) (Rises (K.faults out.old) (K.faults out.new)) (record { folder = start; written = K.written out.old; left = S.left input.old; clock = first }) (record { folder = F.told folder.new; written = K.written out.new; left = S.left input.new; clock = C.readings clock.new }) }
     ensures untold { (far : SoFar) → StandsAt far (KeepsState cache) cache.notes (2 * handle_names + (budget + 1)) (F.told folder.old) → result ≢ Status.Damaged }
-    ensures cause { CauseOf result None (Rises (F.faults folder.old) (F.faults folder.new)) (Rises (S.faults input.old) (S.faults input.new)) (Rises (K.faults out.old) (K.faults out.new)) (ForSome (S.left input.old) (λ bytes. budget < length bytes)) }
+    ensures cause { CauseOf result (IsFailedSomewhere (F.told folder.new)) (Rises (F.faults folder.old) (F.faults folder.new)) (Rises (S.faults input.old) (S.faults input.new)) (Rises (K.faults out.old) (K.faults out.new)) (ForSome (S.left input.old) (λ bytes. budget < length bytes)) }
     ensures later { (F.faults folder.old ≤ F.faults folder.new) × ((S.faults input.old ≤ S.faults input.new) × (K.faults out.old ≤ K.faults out.new)) }
     ensures takes { ForSome (S.left input.old) (IsTakenUpTo (budget + 1) (S.left input.new)) }
 {
@@ -172,6 +173,7 @@ pub(crate) fn end<F: Folder, C: Clock>(
     requires is_open { ForSome (F.told folder.old).files (IsOpen cache.files) }
     ensures ends { (far : SoFar) (left : ℕ) → StandsAt far (KeepsState cache) cache.notes (left + 2 * handle_names) (F.told folder.old) → EndsRun result far (F.told folder.new) (C.readings clock.old) (C.readings clock.new) }
     ensures later { F.faults folder.old ≤ F.faults folder.new }
+    ensures damaged { IfDamaged result (IsCommandDamage (F.told folder.new)) }
     ensures device { IfDevice result (Rises (F.faults folder.old) (F.faults folder.new)) }
 {
     close_all(&mut cache, folder, clock)?;

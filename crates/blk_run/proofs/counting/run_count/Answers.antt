@@ -75,17 +75,14 @@ returns-in-Err-Device-clause-script g c from there usable readings clock left =
 
 pub returns-in-Ok-clause-cause : goal.returns-in-Ok-clause-cause
 returns-in-Ok-clause-cause g c =
-    count_cause c.count.result (g.F.Folder.told c.args.folder.now).files _ _ c.count.ensures.answers
+    count_cause c.count.result _ _ _ c.count.ensures.answers
     (λ is. rises_since (g.F.Folder.faults c.args.folder.now) (g.F.Folder.faults c.start.new.f) (g.F.Folder.faults c.count.new.folder) c.start.ensures.later (c.count.ensures.device is)) c.count.ensures.sink
-
-pub returns-in-Err-Damaged-clause-cause : goal.returns-in-Err-Damaged-clause-cause
-returns-in-Err-Damaged-clause-cause g c = first_is _ c.in-Err-Damaged.damage _ c.in-Err-Damaged.field-0-is c.in-Err-Damaged.ensures.first
 
 pub returns-in-Ok-clause-complete : goal.returns-in-Ok-clause-complete
 returns-in-Ok-clause-complete g c from there usable readings clock left no_device no_sink =
     let cause = returns-in-Ok-clause-cause g c in
     complete_script count_script (bounds_of c.args.limits) from readings _ _ _ _ no_device no_sink c.count.result
-    (device_cause c.count.result (g.F.Folder.told c.args.folder.now).files _ ⊥ _ ⊥ cause) (sink_cause c.count.result (g.F.Folder.told c.args.folder.now).files _ ⊥ _ ⊥ cause)
+    (device_cause c.count.result _ _ ⊥ _ ⊥ cause) (sink_cause c.count.result _ _ ⊥ _ ⊥ cause)
     (returns-in-Ok-clause-script g c from there usable readings clock left)
 
 -- nothing is refused

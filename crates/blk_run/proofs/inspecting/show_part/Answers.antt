@@ -1,6 +1,6 @@
 use Rattle.std.proofs.Common.{arith}
 use Rattle.blk_inspect.specs.Texts.{inspect_text}
-use Rattle.blk_run.proofs.Flushing.{answer_flushed, inspect_device_flushed, inspect_sink_flushed, text_flushed, unprinted_flushed}
+use Rattle.blk_run.proofs.Flushing.{answer_flushed, inspect_damaged_flushed, inspect_device_flushed, inspect_sink_flushed, text_flushed, unprinted_flushed}
 use Rattle.blk_run.proofs.Showing.{shown_performs}
 use Rattle.blk_run.proofs.inspecting.show_part.Goals as goal
 
@@ -12,6 +12,7 @@ returns-clause-performs g c limits left clock =
     (λ image here. text_flushed _ _ _ c.flush_text-shown.ensures.stays c.inspect.result c.flush_text-shown.result _ flushed _ (c.inspect.ensures.printed image here))
     (λ image here. answer_flushed c.inspect.result c.flush_text-shown.result _ flushed image (c.inspect.ensures.answer image here))
     (unprinted_flushed _ _ _ c.flush_text-shown.ensures.stays c.inspect.result c.flush_text-shown.result _ flushed c.inspect.ensures.unprinted)
+    (inspect_damaged_flushed c.inspect.result c.flush_text-shown.result _ _ flushed c.inspect.ensures.cause)
     (inspect_device_flushed c.inspect.result c.flush_text-shown.result _ _ flushed c.inspect.ensures.device)
     (inspect_sink_flushed c.inspect.result c.flush_text-shown.result _ _ _ c.inspect.ensures.sink_later c.flush_text-shown.ensures.later flushed c.inspect.ensures.sink)
     c.end_shown.ensures.printed

@@ -11,10 +11,10 @@ use Rattle.blk_io.specs.declared.fault.Fault.{Fault}
 use Rattle.blk_run.specs.Ending.{EndsRun}
 use Rattle.blk_run.specs.Scripts.{script_of}
 use Rattle.blk_run.specs.Session.{FixedRuns}
-use Rattle.blk_run.proofs.ScriptCauses.{done_open, of_none, rises_until, script_cause, script_kept, script_undamaged_status}
+use Rattle.blk_run.proofs.Failures.{fails_somewhere}
+use Rattle.blk_run.proofs.ScriptCauses.{done_open, script_cause, script_kept, script_undamaged_status}
 use Rattle.blk_run.proofs.ScriptEnds.{script_closed, script_stopped, script_unclosed, script_undamaged}
 use Rattle.blk_run.proofs.SessionEnds.{end_undamaged}
-use Rattle.blk_run.specs.Count.{IsDamaged}
 use Rattle.blk_run.proofs.scripts.play_script.Goals as goal
 
 pub returns-then-not-closes_script-clause-runs : goal.returns-then-not-closes_script-clause-runs
@@ -36,15 +36,9 @@ returns-in-Err-Damaged-clause-runs g c from limits readings left start first the
     absurd (script_undamaged (script_of c.args.fixed) from limits readings (record { folder = start; written = g.K.Sink.written c.args.out.now; left = left; clock = first }) there is (g.C.Clock.readings c.args.clock.now) read (Rises (g.K.Sink.faults c.args.out.now) (g.K.Sink.faults c.play_turns-played.new.out)) (KeepsState c.play_turns-played.new.cache) (c.play_turns-played.new.cache.notes) (g.F.Folder.told c.args.folder.now) (record { folder = g.F.Folder.told c.end.new.folder; written = g.K.Sink.written c.play_turns-played.new.out; left = left; clock = g.C.Clock.readings c.end.new.clock }) (record { folder = g.F.Folder.told c.play_turns-played.new.folder; written = g.K.Sink.written c.play_turns-played.new.out; clock = g.C.Clock.readings c.play_turns-played.new.clock; refused = c.play_turns-played.new.refused }) refl c.in-Err-Damaged.field-0-0 (λ next stands. subst (λ (w : Fault). EndsRun (Err w) next (g.F.Folder.told c.end.new.folder) (g.C.Clock.readings c.play_turns-played.new.clock) (g.C.Clock.readings c.end.new.clock)) c.in-Err-Damaged.field-0-is (c.in-Err-Damaged.ensures.ends next 0 stands)) c.play_turns-played.result (sym c.closes_script.ensures ∙ c.if-not-closes_script.false) (c.play_turns-played.ensures.played (record { start = start; from = from; opened = open_state (found from) limits; done = [] }) (2 * handle_names) at))
 
 pub returns-then-not-closes_script-clause-cause : goal.returns-then-not-closes_script-clause-cause
-returns-then-not-closes_script-clause-cause g c = script_cause c.script_status-status.result c.play_turns-played.result c.play_turns-played.new.refused _ _ _ c.script_status-status.ensures (λ d. d) c.play_turns-played.ensures.device c.play_turns-played.ensures.sink
-
-pub returns-in-Ok-clause-cause : goal.returns-in-Ok-clause-cause
-returns-in-Ok-clause-cause g c =
+returns-then-not-closes_script-clause-cause g c =
     script_cause c.script_status-status.result c.play_turns-played.result c.play_turns-played.new.refused _ _ _ c.script_status-status.ensures
-    (rises_until (g.F.Folder.faults c.args.folder.now) (g.F.Folder.faults c.play_turns-played.new.folder) (g.F.Folder.faults c.end.new.folder) c.end.ensures.later) c.play_turns-played.ensures.device c.play_turns-played.ensures.sink
-
-pub returns-in-Err-Damaged-clause-cause : goal.returns-in-Err-Damaged-clause-cause
-returns-in-Err-Damaged-clause-cause g c = of_none IsDamaged
+    (fails_somewhere c.play_turns-played.result c.play_turns-played.new.cache.files (g.F.Folder.told c.play_turns-played.new.folder) c.play_turns-played.ensures.damaged) c.play_turns-played.ensures.device c.play_turns-played.ensures.sink
 
 pub returns-then-not-closes_script-clause-untold : goal.returns-then-not-closes_script-clause-untold
 returns-then-not-closes_script-clause-untold g c far at damaged =

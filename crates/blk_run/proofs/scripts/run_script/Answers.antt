@@ -7,10 +7,11 @@ use Rattle.blk_model.specs.Sizes.{handle_names}
 use Rattle.blk_volume.specs.Found.{found}
 use Rattle.blk_run.specs.Scripts.{commands_in, script_of}
 use Rattle.blk_run.proofs.Assembling.{exit_unopened}
+use Rattle.blk_run.proofs.Failures.{fails_behind}
 use Rattle.blk_run.proofs.HeadlineBridge.{failed_by_start}
 use Rattle.blk_run.proofs.ScriptEnds.{script_of_runs}
 use Rattle.blk_run.proofs.Completeness.{complete_script}
-use Rattle.blk_run.proofs.SessionEnds.{begins_at, cause_since, device_cause, first_of, opened_at, rises_since, sink_cause}
+use Rattle.blk_run.proofs.SessionEnds.{begins_at, cause_since, device_cause, opened_at, rises_since, sink_cause}
 use Rattle.blk_run.proofs.scripts.run_script.Goals as goal
 
 pub play_script-requires : goal.play_script-requires
@@ -35,18 +36,17 @@ returns-in-Err-Device-clause-script g c from there usable readings clock left =
 pub returns-in-Ok-clause-cause : goal.returns-in-Ok-clause-cause
 returns-in-Ok-clause-cause g c =
     let few = c.requires.few in
-    cause_since c.play_script.result (g.F.Folder.told c.args.folder.now).files _ _ ⊥ _ ⊥ (rises_since (g.F.Folder.faults c.args.folder.now) (g.F.Folder.faults c.start.new.f) (g.F.Folder.faults c.play_script.new.folder) c.start.ensures.later)
-    (λ damaged from there. absurd (c.play_script.ensures.untold _
+    cause_since c.play_script.result _ _ _ _ ⊥ _ ⊥
+    (λ damaged fails. fails_behind (g.F.Folder.told c.args.folder.now) (g.F.Folder.told c.play_script.new.folder) (g.K.Sink.written c.args.out.now) (g.K.Sink.written c.play_script.new.out) (g.K.Sink.faults c.args.out.now) (g.K.Sink.faults c.play_script.new.out)
+    (λ from there. c.play_script.ensures.untold _
     (begins_at from (bounds_of c.args.limits) (record { ahead = []; last = 0 }) (record { folder = g.F.Folder.told c.args.folder.now; written = None; left = None; clock = Some (record { ahead = []; last = 0 }) }) there refl
     (KeepsState c.in-Ok.cache) (g.F.Folder.told c.start.new.f) c.in-Ok.cache.notes (2 * handle_names + 2 * commands_in c.args.fixed) (c.in-Ok.ensures.checked from there) (c.in-Ok.ensures.last from there) (c.in-Ok.ensures.keeps from there) c.in-Ok.ensures.notes (omega (arith, few)))
-    damaged)) c.play_script.ensures.cause
-
-pub returns-in-Err-Damaged-clause-cause : goal.returns-in-Err-Damaged-clause-cause
-returns-in-Err-Damaged-clause-cause g c = first_of (Unit {0}) c.in-Err-Damaged.field-0 c.in-Err-Damaged.damage (g.F.Folder.told c.args.folder.now).files c.in-Err-Damaged.field-0-is c.in-Err-Damaged.ensures.first
+    damaged) fails)
+    (rises_since (g.F.Folder.faults c.args.folder.now) (g.F.Folder.faults c.start.new.f) (g.F.Folder.faults c.play_script.new.folder) c.start.ensures.later) c.play_script.ensures.cause
 
 pub returns-in-Ok-clause-complete : goal.returns-in-Ok-clause-complete
 returns-in-Ok-clause-complete g c from there usable readings clock left no_device no_sink =
     let cause = returns-in-Ok-clause-cause g c in
     complete_script (script_of c.args.fixed) (bounds_of c.args.limits) from readings _ _ _ _ no_device no_sink c.play_script.result
-    (device_cause c.play_script.result (g.F.Folder.told c.args.folder.now).files _ ⊥ _ ⊥ cause) (sink_cause c.play_script.result (g.F.Folder.told c.args.folder.now).files _ ⊥ _ ⊥ cause)
+    (device_cause c.play_script.result _ _ ⊥ _ ⊥ cause) (sink_cause c.play_script.result _ _ ⊥ _ ⊥ cause)
     (returns-in-Ok-clause-script g c from there usable readings clock left)

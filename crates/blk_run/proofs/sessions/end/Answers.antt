@@ -1,3 +1,4 @@
+use Rattle.blk_io.proofs.Carried.{carried, if_damaged_weaker}
 use Rattle.blk_cache.specs.CacheKeeping.{KeepsState}
 use Rattle.blk_run.proofs.Assembling.{ends_closed, ends_unclosed, ends_unfinished}
 use Rattle.blk_run.proofs.ClosingAll.{all_free}
@@ -22,3 +23,8 @@ pub returns-in-Err-clause-ends : goal.returns-in-Err-clause-ends
 returns-in-Err-clause-ends g c far left at =
     ends_unfinished far (KeepsState c.close_all.new.cache) (cache_stands c.close_all.new.cache) _ held_still c.close_all.new.cache.notes left (g.F.Folder.told c.close_all.new.folder) (g.F.Folder.told c.finish.new.f) (g.C.Clock.readings c.args.clock.now) (g.C.Clock.readings c.close_all.new.clock) (c.in_ok-close_all.ensures.closed far left at)
     c.finish.ensures.stops
+
+pub returns-in_err-close_all-clause-damaged : goal.returns-in_err-close_all-clause-damaged
+returns-in_err-close_all-clause-damaged g c =
+    carried c.close_all.result c.from_residual.result c.in_err-close_all.field-0.0 _ c.in_err-close_all.was c.from_residual.ensures.1
+    (if_damaged_weaker c.close_all.result _ _ (λ damage fails. record { files = c.close_all.new.cache.files; fails = fails }) c.close_all.ensures.damaged)

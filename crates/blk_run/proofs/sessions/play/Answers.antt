@@ -8,7 +8,8 @@ use Rattle.blk_run.specs.declared.input.InputEnd.{InputEnd}
 use Rattle.blk_model.specs.Sizes.{handle_names}
 use Rattle.blk_run.specs.Statuses.{may_close, status_after}
 use Rattle.blk_cache.specs.CacheKeeping.{KeepsState}
-use Rattle.blk_run.proofs.SessionEnds.{closed_runs, end_failed, end_undamaged, input_told, input_undamaged, kept_after, runs_as, stopped_runs, unclosed_runs}
+use Rattle.blk_run.proofs.SessionEnds.{closed_runs, end_failed, end_undamaged, input_cause, input_told, input_undamaged, kept_after, runs_as, stopped_runs, unclosed_runs}
+use Rattle.blk_run.proofs.Failures.{fails_somewhere}
 use Rattle.blk_run.proofs.sessions.play.Goals as goal
 
 -- where what is open may be closed, what was played was done
@@ -60,3 +61,8 @@ pub returns-in-Err-Damaged-clause-untold : goal.returns-in-Err-Damaged-clause-un
 returns-in-Err-Damaged-clause-untold g c far at damaged =
     let kept = kept_after c.play_input-ended.result c.args.budget _ _ far (KeepsState c.play_input-ended.new.cache) c.play_input-ended.new.cache.notes (2 * handle_names) _ _ (sym c.closes_after.ensures ∙ c.if-not-closes_after.false) (c.play_input-ended.ensures.played far (2 * handle_names) at) in
     end_undamaged c.in-Err-Damaged.field-0 c.in-Err-Damaged.field-0-0 kept.0 _ _ _ c.in-Err-Damaged.field-0-is (c.in-Err-Damaged.ensures.ends kept.0 0 kept.1)
+
+pub returns-then-not-closes_after-clause-cause : goal.returns-then-not-closes_after-clause-cause
+returns-then-not-closes_after-clause-cause g c =
+    input_cause c.status_of-status.result c.play_input-ended.result c.play_input-ended.new.played.refused _ _ _ _ _ c.status_of-status.ensures
+    (fails_somewhere c.play_input-ended.result c.play_input-ended.new.cache.files (g.F.Folder.told c.play_input-ended.new.folder) c.play_input-ended.ensures.damaged) c.play_input-ended.ensures.device c.play_input-ended.ensures.source c.play_input-ended.ensures.sink c.play_input-ended.ensures.too_long

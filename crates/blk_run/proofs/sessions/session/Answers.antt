@@ -6,8 +6,9 @@ use Rattle.blk_volume.specs.Found.{found}
 use Rattle.blk_cache.specs.CacheKeeping.{KeepsState}
 use Rattle.blk_cache.proofs.Ends.{kept-open}
 use Rattle.blk_run.proofs.Assembling.{exit_unopened}
+use Rattle.blk_run.proofs.Failures.{fails_behind}
 use Rattle.blk_run.proofs.HeadlineBridge.{failed_by_start}
-use Rattle.blk_run.proofs.SessionEnds.{begins_at, cause_since, device_cause, first_of, opened_at, rises_since, session_of_runs, sink_cause, source_cause}
+use Rattle.blk_run.proofs.SessionEnds.{begins_at, cause_since, device_cause, opened_at, rises_since, session_of_runs, sink_cause, source_cause}
 use Rattle.blk_run.proofs.Completeness.{complete}
 use Rattle.blk_run.proofs.sessions.session.Goals as goal
 
@@ -27,23 +28,22 @@ returns-in-Ok-start-clause-session g c from there usable readings clock bytes le
 pub returns-in-Ok-start-clause-cause : goal.returns-in-Ok-start-clause-cause
 returns-in-Ok-start-clause-cause g c =
     let budget = c.ranges.budget.fits in
-    cause_since c.play.result (g.F.Folder.told c.args.folder.now).files _ _ _ _ _ (rises_since (g.F.Folder.faults c.args.folder.now) (g.F.Folder.faults c.start.new.f) (g.F.Folder.faults c.play.new.folder) c.start.ensures.later)
-    (λ damaged from there. absurd (c.play.ensures.untold _
+    cause_since c.play.result _ _ _ _ _ _ _
+    (λ damaged fails. fails_behind (g.F.Folder.told c.args.folder.now) (g.F.Folder.told c.play.new.folder) (g.K.Sink.written c.args.out.now) (g.K.Sink.written c.play.new.out) (g.K.Sink.faults c.args.out.now) (g.K.Sink.faults c.play.new.out)
+    (λ from there. c.play.ensures.untold _
     (begins_at from (bounds_of c.args.limits) (record { ahead = []; last = 0 }) (record { folder = g.F.Folder.told c.args.folder.now; written = None; left = None; clock = Some (record { ahead = []; last = 0 }) }) there refl
     (KeepsState c.in-Ok-start.cache) (g.F.Folder.told c.start.new.f) c.in-Ok-start.cache.notes (2 * handle_names + (c.args.budget + 1)) (c.in-Ok-start.ensures.checked from there) (c.in-Ok-start.ensures.last from there) (c.in-Ok-start.ensures.keeps from there) c.in-Ok-start.ensures.notes (omega (arith, budget)))
-    damaged)) c.play.ensures.cause
+    damaged) fails)
+    (rises_since (g.F.Folder.faults c.args.folder.now) (g.F.Folder.faults c.start.new.f) (g.F.Folder.faults c.play.new.folder) c.start.ensures.later) c.play.ensures.cause
 
 pub returns-in-Err-Device-clause-session : goal.returns-in-Err-Device-clause-session
 returns-in-Err-Device-clause-session g c from there usable readings clock bytes left_is =
     inr (exit_unopened from (bounds_of c.args.limits) readings (record { folder = g.F.Folder.told c.args.folder.now; written = g.K.Sink.written c.args.out.now; left = g.S.Source.left c.args.input.now; clock = g.C.Clock.readings c.args.clock.now }) there clock
     (record { folder = g.F.Folder.told c.start.new.f; written = g.K.Sink.written c.args.out.now; left = g.S.Source.left c.args.input.now; clock = g.C.Clock.readings c.now.new.self }) usable (failed_by_start from (bounds_of c.args.limits) (g.F.Folder.told c.args.folder.now) (g.F.Folder.told c.start.new.f) there (c.start.ensures.stops from there)) refl refl)
 
-pub returns-clause-cause : goal.returns-clause-cause
-returns-clause-cause g c = first_of (Unit {0}) c.in-Err-Damaged.field-0 c.in-Err-Damaged.damage (g.F.Folder.told c.args.folder.now).files c.in-Err-Damaged.field-0-is c.in-Err-Damaged.ensures.first
-
 pub returns-in-Ok-start-clause-complete : goal.returns-in-Ok-start-clause-complete
 returns-in-Ok-start-clause-complete g c from there usable readings clock bytes left_is within no_device no_source no_sink =
     let cause = returns-in-Ok-start-clause-cause g c in
     complete (bounds_of c.args.limits) c.args.budget from readings bytes _ _ _ _ _ within no_device no_source no_sink c.play.result
-    (device_cause c.play.result (g.F.Folder.told c.args.folder.now).files _ _ _ _ cause) (source_cause c.play.result (g.F.Folder.told c.args.folder.now).files _ _ _ _ cause) (sink_cause c.play.result (g.F.Folder.told c.args.folder.now).files _ _ _ _ cause)
+    (device_cause c.play.result _ _ _ _ _ cause) (source_cause c.play.result _ _ _ _ _ cause) (sink_cause c.play.result _ _ _ _ _ cause)
     (returns-in-Ok-start-clause-session g c from there usable readings clock bytes left_is)
