@@ -22,6 +22,7 @@ use blk_cache::{Cache, StepFault};
 use blk_io::{Clock, Failed, Folder, Sink};
 use blk_model::{Answer, Command};
 use blk_script::{Field, LineFault, print_fields, read_line};
+use memchr::memchr;
 
 // The lines so far: how many they are, and whether something was refused.
 #[derive(Clone, Copy)]
@@ -174,7 +175,7 @@ fn play_error<K: Sink>(played: &mut Played, why: LineFault, out: &mut K) -> Resu
 fn line_end(bytes: &[u8]) -> Option<usize>
     ensures { result ≡ position (λ byte. byte == 10) bytes.now }
 {
-    bytes.iter().position(|byte| *byte == b'\n')
+    memchr(b'\n', bytes)
 }
 
 // The bytes behind so many.

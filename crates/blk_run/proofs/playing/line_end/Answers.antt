@@ -1,0 +1,24 @@
+use Rattle.std.proofs.Common.{◌≡◌, ◌==◌, ◌<◌, ℕ, Bool, true, false, List, Option, None, Some, length, refl, arith}
+use Rattle.std.specs.List.{position_or_len}
+use Rattle.std.specs.Prelude.{position}
+use Rattle.std.proofs.lemmas.List.Sums.{position_or_len_is}
+use Rattle.memchr.specs.Find.{IsFirstByte, is_byte}
+use Rattle.blk_run.proofs.playing.line_end.Goals as goal
+
+-- a byte that isn't to pass
+fails : (b : Bool) → ((b ≡ true) → ⊥) → b ≡ false
+fails true never = absurd (never refl)
+fails false never = refl
+
+-- the first byte that is a line feed has the first place of one
+first : (bytes : List ℕ) (r : Option ℕ) → IsFirstByte (is_byte 10) bytes r → r ≡ position (λ byte. byte == 10) bytes
+first bytes None is =
+    let end : position_or_len (λ byte. byte == 10) bytes ≡ length bytes = position_or_len_is (λ byte. byte == 10) bytes (length bytes) 0 (omega arith) (λ j lt. fails _ (λ passes. is j (omega arith) lt passes)) (λ lt. absurd (omega (arith, lt))) in
+    grind (arith, end)
+first bytes (Some k) is =
+    let high : k < length bytes = is.0.high in
+    let here : position_or_len (λ byte. byte == 10) bytes ≡ k = position_or_len_is (λ byte. byte == 10) bytes k 0 (omega (arith, high)) (λ j lt. fails _ (λ passes. is.0.before j (omega arith) lt passes)) (λ _. is.1) in
+    grind (arith, high, here)
+
+pub returns : goal.returns
+returns c = first c.args.bytes.now c.memchr.result c.memchr.ensures
