@@ -42,21 +42,43 @@ fn fails_well(
     Ok(ended && is_stop_outcome(done, listed.written()))
 }
 
+// Of each so many-th folder call of the session the first that may not fail, with none of its steps lasting or one.
+fn first_that_fails_ill(
+    alloc: Global,
+    start: &MemFolder,
+    input: &[u8],
+    each: u64,
+) -> Result<Option<u64>, Fail> {
+    let calls = calls_of_a_session(alloc, start, input)?;
+    for part in 0..calls.checked_div(each).unwrap_or(0) {
+        let call = part.wrapping_add(1).wrapping_mul(each);
+        if !fails_well(alloc, start, input, (call, 0))?
+            || !fails_well(alloc, start, input, (call, 1))?
+        {
+            return Ok(Some(call));
+        }
+    }
+    Ok(None)
+}
+
 #[test]
 fn a_folder_call_that_fails_leaves_a_stop_outcome(rt: HostRuntime) -> Result<(), Fail> {
     let input = text_of(rt.alloc(), TWELVE)?;
     let start = left_by(rt.alloc(), BEFORE)?;
     let calls = calls_of_a_session(rt.alloc(), &start, &input)?;
     assert!(rt; calls >= 500, "{calls} calls");
-    for tenth in 0..calls / 10 {
-        let call = tenth.wrapping_mul(10).wrapping_add(10);
-        for words in [0, 1] {
-            assert!(rt;
-                fails_well(rt.alloc(), &start, &input, (call, words))?,
-                "call {call}, {words} words"
-            );
-        }
-    }
+    assert_eq!(rt; first_that_fails_ill(rt.alloc(), &start, &input, 10)?, None);
+    Ok(())
+}
+
+// The folder is made by the session, and its files grow.
+#[test]
+fn a_call_that_fails_in_a_new_folder_leaves_a_stop_outcome(rt: HostRuntime) -> Result<(), Fail> {
+    let input = text_of(rt.alloc(), TWELVE)?;
+    let start = MemFolder::new(rt.alloc());
+    let calls = calls_of_a_session(rt.alloc(), &start, &input)?;
+    assert!(rt; calls >= 550, "{calls} calls");
+    assert_eq!(rt; first_that_fails_ill(rt.alloc(), &start, &input, 19)?, None);
     Ok(())
 }
 
