@@ -1,9 +1,9 @@
 // Commands on a cache of many objects, and on keys of one bucket.
-use crate::sessions::{LIMITS, Session};
 use blk_cache::StepFault;
 use blk_io::{Failed, FileId, Folder};
 use blk_model::{Answer, Command, Limits, Refusal};
 use blk_test_folders::stopping::{Mem, empty};
+use blk_test_sessions::sessions::{LIMITS, Session};
 use itoa::Buffer;
 use std::alloc::Global;
 use std::test::Fail;

@@ -1,7 +1,7 @@
 // The folder calls of an eviction.
 use crate::parts::sparse_folder;
-use crate::sessions::{LIMITS, Session};
 use blk_test_folders::stopping::empty;
+use blk_test_sessions::sessions::{LIMITS, Session};
 use std::test::Fail;
 
 // An object without an index, and one with an index and two parts.

@@ -1,23 +1,15 @@
-//! The tests of objects that are made and removed, of sessions by the lines of a script, and of the word `count`.
+//! The tests of the opening of a folder, and of commands by the lines of a script.
 #![tactic(auto)]
 
 #[cfg(test)]
 mod commands;
 #[cfg(test)]
-mod counting;
-#[cfg(test)]
 mod evicting;
 #[cfg(test)]
-mod long_session;
-#[cfg(test)]
-mod objects;
+mod opening;
 #[cfg(test)]
 mod parts;
 #[cfg(test)]
-mod playing;
-#[cfg(test)]
 mod rows;
-#[cfg(test)]
-mod sessions;
 #[cfg(test)]
 mod stops;

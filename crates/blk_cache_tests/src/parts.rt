@@ -1,5 +1,4 @@
 // An object with two parts, in a folder that is written by the format alone.
-use crate::sessions::{LIMITS, Session, held};
 use blk_chain::find;
 use blk_disk::BlockFiles;
 use blk_entry::node_of;
@@ -12,6 +11,7 @@ use blk_sparse::{
 };
 use blk_test_folders::folders::{Entry, add, give_blocks, place_of, put_index, put_words};
 use blk_test_folders::stopping::{Mem, empty};
+use blk_test_sessions::sessions::{LIMITS, Session, held};
 use std::alloc::Global;
 use std::test::Fail;
 

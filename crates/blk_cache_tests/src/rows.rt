@@ -1,10 +1,10 @@
 // Short sessions, by the lines of a script and what they print.
-use crate::sessions::{LIMITS, Session, held};
 use blk_cache::StepFault;
 use blk_io::{Fault, FileId, Folder, MemSink, read_word};
 use blk_model::{Limits, MOST_ITEMS};
 use blk_test_folders::folders::{ADDRS, SIZES, place_of};
 use blk_test_folders::stopping::{Mem, empty};
+use blk_test_sessions::sessions::{LIMITS, Session, held};
 use std::alloc::Global;
 use std::test::Fail;
 

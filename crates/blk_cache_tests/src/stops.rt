@@ -1,8 +1,8 @@
 // Commands that are stopped at each of their words.
 use crate::parts::sparse_folder;
-use crate::sessions::{Held, LIMITS, Session, held};
 use blk_model::Limits;
 use blk_test_folders::stopping::empty;
+use blk_test_sessions::sessions::{Held, LIMITS, Session, held};
 use std::alloc::Global;
 use std::test::Fail;
 

@@ -1,13 +1,14 @@
 // Changes to the folder of all kinds of entries, with what the audit tells then.
-use crate::worked::{
-    BLOCKS, IEV, JIO, LNIW, MAGIC, N, NAB, OF_LONGER, OF_STREAMS, OF_THREE, OF_TWO, OTHER_INDEX,
-    OUTSIDE, PARENT, PARENT_INDEX, PART, PART_DATA, PART_INDEX, STREAMS, TWIN, TWO, UNOWNED, ZRTI,
-};
 use blk_io::FileId;
 use blk_test_folders::folders::Change::{Bucket, Gone, Index, Length, Word};
 use blk_test_folders::folders::{
     ADDRS, BACK, CONTENTS, Change, DIRTY, FLAGS, HEAD, KEY, KEY_LEN, LONG_KEY, NEXT, NODE_NEXT,
     NODE_SEAL, OPERATION, PREV, SEAL, SIZES, STATE, TAIL, TRANSACTION,
+};
+use blk_test_folders::stopped::MOST_REASONS;
+use blk_test_folders::worked::{
+    BLOCKS, IEV, JIO, LNIW, MAGIC, N, NAB, OF_LONGER, OF_STREAMS, OF_THREE, OF_TWO, OTHER_INDEX,
+    OUTSIDE, PARENT, PARENT_INDEX, PART, PART_DATA, PART_INDEX, STREAMS, TWIN, TWO, UNOWNED, ZRTI,
 };
 
 // Changes to the folder, how many are kept then, and the word of each node and record that is dropped, with its reason's number.
@@ -501,31 +502,6 @@ const OPERATIONS: [Case; 17] = [
     ),
 ];
 
-// Changes for which eleven of the twelve are dropped, each for a reason of its own. What is changed has no seal then.
-const MOST_REASONS: [Change; 21] = [
-    Word(N[0], DIRTY, 1),
-    Word(N[0], NODE_SEAL, 0),
-    Word(JIO, STATE, 2),
-    Word(JIO, SEAL, 0),
-    Word(NAB, FLAGS, 4),
-    Word(NAB, SEAL, 0),
-    Word(LNIW, KEY_LEN, 0),
-    Word(LNIW, SEAL, 0),
-    Word(ZRTI, LONG_KEY, 1),
-    Word(ZRTI, SEAL, 0),
-    Word(PARENT_INDEX, 64, 0),
-    Word(STREAMS, 0, 0x029D_191A),
-    Word(STREAMS, SEAL, 0),
-    Word(TWIN, SIZES, 100),
-    Word(TWIN, ADDRS, 0xA001_0010),
-    Word(TWIN, SEAL, 0),
-    Bucket(OF_LONGER, 0),
-    Word(BLOCKS, SIZES, 5),
-    Word(BLOCKS, SEAL, 0),
-    Word(N[11], CONTENTS, 0),
-    Word(N[11], NODE_SEAL, 0),
-];
-
 // Several reasons for one node, of which the first counts, and all sixteen in two folders.
 const TOGETHER: [Case; 3] = [
     (
@@ -583,61 +559,4 @@ pub(crate) const TABLES: [&[Case]; 7] = [
     &SHAPES,
     &OPERATIONS,
     &TOGETHER,
-];
-
-// Changes after which repair is stopped at each of its words: a removal in flight and a list whose last node points back; a
-// move in flight, a record that doesn't check and a dirty parent; a record in two chains, and a node that isn't sealed; blocks
-// that are claimed twice, in and out of a chain; an insertion in flight into a list without a head; an operation that
-// doesn't count, a loop in a chain and one in the list; a file of records that is too short; files that nothing names;
-// external files that are gone or too short, and another tail; and almost all reasons.
-pub(crate) const STOPPED: [&[Change]; 10] = [
-    &[
-        Index(TRANSACTION, N[1]),
-        Index(OPERATION, 2),
-        Word(N[11], NODE_NEXT, N[5]),
-        Word(N[11], NODE_SEAL, 0),
-    ],
-    &[
-        Index(TRANSACTION, N[7]),
-        Index(OPERATION, 3),
-        Word(JIO, SEAL, 1),
-        Word(N[6], DIRTY, 1),
-        Word(N[6], NODE_SEAL, 0),
-    ],
-    &[
-        Word(JIO, NEXT, STREAMS),
-        Word(JIO, SEAL, 0),
-        Word(N[3], NODE_SEAL, 0),
-    ],
-    &[
-        Word(TWIN, SIZES, 1024),
-        Word(TWIN, ADDRS, PART_DATA),
-        Word(TWIN, SEAL, 0),
-        Bucket(OF_TWO, LNIW),
-    ],
-    &[
-        Index(TRANSACTION, N[11]),
-        Index(OPERATION, 1),
-        Index(HEAD, 0),
-    ],
-    &[
-        Index(TRANSACTION, N[1]),
-        Index(OPERATION, 4),
-        Word(IEV, NEXT, NAB),
-        Word(IEV, SEAL, 0),
-        Word(N[11], NODE_NEXT, N[0]),
-        Word(N[11], NODE_SEAL, 0),
-    ],
-    &[Length(FileId::Block(1), 8448), Bucket(OF_THREE, IEV)],
-    &[
-        Length(FileId::Block(9), 8192),
-        Length(FileId::External(7), 100),
-        Length(FileId::External(9), 0),
-    ],
-    &[
-        Length(FileId::External(1), 19999),
-        Gone(FileId::External(2)),
-        Index(TAIL, N[3]),
-    ],
-    &MOST_REASONS,
 ];

@@ -1,4 +1,4 @@
-//! The tests of the audit and of the repair of whole folders, and of their opening.
+//! The tests of the audit and of the repair of whole folders.
 #![tactic(auto)]
 
 #[cfg(test)]
@@ -8,10 +8,6 @@ mod cases;
 #[cfg(test)]
 mod long;
 #[cfg(test)]
-mod opening;
-#[cfg(test)]
 mod reasons;
 #[cfg(test)]
 mod repairs;
-#[cfg(test)]
-mod worked;

@@ -1,9 +1,9 @@
 // The audit of a folder of all kinds of entries, as it is and with changes.
 use crate::cases::{Case, TABLES};
-use crate::worked::{N, make_all};
 use blk_io::{MemFolder, SilentFolder};
 use blk_scan::{Scan, scan_folder};
 use blk_test_folders::folders::{Mem, OPERATION, TRANSACTION, audited, change_all, dropped_at};
+use blk_test_folders::worked::{N, make_all};
 use std::alloc::Global;
 use std::test::Fail;
 

@@ -1,10 +1,9 @@
 // The repair of the same folders, and a stop at each of its words.
-use crate::cases::{Case, STOPPED, TABLES};
-use crate::worked::{IEV, NAB, make_all};
+use crate::cases::{Case, TABLES};
 use blk_audit::ScanFault;
 use blk_disk::BlockFiles;
 use blk_index::make;
-use blk_io::{Damage, Fault, FileId, Folder, SilentFolder, read_word};
+use blk_io::{Damage, Fault, FileId, Folder, read_word};
 use blk_repair::repair;
 use blk_scan::{Scan, scan_files};
 use blk_test_folders::folders::Change::{Index, Length, Word};
@@ -12,7 +11,10 @@ use blk_test_folders::folders::{
     Change, NEXT, OPERATION, SEAL, TRANSACTION, audited, change_all, dropped_at, place_of,
 };
 use blk_test_folders::found::found;
+use blk_test_folders::mended::{changed, mend};
+use blk_test_folders::stopped::STOPPED;
 use blk_test_folders::stopping::{Mem, again, empty};
+use blk_test_folders::worked::{IEV, NAB};
 use std::alloc::Global;
 use std::test::Fail;
 
@@ -24,36 +26,6 @@ const MOST_STEPS: u64 = 1000;
 
 // A repair that follows on a stopped one is stopped within so many steps.
 const NEXT_STEPS: u64 = 23;
-
-// The folder of all kinds of entries: as it is made, where every seal is 0, or repaired once, where each is sealed.
-fn whole(alloc: Global, sealed: bool) -> Result<Mem, Fail> {
-    let mut f = empty(alloc);
-    make_all(alloc, &mut f)?;
-    if sealed {
-        mend(alloc, &mut f)?;
-    }
-    Ok(f)
-}
-
-// That folder with some changes, where so many more steps pass.
-pub(crate) fn changed(
-    alloc: Global,
-    sealed: bool,
-    changes: &[Change],
-    steps: u64,
-) -> Result<Mem, Fail> {
-    let mut f = whole(alloc, sealed)?;
-    change_all(&mut f, changes)?;
-    Ok(again(f, steps))
-}
-
-// Audits the folder and repairs it. Gives what was told before.
-pub(crate) fn mend<F: Folder>(alloc: Global, f: &mut SilentFolder<F>) -> Result<Scan, ScanFault> {
-    let mut files = BlockFiles::load(f)?;
-    let scan = scan_files(alloc, f, &files)?;
-    repair(f, &mut files, &scan)?;
-    Ok(scan)
-}
 
 // What is held: the number of the entries that are kept, the bytes that are charged for them, and the hash of all that is
 // found of them, their keys and their data in the order of the list.

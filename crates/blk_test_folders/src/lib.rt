@@ -5,5 +5,9 @@
 pub mod folders;
 pub mod found;
 pub mod inputs;
+pub mod many;
+pub mod mended;
 pub mod replies;
+pub mod stopped;
 pub mod stopping;
+pub mod worked;

@@ -1,35 +1,35 @@
 // A folder of all kinds of entries.
+use crate::folders::{Entry, add, give_blocks, put_index};
 use blk_index::make;
 use blk_io::{FileId, Folder, SilentFolder};
-use blk_test_folders::folders::{Entry, add, give_blocks, put_index};
 use std::alloc::Global;
 use std::test::Fail;
 
-// The records of the folder: three of one bucket, two with keys of one hash, a part, its parent, one with streams, one with
-// the key of the part, and three with longer keys: of two blocks, in a block file, and in an external file.
-pub(crate) const IEV: u32 = 0xA001_0000;
+/// The records of the folder: three of one bucket, two with keys of one hash, a part, its parent, one with streams, one with
+/// the key of the part, and three with longer keys: of two blocks, in a block file, and in an external file.
+pub const IEV: u32 = 0xA001_0000;
 
-pub(crate) const JIO: u32 = 0xA001_0001;
+pub const JIO: u32 = 0xA001_0001;
 
-pub(crate) const NAB: u32 = 0xA001_0002;
+pub const NAB: u32 = 0xA001_0002;
 
-pub(crate) const LNIW: u32 = 0xA001_0004;
+pub const LNIW: u32 = 0xA001_0004;
 
-pub(crate) const ZRTI: u32 = 0xA001_0005;
+pub const ZRTI: u32 = 0xA001_0005;
 
-pub(crate) const PART: u32 = 0xA001_0008;
+pub const PART: u32 = 0xA001_0008;
 
-pub(crate) const PARENT: u32 = 0xA001_0009;
+pub const PARENT: u32 = 0xA001_0009;
 
-pub(crate) const STREAMS: u32 = 0xA001_000C;
+pub const STREAMS: u32 = 0xA001_000C;
 
-pub(crate) const TWIN: u32 = 0xA001_000D;
+pub const TWIN: u32 = 0xA001_000D;
 
-pub(crate) const TWO: u32 = 0xA101_0018;
+pub const TWO: u32 = 0xA101_0018;
 
-pub(crate) const BLOCKS: u32 = 0xA001_001C;
+pub const BLOCKS: u32 = 0xA001_001C;
 
-pub(crate) const OUTSIDE: u32 = 0xA001_001D;
+pub const OUTSIDE: u32 = 0xA001_001D;
 
 // Each of them with its key, which goes on with the byte x up to its length, and with the place of a long key.
 const ENTRIES: [(u32, &[u8], usize, u32); 12] = [
@@ -47,31 +47,31 @@ const ENTRIES: [(u32, &[u8], usize, u32); 12] = [
     (OUTSIDE, b"external", 20000, 0x8000_0002),
 ];
 
-// Their buckets.
-pub(crate) const OF_THREE: u32 = 0xAF82;
+/// Their buckets.
+pub const OF_THREE: u32 = 0xAF82;
 
-pub(crate) const OF_TWO: u32 = 0x66E8;
+pub const OF_TWO: u32 = 0x66E8;
 
-pub(crate) const OF_STREAMS: u32 = 0x191A;
+pub const OF_STREAMS: u32 = 0x191A;
 
-pub(crate) const OF_LONGER: u32 = 0xC031;
+pub const OF_LONGER: u32 = 0xC031;
 
-// The indexes of the part and of the parent, and the data of the part.
-pub(crate) const PART_INDEX: u32 = 0xA001_0011;
+/// The indexes of the part and of the parent, and the data of the part.
+pub const PART_INDEX: u32 = 0xA001_0011;
 
-pub(crate) const PARENT_INDEX: u32 = 0xC203_0000;
+pub const PARENT_INDEX: u32 = 0xC203_0000;
 
-pub(crate) const PART_DATA: u32 = 0xB002_0000;
+pub const PART_DATA: u32 = 0xB002_0000;
 
-// Blocks of 256 bytes that nobody owns.
-pub(crate) const UNOWNED: u32 = 0xA001_0020;
+/// Blocks of 256 bytes that nobody owns.
+pub const UNOWNED: u32 = 0xA001_0020;
 
-pub(crate) const OTHER_INDEX: u32 = 0xA001_0021;
+pub const OTHER_INDEX: u32 = 0xA001_0021;
 
-pub(crate) const MAGIC: u32 = 0xC103_CAC3;
+pub const MAGIC: u32 = 0xC103_CAC3;
 
-// The nodes, in the order of the list.
-pub(crate) const N: [u32; 12] = [
+/// The nodes, in the order of the list.
+pub const N: [u32; 12] = [
     0x9000_0000,
     0x9000_0001,
     0x9000_0002,
@@ -123,8 +123,8 @@ fn add_entry<F: Folder>(
     Ok(())
 }
 
-// Makes a folder of all of them, in which every seal is 0.
-pub(crate) fn make_all<F: Folder>(alloc: Global, f: &mut SilentFolder<F>) -> Result<(), Fail> {
+/// Makes a folder of all of them, in which every seal is 0.
+pub fn make_all<F: Folder>(alloc: Global, f: &mut SilentFolder<F>) -> Result<(), Fail> {
     make(f, 7)?;
     give_blocks(f, 1024, [1024, 64, 16, 4])?;
     f.set_len(FileId::External(1), 20000)?;

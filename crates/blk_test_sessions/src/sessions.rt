@@ -10,8 +10,8 @@ use blk_test_folders::stopping::{Mem, again};
 use std::alloc::Global;
 use std::test::Fail;
 
-// The limits that the program has where it is given none.
-pub(crate) const LIMITS: Limits = Limits {
+/// The limits that the program has where it is given none.
+pub const LIMITS: Limits = Limits {
     max_bytes: 83_886_080,
     max_items: 65_536,
 };
@@ -22,17 +22,17 @@ const MOMENT: u64 = 100;
 // The most bytes of a line.
 const LONGEST: usize = 400;
 
-// A session over a folder: the folder, the cache, and what was printed.
+/// A session over a folder: the folder, the cache, and what was printed.
 #[derive(Drop)]
-pub(crate) struct Session {
-    pub(crate) f: Mem,
-    pub(crate) cache: Cache,
-    pub(crate) out: MemSink,
+pub struct Session {
+    pub f: Mem,
+    pub cache: Cache,
+    pub out: MemSink,
 }
 
 impl Session {
-    // A session over a folder, with these limits.
-    pub(crate) fn over(alloc: Global, f: Mem, limits: Limits) -> Result<Session, Fail> {
+    /// A session over a folder, with these limits.
+    pub fn over(alloc: Global, f: Mem, limits: Limits) -> Result<Session, Fail> {
         let mut f = f;
         let cache = Cache::start(alloc, &mut f, limits, MOMENT)?;
         Ok(Session {
@@ -42,8 +42,8 @@ impl Session {
         })
     }
 
-    // The session, where so many more steps pass.
-    pub(crate) fn stopping(self, steps: u64) -> Session {
+    /// The session, where so many more steps pass.
+    pub fn stopping(self, steps: u64) -> Session {
         let Session { f, cache, out } = self;
         Session {
             f: again(f, steps),
@@ -52,8 +52,8 @@ impl Session {
         }
     }
 
-    // Does a command. Gives its answer and the number of its folder calls.
-    pub(crate) fn step(&mut self, command: &Command) -> Result<(Answer, u64), StepFault> {
+    /// Does a command. Gives its answer and the number of its folder calls.
+    pub fn step(&mut self, command: &Command) -> Result<(Answer, u64), StepFault> {
         let start = self.f.calls();
         let answer = self
             .cache
@@ -61,8 +61,8 @@ impl Session {
         Ok((answer, self.f.calls().wrapping_sub(start)))
     }
 
-    // Does the command of a line. Gives the number of its folder calls.
-    pub(crate) fn line(&mut self, line: &[u8]) -> Result<u64, StepFault> {
+    /// Does the command of a line. Gives the number of its folder calls.
+    pub fn line(&mut self, line: &[u8]) -> Result<u64, StepFault> {
         let mut room = [0u8; LONGEST];
         if line.len() > LONGEST {
             return Err(StepFault::Device);
@@ -76,21 +76,16 @@ impl Session {
         }
     }
 
-    // Does the commands of some lines.
-    pub(crate) fn run(&mut self, lines: &[&[u8]]) -> Result<(), StepFault> {
+    /// Does the commands of some lines.
+    pub fn run(&mut self, lines: &[&[u8]]) -> Result<(), StepFault> {
         for line in lines {
             self.line(line)?;
         }
         Ok(())
     }
 
-    // Writes so many bytes of one value over a stream.
-    pub(crate) fn write(
-        &mut self,
-        handle: u16,
-        stream: u8,
-        count: usize,
-    ) -> Result<u64, StepFault> {
+    /// Writes so many bytes of one value over a stream.
+    pub fn write(&mut self, handle: u16, stream: u8, count: usize) -> Result<u64, StepFault> {
         let bytes = [b'z'; 300];
         if count > 300 {
             return Err(StepFault::Device);
@@ -106,12 +101,12 @@ impl Session {
     }
 }
 
-// What is held: the number of the entries that are kept, the bytes that are charged for them, and the hash of their keys and data
-// in the order of the list.
-pub(crate) type Held = (u64, u64, u64);
+/// What is held: the number of the entries that are kept, the bytes that are charged for them, and the hash of their keys and data
+/// in the order of the list.
+pub type Held = (u64, u64, u64);
 
-// Audits a folder. Gives what it holds.
-pub(crate) fn held(alloc: Global, f: Mem) -> Result<Held, ScanFault> {
+/// Audits a folder. Gives what it holds.
+pub fn held(alloc: Global, f: Mem) -> Result<Held, ScanFault> {
     let mut f = again(f, u64::MAX);
     let scan = audited(alloc, &mut f)?;
     Ok((scan.items(), scan.bytes(), found(&mut f, &scan)?))

@@ -1,12 +1,12 @@
 // A session of four hundred entries by eight handles, whose last Close fails.
 use crate::counting::run_on;
-use crate::sessions::{LIMITS, Session, held};
 use blk_cache::StepFault;
 use blk_io::{MemSink, SilentFolder, StopFolder};
 use blk_model::{Answer, Command};
 use blk_run::Status;
 use blk_test_folders::found::with_these;
 use blk_test_folders::stopping::{again, empty};
+use blk_test_sessions::sessions::{LIMITS, Session, held};
 use itoa::Buffer;
 use std::alloc::Global;
 use std::test::Fail;

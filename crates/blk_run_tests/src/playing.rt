@@ -1,10 +1,10 @@
 // Whole sessions over a folder in memory: how they end, what they print, and what is held then, also where they are stopped.
 use crate::counting::run_on;
-use crate::sessions::{LIMITS, held};
 use blk_io::{ListClock, MemSink, MemSource};
 use blk_run::{Status, session};
 use blk_test_folders::replies::{is_row, replies_in};
 use blk_test_folders::stopping::{Mem, again, empty};
+use blk_test_sessions::sessions::{LIMITS, held};
 use std::alloc::Global;
 use std::test::Fail;
 

@@ -1,7 +1,4 @@
 // The opening and the end of a cache: on an empty folder, on one of many entries, and on damaged ones where it is stopped.
-use crate::calls::{ENTRIES, Sort, many};
-use crate::cases::STOPPED;
-use crate::repairs::changed;
 use blk_audit::ScanFault;
 use blk_cache::{Cache, OpenFault};
 use blk_io::{FileId, Folder, MemFolder, SilentFolder, read_word};
@@ -9,6 +6,9 @@ use blk_model::{Limits, MOST_BYTES, MOST_ITEMS};
 use blk_record::IndexHead;
 use blk_test_folders::folders::{Change, audited};
 use blk_test_folders::found::found;
+use blk_test_folders::many::{ENTRIES, Sort, many};
+use blk_test_folders::mended::changed;
+use blk_test_folders::stopped::STOPPED;
 use blk_test_folders::stopping::{Mem, again};
 use std::alloc::Global;
 use std::test::Fail;
