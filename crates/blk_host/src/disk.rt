@@ -134,8 +134,9 @@ impl OpenFiles {
 pub struct Disk<R: Files<File = File> + Drop> {
     rt: R,
     alloc: Global,
-    held: Held,
     open: OpenFiles,
+    // The lock goes behind the open files.
+    held: Held,
 }
 
 impl<R: Files<File = File> + Drop> Disk<R> {
@@ -144,8 +145,8 @@ impl<R: Files<File = File> + Drop> Disk<R> {
         Disk {
             rt,
             alloc,
-            held,
             open: OpenFiles::new(),
+            held,
         }
     }
 

@@ -5,14 +5,13 @@ ghost use Rattle.std.specs.declared.io.Error.{Error};
 ghost use Rattle.blk_host.specs.Holding.{HasNoLocks};
 
 use crate::again::again;
-use std::error;
 use std::fmt::{self, Display, Formatter};
 use std::fs::{File, TryLockError};
 use std::io::ErrorKind;
 use std::os::unix::fs::MetadataExt;
 use std::rt::{Clock, Env, Files};
 use std::time::{Duration, Instant};
-use std::{env, io, thread};
+use std::{env, error, io, thread};
 
 // How many milliseconds the program sleeps between two tries at a lock that another one has.
 const PAUSE: u64 = 50;

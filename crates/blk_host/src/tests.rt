@@ -211,7 +211,9 @@ fn a_folder_is_had_alone_or_beside_readers(rt: HostRuntime) -> Result<(), NotHel
     let path = new_folder(rt, "held")?;
     let path = path.as_str();
     let alone = take(rt, path, Access::Alone)?;
-    assert!(rt; alone.writes() && is_held(rt, path, Access::Alone) && is_held(rt, path, Access::Shared));
+    assert!(rt;
+        alone.writes() && is_held(rt, path, Access::Alone) && is_held(rt, path, Access::Shared)
+    );
     drop(alone);
     let reader = take(rt, path, Access::Shared)?;
     assert!(rt; !reader.writes() && is_held(rt, path, Access::Alone));
