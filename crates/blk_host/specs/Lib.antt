@@ -1,4 +1,5 @@
 pub mod FileIds
+pub mod Holding
 pub mod Names
 pub mod Numbers
 pub mod Spelling

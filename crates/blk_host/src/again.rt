@@ -1,10 +1,10 @@
 // Calls of the machine that a signal interrupted.
 ghost use Rattle.std.specs.Prelude.{◌≡◌, ◌≢◌, ◌≤◌, IfOk, IfErr, IfSome, IfNone, IsErrAnd, OnOk, length};
 ghost use Rattle.std.specs.IoError.{error_kind};
-ghost use Rattle.std.specs.Io.KnownBytes.{ReadConsumes};
+ghost use Rattle.std.specs.Io.KnownBytes.{ReadConsumes, WriteAppends};
 
 use std::io;
-use std::io::{ErrorKind, Read};
+use std::io::{ErrorKind, Read, Write};
 
 /// Makes a call of the machine, and makes it again as long as a signal interrupts it.
 pub fn again<T, F: Fn() -> io::Result<T>>(call: F) -> io::Result<T>
@@ -28,6 +28,20 @@ pub fn read_again<T: Read>(input: &mut T, out: &mut [u8]) -> io::Result<usize>
 {
     for _ in 0..u64::MAX {
         if let Some(answer) = unless_interrupted(input.read(out)) {
+            return answer;
+        }
+    }
+    Err(io::Error::from(ErrorKind::TimedOut))
+}
+
+/// Writes once, and writes again as long as a signal interrupts it.
+pub fn write_again<T: Write>(output: &mut T, bytes: &[u8]) -> io::Result<usize>
+    ensures within { IfOk result (λ n. n ≤ length bytes.now) }
+    ensures bytes { WriteAppends (T.contents output.old) (T.contents output.new) result bytes.now }
+    ensures retried { IfErr result (λ error. error_kind error ≢ ErrorKind.Interrupted) }
+{
+    for _ in 0..u64::MAX {
+        if let Some(answer) = unless_interrupted(output.write(bytes)) {
             return answer;
         }
     }

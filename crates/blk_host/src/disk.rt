@@ -3,23 +3,31 @@ ghost use Rattle.std.specs.Prelude.{◌<ℤ◌, pos, IfOk};
 ghost use Rattle.std.specs.Fd.{file_raw_fd};
 
 use crate::again::again;
+use crate::held::Held;
+use crate::identity::Identity;
 use crate::spelling::name_of;
 use blk_addr::BLOCK_FILES;
 use blk_io::FileId;
-use std::alloc::{AllocError, Global};
-use std::fs::{File, Metadata, OpenOptions};
+use std::alloc::Global;
+use std::fs::{File, Metadata, OpenOptions, Permissions};
 use std::io::ErrorKind;
 use std::os::fd::AsRawFd;
-use std::os::unix::fs::FileExt;
+use std::os::unix::fs::{FileExt, MetadataExt, OpenOptionsExt, PermissionsExt};
 use std::rt::Files;
 use std::{array, fs, io};
 
 // The descriptors of the standard streams are 0 to this one.
 const LAST_STREAM: i32 = 2;
 
+// Only the owner may read and write a file that is made.
+const MODE: u32 = 0o600;
+
+// The bits of a mode that say who may do what.
+const MODE_BITS: u32 = 0o7777;
+
 /// An open file of the folder. Its descriptor is none of the standard streams', so nothing that is printed gets into it.
 ///
-/// Nobody else writes the folder, so the machine is asked once for the file's length, and again where a change of it failed.
+/// The folder is locked, so the machine is asked for the file's length as it is opened, and again where a change of it failed.
 #[derive(Drop)]
 pub struct OpenFile {
     file: File,
@@ -29,12 +37,15 @@ pub struct OpenFile {
 }
 
 impl OpenFile {
-    // The file, unless it has the descriptor of a standard stream.
-    fn new(file: File) -> io::Result<Self> {
+    // The file with its length in bytes, unless it has the descriptor of a standard stream.
+    fn new(file: File, length: u64) -> io::Result<Self> {
         if file.as_raw_fd() <= LAST_STREAM {
             return Err(io::Error::from(ErrorKind::Other));
         }
-        Ok(OpenFile { file, length: None })
+        Ok(OpenFile {
+            file,
+            length: Some(length),
+        })
     }
 
     /// The file of the machine. It has the descriptor of no standard stream.
@@ -118,66 +129,86 @@ impl OpenFiles {
     }
 }
 
-/// The folder at a path, with the files that are open in it.
+/// The folder that the program has, with the files that are open in it. Their names are relative to the folder.
 #[derive(Drop)]
 pub struct Disk<R: Files<File = File> + Drop> {
     rt: R,
     alloc: Global,
-    path: String,
     open: OpenFiles,
+    // The lock goes behind the open files.
+    held: Held,
 }
 
 impl<R: Files<File = File> + Drop> Disk<R> {
-    /// The folder at a path, with no open files.
-    pub fn new(rt: R, alloc: Global, path: String) -> Self {
+    /// The folder that the program has, with no open files.
+    pub fn new(rt: R, alloc: Global, held: Held) -> Self {
         Disk {
             rt,
             alloc,
-            path,
             open: OpenFiles::new(),
+            held,
         }
     }
 
-    /// A file that is there, which is opened unless it is open.
+    /// A file that is there, which is opened unless it is open: for reading, and for writing too unless the folder is shared.
+    ///
+    /// It fails where what was opened is not the folder's own file under its name.
     pub fn open(&mut self, file: FileId) -> io::Result<&mut OpenFile> {
         let place = self.open.place(file);
         match place {
             Some(open) => Ok(open),
             None => {
-                let path = path_of(self.alloc, self.path.as_str(), file)?;
-                let open = OpenOptions::new()
+                let name = name_of(self.alloc, file)?;
+                let opened = OpenOptions::new()
                     .read(true)
-                    .write(true)
-                    .open(&self.rt, path)?;
-                Ok(place.insert(OpenFile::new(open)?))
+                    .write(self.held.writes())
+                    .open(&self.rt, name.as_str())?;
+                let metadata = own_metadata(&self.rt, &self.held, name.as_str(), &opened)?;
+                Ok(place.insert(OpenFile::new(opened, metadata.len())?))
             }
         }
     }
 
-    /// Makes a file that is not there, with no bytes. It fails where there is one.
+    /// Makes a file that is not there, with no bytes, which only its owner may read and write. It fails where there is one.
     pub fn create(&mut self, file: FileId) -> io::Result<&mut OpenFile> {
-        let path = path_of(self.alloc, self.path.as_str(), file)?;
-        let open = OpenOptions::new()
+        let name = name_of(self.alloc, file)?;
+        let made = OpenOptions::new()
             .read(true)
-            .write(true)
+            .write(self.held.writes())
             .create_new(true)
-            .open(&self.rt, path)?;
-        let mut made = OpenFile::new(open)?;
-        made.length = Some(0);
+            .mode(MODE)
+            .open(&self.rt, name.as_str())?;
+        let metadata = own_metadata(&self.rt, &self.held, name.as_str(), &made)?;
+        // The process may have been told to leave rights out of the files that it makes.
+        if metadata.mode() & MODE_BITS != MODE {
+            made.set_permissions(Permissions::from_mode(MODE))?;
+        }
+        let made = OpenFile::new(made, metadata.len())?;
         Ok(self.open.place(file).insert(made))
     }
 
     /// Removes a file that is there, and closes it.
     pub fn remove(&mut self, file: FileId) -> io::Result<()> {
-        let path = path_of(self.alloc, self.path.as_str(), file)?;
-        again(|| fs::remove_file(&self.rt, path.as_str()))?;
+        let name = name_of(self.alloc, file)?;
+        again(|| fs::remove_file(&self.rt, name.as_str()))?;
         *self.open.place(file) = None;
         Ok(())
     }
 }
 
-// The path of a cache file of the folder at a path.
-fn path_of(alloc: Global, path: &str, file: FileId) -> Result<String, AllocError> {
-    let name = name_of(alloc, file)?;
-    format!(in alloc; "{path}/{name}")
+// What the machine says of a file that was just opened under a name. It fails unless it is a regular file with one name, on the
+// folder's device, and the name still has it.
+fn own_metadata<R: Files>(rt: &R, held: &Held, name: &str, file: &File) -> io::Result<Metadata> {
+    let metadata = metadata_of(file)?;
+    let opened = Identity::of(&metadata);
+    if !opened.is_own(held.device()) {
+        return Err(io::Error::from(ErrorKind::InvalidData));
+    }
+    // A link is not followed here.
+    let named = again(|| fs::symlink_metadata(rt, name))?;
+    if opened.is_same(&Identity::of(&named)) {
+        Ok(metadata)
+    } else {
+        Err(io::Error::from(ErrorKind::InvalidData))
+    }
 }

@@ -8,6 +8,8 @@ ghost use Rattle.blk_host.specs.FileIds.{ComesAfter};
 
 use crate::again::{again, read_again};
 use crate::disk::Disk;
+use crate::held::Held;
+use crate::identity::Identity;
 use crate::names::Names;
 use crate::spelling::file_of_name;
 use blk_io::FileId;
@@ -26,26 +28,27 @@ pub struct DiskFiles<R: Files<File = File> + Drop> {
 }
 
 impl<R: Files<File = File> + AllocGlobal + Clone + Drop> DiskFiles<R> {
-    /// The files of the folder at a path, whose names are read here and never again.
+    /// The files of the folder that the program has, whose names are read here and never again.
     ///
-    /// It fails where a cache file's name belongs to something else than a regular file. No file is opened.
-    pub fn new(rt: R, alloc: Global, path: String) -> io::Result<Self> {
-        let names = again(|| read_names(&rt, alloc, path.as_str()))?;
+    /// It fails where a cache file's name belongs to something else than a regular file of the folder's device that has
+    /// one name. No file is opened.
+    pub fn new(rt: R, alloc: Global, held: Held) -> io::Result<Self> {
+        let names = again(|| read_names(&rt, alloc, &held))?;
         Ok(DiskFiles {
             names,
-            disk: Disk::new(rt, alloc, path),
+            disk: Disk::new(rt, alloc, held),
         })
     }
 }
 
-// The names of the cache files in the folder at a path, each of a regular file.
+// The names of the cache files in the folder, each of a file that can be one.
 fn read_names<R: Files + AllocGlobal + Clone + Drop>(
     rt: &R,
     alloc: Global,
-    path: &str,
+    held: &Held,
 ) -> io::Result<Names> {
     let mut names = Names::new(alloc);
-    for entry in fs::read_dir(rt, path)? {
+    for entry in fs::read_dir(rt, ".")? {
         let entry = match entry {
             Ok(entry) => entry,
             // No cache file has a name that is not UTF-8.
@@ -54,7 +57,7 @@ fn read_names<R: Files + AllocGlobal + Clone + Drop>(
         };
         if let Some(file) = file_of_name(alloc, entry.file_name())? {
             // A link is not followed here.
-            if !entry.file_type()?.is_file() {
+            if !Identity::of(&entry.metadata()?).is_own(held.device()) {
                 return Err(io::Error::from(ErrorKind::InvalidData));
             }
             names.add(file)?;

@@ -6,6 +6,7 @@ ghost use Rattle.blk_image.specs.Told.{Rises};
 
 use crate::faults::counted;
 use crate::files::DiskFiles;
+use crate::held::Held;
 use blk_io::{Failed, FileId, Folder};
 use std::alloc::Global;
 use std::fs::File;
@@ -13,6 +14,9 @@ use std::io;
 use std::rt::Files;
 
 /// A folder of the machine, which counts the failures of the machine.
+///
+/// It is made of a `Held` alone and keeps it to its end. So no name is read and no file is opened before the lock was asked for, and none
+/// after it is gone.
 #[derive(Drop)]
 pub struct RealFolder<R: Files<File = File> + Drop> {
     files: DiskFiles<R>,
@@ -20,10 +24,15 @@ pub struct RealFolder<R: Files<File = File> + Drop> {
 }
 
 impl<R: Files<File = File> + AllocGlobal + Clone + Drop> RealFolder<R> {
-    /// The folder at a path, whose names are read here and never again.
-    pub fn new(rt: R, alloc: Global, path: String) -> io::Result<Self> {
+    /// The folder that the program has, whose names are read here and never again. Its files are opened for writing too, unless it is
+    /// shared.
+    ///
+    /// # Errors
+    /// The machine's, and `InvalidData` where a cache file's name belongs to something else than a regular file of the folder's device that
+    /// has one name. No file has been opened then.
+    pub fn new(rt: R, alloc: Global, held: Held) -> io::Result<Self> {
         Ok(RealFolder {
-            files: DiskFiles::new(rt, alloc, path)?,
+            files: DiskFiles::new(rt, alloc, held)?,
             faults: 0,
         })
     }

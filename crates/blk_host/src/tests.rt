@@ -2,11 +2,15 @@
 ghost use Rattle.std.specs.Prelude.{◌≤◌, IfOk};
 
 use crate::folder::RealFolder;
+use crate::held::{Access, Held, NotHeld};
+use crate::patient::Patient;
 use crate::spelling::file_of_name;
 use crate::streams::{StdSink, StdSource, SystemClock};
 use blk_io::{Clock, Failed, FileId, Folder, Sink, Source};
 use std::alloc::{AllocError, Global};
 use std::io::{ErrorKind, Read, Write};
+use std::os::unix::fs::{PermissionsExt, symlink};
+use std::time::{Duration, Instant};
 use std::{env, fs, io};
 
 // A folder of this machine.
@@ -60,9 +64,18 @@ fn new_folder(rt: HostRuntime, name: &str) -> io::Result<String> {
     Ok(path)
 }
 
+// The folder at a path, in this way, or none where it isn't had at once.
+fn take(rt: HostRuntime, path: &str, access: Access) -> Result<Held, NotHeld> {
+    Held::take(&rt, path, access, Duration::ZERO)
+}
+
 // The folder at a path, whose names are read now.
 fn look(rt: HostRuntime, path: &str) -> io::Result<Machine> {
-    RealFolder::new(rt, rt.alloc(), String::from_str(rt.alloc(), path)?)
+    match take(rt, path, Access::Alone) {
+        Ok(held) => RealFolder::new(rt, rt.alloc(), held),
+        Err(NotHeld::Machine(error)) => Err(error),
+        Err(NotHeld::Elsewhere) => Err(io::Error::from(ErrorKind::WouldBlock)),
+    }
 }
 
 // Gives four files a length and bytes, of which one is written over and one is cut.
@@ -121,6 +134,7 @@ fn a_real_folder_keeps_its_files(rt: HostRuntime) -> io::Result<()> {
     let path = new_folder(rt, "keeps")?;
     let mut folder = look(rt, path.as_str())?;
     assert!(rt; listed(&mut folder) == Ok([None; 5]) && write_four(&mut folder).is_ok());
+    drop(folder);
 
     // Another look at the same folder sees the same files, in their order.
     let mut folder = look(rt, path.as_str())?;
@@ -185,6 +199,119 @@ fn a_file_that_came_later_is_not_taken(rt: HostRuntime) -> io::Result<()> {
     let kept = fs::read_to_string(&rt, later)?;
     assert!(rt; kept.as_str() == "kept");
     fs::remove_dir_all(&rt, text)
+}
+
+// Whether the folder at a path is refused, as another program has it.
+fn is_held(rt: HostRuntime, path: &str, access: Access) -> bool {
+    matches!(take(rt, path, access), Err(NotHeld::Elsewhere))
+}
+
+#[test]
+fn a_folder_is_had_alone_or_beside_readers(rt: HostRuntime) -> Result<(), NotHeld> {
+    let path = new_folder(rt, "held")?;
+    let path = path.as_str();
+    let alone = take(rt, path, Access::Alone)?;
+    assert!(rt;
+        alone.writes() && is_held(rt, path, Access::Alone) && is_held(rt, path, Access::Shared)
+    );
+    drop(alone);
+    let reader = take(rt, path, Access::Shared)?;
+    assert!(rt; !reader.writes() && is_held(rt, path, Access::Alone));
+    let other = take(rt, path, Access::Shared)?;
+    drop(reader);
+    assert!(rt; is_held(rt, path, Access::Alone));
+    drop(other);
+    assert!(rt; !is_held(rt, path, Access::Alone));
+    Ok(fs::remove_dir_all(&rt, path)?)
+}
+
+#[test]
+fn a_held_folder_is_waited_for(rt: HostRuntime) -> Result<(), NotHeld> {
+    let path = new_folder(rt, "waits")?;
+    let path = path.as_str();
+    let held = take(rt, path, Access::Alone)?;
+    let start = Instant::now(&rt)?;
+    let wait = Duration::from_millis(120);
+    let second = Held::take(&rt, path, Access::Alone, wait);
+    assert!(rt; matches!(second, Err(NotHeld::Elsewhere)));
+    assert!(rt; start.elapsed(&rt)? >= wait);
+    drop(held);
+    assert!(rt; Held::take(&rt, path, Access::Alone, wait).is_ok());
+    Ok(fs::remove_dir_all(&rt, path)?)
+}
+
+#[test]
+fn a_shared_folder_is_read_alone(rt: HostRuntime) -> Result<(), NotHeld> {
+    let path = new_folder(rt, "shared")?;
+    let path = path.as_str();
+    let mut folder = look(rt, path)?;
+    assert!(rt; write_four(&mut folder).is_ok());
+    drop(folder);
+    let mut folder = RealFolder::new(rt, rt.alloc(), take(rt, path, Access::Shared)?)?;
+    assert!(rt; read(&mut folder, FileId::Index, 1) == Ok((3, [0, 97, 98, 9, 9, 9, 9, 9])));
+    assert!(rt; folder.write_at(FileId::Index, 0, b"x").is_err());
+    assert!(rt; folder.set_len(FileId::Index, 9).is_err());
+    assert!(rt; folder.set_len(FileId::Block(3), 0).is_err());
+    let bytes = fs::read(&rt, "index")?;
+    assert!(rt; bytes.as_slice() == b"\0\0ab".as_slice() && !fs::exists(&rt, "data_3")?);
+    Ok(fs::remove_dir_all(&rt, path)?)
+}
+
+#[test]
+fn a_made_file_is_its_owners(rt: HostRuntime) -> io::Result<()> {
+    let path = new_folder(rt, "mode")?;
+    let mut folder = look(rt, path.as_str())?;
+    assert!(rt; write_four(&mut folder).is_ok());
+    for name in ["index", "data_255", "f_000001", "f_fffffff"] {
+        let mode = fs::metadata(&rt, name)?.permissions().mode();
+        assert_eq!(rt; mode & 0o7777, 0o600, "of {name}");
+    }
+    fs::remove_dir_all(&rt, path.as_str())
+}
+
+#[test]
+fn a_second_name_is_refused(rt: HostRuntime) -> io::Result<()> {
+    let path = new_folder(rt, "names")?;
+    let path = path.as_str();
+    let folder = look(rt, path)?;
+    fs::write(&rt, "elsewhere", "kept")?;
+    fs::hard_link(&rt, "elsewhere", "data_1")?;
+    drop(folder);
+    assert!(rt; look(rt, path).is_err());
+    fs::remove_file(&rt, "elsewhere")?;
+    assert!(rt; look(rt, path).is_ok());
+    symlink(&rt, "data_1", "data_2")?;
+    assert!(rt; look(rt, path).is_err());
+    fs::remove_dir_all(&rt, path)
+}
+
+// Replaces the file with a name by another one, under a link or a second name.
+fn put_in_place(rt: HostRuntime, name: &str, is_link: bool) -> io::Result<()> {
+    fs::remove_file(&rt, name)?;
+    fs::write(&rt, "elsewhere", "kept")?;
+    if is_link {
+        symlink(&rt, "elsewhere", name)
+    } else {
+        fs::hard_link(&rt, "elsewhere", name)
+    }
+}
+
+#[test]
+fn a_file_put_in_place_is_not_opened(rt: HostRuntime) -> io::Result<()> {
+    for is_link in [true, false] {
+        let path = new_folder(rt, "swapped")?;
+        let mut folder = look(rt, path.as_str())?;
+        assert!(rt; folder.set_len(LOW, 4).and(folder.set_len(HIGH, 4)).is_ok());
+        put_in_place(rt, "f_000001", is_link)?;
+        // The other external file is open, so this one is opened again.
+        assert!(rt; folder.length(LOW) == Err(Failed), "a link: {is_link}");
+        assert!(rt; folder.write_at(LOW, 0, b"lost").is_err());
+        assert!(rt; folder.write_at(HIGH, 0, b"kept").is_ok());
+        let kept = fs::read_to_string(&rt, "elsewhere")?;
+        assert!(rt; kept.as_str() == "kept");
+        fs::remove_dir_all(&rt, path.as_str())?;
+    }
+    Ok(())
 }
 
 // A stream of the machine that gives and takes two bytes in a call, and has an error of a kind in the third call.
@@ -261,6 +388,16 @@ fn a_stream_that_is_interrupted_goes_on(rt: HostRuntime) {
     assert!(rt; takes(&mut source) == [Ok(2); 4]);
     let mut sink = StdSink::new(Halting::new(ErrorKind::Interrupted));
     assert!(rt; puts(&mut sink) == [Ok(()); 3]);
+}
+
+#[test]
+fn a_stream_that_would_block_is_waited_for(rt: HostRuntime) {
+    let mut source = StdSource::new(Patient::new(Halting::new(ErrorKind::WouldBlock), rt));
+    assert!(rt; takes(&mut source) == [Ok(2); 4]);
+    let mut sink = StdSink::new(Patient::new(Halting::new(ErrorKind::WouldBlock), rt));
+    assert!(rt; puts(&mut sink) == [Ok(()); 3]);
+    let mut sink = StdSink::new(Patient::new(Halting::new(ErrorKind::BrokenPipe), rt));
+    assert!(rt; puts(&mut sink) == [Ok(()), Err(Failed), Ok(())]);
 }
 
 #[test]

@@ -1,0 +1,42 @@
+// Which file the machine says that a name or a descriptor has.
+ghost use Rattle.std.specs.Prelude.{◌≡◌, ◌↔◌, IsTrue};
+
+use std::fs::Metadata;
+use std::os::unix::fs::MetadataExt;
+
+/// Which file the machine says that a name or a descriptor has.
+#[derive(Clone, Copy)]
+pub struct Identity {
+    is_regular: bool,
+    // How many names it has.
+    links: u64,
+    device: u64,
+    // Its number on the device.
+    number: u64,
+}
+
+impl Identity {
+    /// The file that the machine told this of.
+    pub fn of(metadata: &Metadata) -> Self {
+        Identity {
+            is_regular: metadata.is_file(),
+            links: metadata.nlink(),
+            device: metadata.dev(),
+            number: metadata.ino(),
+        }
+    }
+
+    /// Whether it can be a cache file: a regular file that has one name, on this device.
+    pub fn is_own(&self, device: u64) -> bool
+        ensures { IsTrue result ↔ (IsTrue self.now.is_regular × (self.now.links ≡ 1) × (self.now.device ≡ device)) }
+    {
+        self.is_regular && self.links == 1 && self.device == device
+    }
+
+    /// Whether it is the other file.
+    pub fn is_same(&self, other: &Identity) -> bool
+        ensures { IsTrue result ↔ ((self.now.device ≡ other.now.device) × (self.now.number ≡ other.now.number)) }
+    {
+        self.device == other.device && self.number == other.number
+    }
+}
