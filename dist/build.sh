@@ -246,7 +246,7 @@ announce() {
         minutes "$last_total" time
         time="the last time here took $time minutes"
     else
-        time="the first time takes about $((estimate / 60 + 1)) minutes, judged by the size of the sources"
+        time="the first time takes about $((estimate / 60 + 1)) min, judged by the size of the sources"
     fi
     say "proving and building ${#order[@]} crates${why:+, since $why}, up to $lanes at once; $time"
 }

@@ -165,7 +165,7 @@ done <<<"$complained"
 is 'the number of crates' "$total" "${#order[@]}"
 is 'one line before them, and none besides' "$((total + 1))" "$(wc -l <"$room/complained")"
 is 'the last crate is the program' blkcache "${order[-1]}"
-first='^blkcache: proving and building ([0-9]+) crates, since .*/blkcache is missing, up to ([0-9]+) at once; the first time takes about [0-9]+ minutes, judged by the size of the sources$'
+first='^blkcache: proving and building ([0-9]+) crates, since .*/blkcache is missing, up to ([0-9]+) at once; the first time takes about [0-9]+ min, judged by the size of the sources$'
 [[ ${complained%%$'\n'*} =~ $first ]]
 is 'the first line tells how many crates, and how long' "0 $total" "$? ${BASH_REMATCH[1]}"
 lanes=${BASH_REMATCH[2]}
