@@ -205,11 +205,21 @@ total=4
 # A run on a built program calls one other program, and builds nothing.
 wrap "$folder" count
 is 'a run on a built program' "4 words: $folder count input: caller" "$status $said$complained"
-is 'what it calls' 'git rev-parse' "$called"
+is 'what it calls' $'git rev-parse\ngit diff-index' "$called"
 sleep 0.05
 touch "$repository/crates/blk_io/src"
 wrap "$folder" count
-is 'the sources are not searched' 'git rev-parse' "$called"
+is 'the times of the sources are not asked' $'git rev-parse\ngit diff-index' "$called"
+echo ' M crates/blk_io/src/mem.rt' >"$room/changes"
+wrap "$folder" count
+is 'unless one was changed' "$((total + 5))" "$(wc -l <"$calls")"
+: >"$room/changes"
+touch -d '1 hour ago' "$repository/crates/blk_io/src"
+wrap "$folder" count
+wrap "$folder" count
+is 'once the change is gone it is noted' $'git rev-parse\ngit diff-index' "$called"
+sleep 0.05
+touch "$repository/crates/blk_io/src"
 
 # With other crates it builds again; where no source is newer than the program it notes the commit alone.
 commit 2
@@ -223,7 +233,7 @@ commit 3
 wrap "$folder" count
 is 'crates that are no newer are not built' $'git rev-parse\ngit status' "$called"
 wrap "$folder" count
-is 'which is noted' 'git rev-parse' "$called"
+is 'which is noted' $'git rev-parse\ngit diff-index' "$called"
 commit 4
 echo ' M crates/blk_io/src/mem.rt' >"$room/changes"
 for it in once twice; do
@@ -403,7 +413,7 @@ is '--prove runs the program on no folder' no "$([ -e "$room/ran" ] && echo yes 
 wrap --prove
 is '--prove builds once more' "0 $((total + 1))" "$status $(wc -l <"$room/complained")"
 wrap "$folder" count
-is 'what was built is run, and not what is at hand' "4 git rev-parse" "$status $called"
+is 'what was built is run, and not what is at hand' $'4 git rev-parse\ngit diff-index' "$status $called"
 wrap --program
 is '--program names what was built' "0 $out/blkcache" "$status $said$complained"
 other_byte
