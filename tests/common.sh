@@ -24,6 +24,29 @@ skip() {
     printf 'skipped %s: %s\n' "$1" "$2"
 }
 
+# Counts the lines of the input that match one of bash's patterns: count_like PATTERN. With count_unlike those that do not.
+count_like() {
+    local line number=0
+    while IFS= read -r line || [ -n "$line" ]; do
+        # shellcheck disable=SC2053
+        [[ $line != $1 ]] || number=$((number + 1))
+    done
+    echo "$number"
+}
+count_unlike() {
+    local line number=0
+    while IFS= read -r line || [ -n "$line" ]; do
+        # shellcheck disable=SC2053
+        [[ $line == $1 ]] || number=$((number + 1))
+    done
+    echo "$number"
+}
+
+# Whether two files have the same bytes.
+are_same() {
+    [ "$(sha256sum <"$1")" = "$(sha256sum <"$2")" ]
+}
+
 # Prints the counts. Nothing that was started may be left to run on.
 finish() {
     echo "$passed passed, $failed failed"

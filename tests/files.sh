@@ -54,14 +54,16 @@ for kind in "${kinds_of_files[@]}"; do
     done
 done
 
-# A link to a cache file of the same folder is one too, and a second name of a regular file is none.
+# A link to a cache file of the same folder is one too, and so is a second name of a file.
 make finished "$room/inside"
 ln -s data_0 "$room/inside/data_4"
 fails 'a link to a file of the folder' "$room/inside"
 rm "$room/inside/data_4"
 ln "$room/inside/data_0" "$room/inside/other"
+fails 'a second name of a file' "$room/inside"
+rm "$room/inside/other"
 count_in "$room/inside"
-is 'a second name of a file' "0 $empty_line" "$status $said"
+is 'a file whose second name is gone' "0 $empty_line" "$status $said"
 
 # Names that are no cache file's are not looked at, whatever they belong to.
 make finished "$room/others"

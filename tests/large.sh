@@ -28,7 +28,7 @@ cat_them() {
     cat "$folder"/* >/dev/null
 }
 seconds make_them
-is 'the session' "0 $((3 * count)) 0" "$status $(wc -l <"$room/replies") $(grep -cv '^ok' "$room/replies")"
+is 'the session' "0 $((3 * count)) 0" "$status $(wc -l <"$room/replies") $(count_unlike 'ok*' <"$room/replies")"
 echo "a session of $((3 * count)) commands: $took ms"
 seconds count_them
 is 'the next count' "0 items $count bytes $((count * (28 + 100)))" "$status $(cat "$room/said")"

@@ -77,7 +77,7 @@ exec 9>"$room/given"
 cat "$room/lines" >&9
 wait_for_replies "$count"
 is 'all lines but the last are answered' "$count total 400 44040400" "$(wc -l <"$room/replies") $(tail -n 1 "$room/replies")"
-is 'each was done' 0 "$(grep -cvE '^(ok|ok [0-9]+|total [0-9]+ [0-9]+)$' "$room/replies")"
+is 'each was done' 0 "$(count_unlike '@(ok|ok +([0-9])|total +([0-9]) +([0-9]))' <"$room/replies")"
 
 # From here on no byte can be written into a file.
 prlimit --pid "$session" --fsize=0
@@ -93,7 +93,7 @@ is 'the others are counted' '0 items 399 bytes 43840524' "$status $said"
 make_looks >"$room/looks"
 make_wanted >"$room/wanted"
 timeout 600 "$program" "$folder" session <"$room/looks" >"$room/read" 2>&1
-is 'the others are listed in their order, and read with all their bytes' '0 same' "$? $(cmp -s "$room/wanted" "$room/read" && echo same)"
+is 'the others are listed in their order, and read with all their bytes' '0 same' "$? $(are_same "$room/wanted" "$room/read" && echo same)"
 run "$folder" verify
 is 'and nothing would be dropped' '0 kept 399' "$status $(head -n 1 <<<"$said")"
 finish

@@ -61,7 +61,7 @@ fi
 writes_of() {
     strace -f -e trace=write,writev -o "$room/calls" "$program" "$folder" "${@:2}" <"$1" >"$room/said" 2>"$room/complained"
     status=$?
-    writes=$(grep -c 'writev\{0,1\}(1, ' "$room/calls")
+    writes=$(count_like '*write?(v)(1, *' <"$room/calls")
 }
 
 # A session of a few commands: a text each.
@@ -89,7 +89,7 @@ for ((number = 0; number < 300; number++)); do
     printf 'create 0 row%s\nclose 0\n' "$number"
 done >"$room/rows"
 play "$room/rows"
-is 'three hundred entries are made' '0 600' "$status $(grep -c '^ok$' "$room/said")"
+is 'three hundred entries are made' '0 600' "$status $(count_like ok <"$room/said")"
 writes_of /dev/null list
 bytes=$(wc -c <"$room/said")
 is 'the rows are listed' 'end 302' "$(tail -n 1 "$room/said")"

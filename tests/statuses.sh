@@ -75,6 +75,17 @@ else
     "${as_nobody[@]}" "$room/bin/blkcache" "$room/shut" count <"$room/input" >"$room/said" 2>&1
     is 'files that cannot be written' '3 ' "$? $(cat "$room/said")"
     is 'and they are as they were' "$before" "$(both "$room/shut")"
+    # Words that only read need no leave to write, in the files or in the folder.
+    for mode in 755 555; do
+        chmod "$mode" "$room/shut"
+        before=$(both "$room/shut")
+        "${as_nobody[@]}" "$room/bin/blkcache" "$room/shut" verify <"$room/input" >"$room/said" 2>&1
+        is "verify of files that cannot be written, in a folder of mode $mode" $'0 kept 0\nitems 0 bytes 0' "$? $(cat "$room/said")"
+        "${as_nobody[@]}" "$room/bin/blkcache" "$room/shut" inspect list <"$room/input" >"$room/said" 2>&1
+        is "inspect of files that cannot be written, in a folder of mode $mode" '0 end 0' "$? $(cat "$room/said")"
+        is "they are left, in a folder of mode $mode" "$before" "$(both "$room/shut")"
+    done
+    chmod 755 "$room/shut"
     rm "$room/shut/"*
     chmod 555 "$room/shut"
     "${as_nobody[@]}" "$room/bin/blkcache" "$room/shut" count <"$room/input" >"$room/said" 2>&1
@@ -82,6 +93,24 @@ else
     is 'and it is empty' '' "$(picture "$room/shut")"
 fi
 chmod 755 "$room/shut"
+
+# A file system that cannot be written.
+mounted() {
+    unshare --mount "$BASH" -c 'mount --bind "$1" "$2" && mount -o remount,ro,bind "$2" && exec "${@:3}"' -- "$room/read_only" "$room/mounted" "$@" 2>/dev/null
+}
+make entries "$room/read_only"
+mkdir "$room/mounted"
+if ! type -P unshare mount >/dev/null || ! mounted true; then
+    skip 'a file system that cannot be written' 'unshare or mount is missing, or not allowed'
+else
+    before=$(both "$room/read_only")
+    for words in 'verify:0 kept 1' 'inspect index:0 magic c103cac3' 'count:3 ' 'put b 0:3 '; do
+        # shellcheck disable=SC2086
+        said=$(mounted "$program" "$room/mounted" ${words%%:*} <"$room/input")
+        is "a file system that cannot be written, ${words%%:*}" "${words#*:}" "$? ${said%%$'\n'*}"
+    done
+    is 'a file system that cannot be written: the folder' "$before" "$(both "$room/read_only")"
+fi
 
 # A file may get no longer than this: a write fails, and no signal ends the program.
 mkdir "$room/full"
@@ -93,6 +122,21 @@ answers 'and the next run makes the folder' "$room/full" "0 $empty_line"
 if [ -w /dev/full ]; then
     timeout 60 "$program" "$room/finished" count >/dev/full 2>"$room/complained"
     is 'an output that is full' '5 ' "$? $(cat "$room/complained")"
+    # What replies behind its work tries the output before it.
+    make entries "$room/tried"
+    mkdir "$room/untried"
+    before=$(both "$room/tried" && both "$room/untried")
+    for words in 'put b 0' 'put a 0' 'doom a' 'trim 0'; do
+        for kind in tried untried; do
+            # shellcheck disable=SC2086
+            timeout 60 "$program" "$room/$kind" $words <"$room/input" >/dev/full 2>"$room/complained"
+            is "$words to an output that is full, $kind" '5 ' "$? $(cat "$room/complained")"
+            # shellcheck disable=SC2086
+            timeout 60 "$program" "$room/$kind" $words <"$room/input" >&- 2>"$room/complained"
+            is "$words to an output that is closed, $kind" '5 ' "$? $(cat "$room/complained")"
+        done
+    done
+    is 'nothing is done then' "$before" "$(both "$room/tried" && both "$room/untried")"
 else
     skip 'an output that is full' 'there is no /dev/full'
 fi

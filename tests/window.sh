@@ -5,8 +5,10 @@
 reads_of() {
     strace -f -c -e trace=pread64 -o "$room/counts" "$program" "$folder" "${@:2}" <"$1" >"$room/said" 2>"$room/complained"
     status=$?
-    reads=$(awk '$NF == "pread64" { print $4 }' "$room/counts")
-    reads=${reads:-0}
+    reads=0
+    while read -r _ _ _ number rest; do
+        [[ " $rest" != *' pread64' ]] || reads=$number
+    done <"$room/counts"
 }
 
 if ! command -v strace >/dev/null || ! strace -o /dev/null true 2>/dev/null; then
@@ -21,7 +23,7 @@ run_lines() {
     "$program" "$folder" session <"$room/lines" >"$room/said" 2>"$room/complained"
 }
 run_lines
-is 'a first session' 'ok ok 3 ok' "$(tr '\n' ' ' <"$room/said" | sed 's/ $//')"
+is 'a first session' 'ok ok 3 ok' "$(echo $(<"$room/said"))"
 
 # The same block is read a thousand times: at each of them the record, its node and its data are held.
 {
@@ -40,12 +42,16 @@ reads_of "$room/one" session
 is 'one read: the status' 0 "$status"
 once=$reads
 reads_of "$room/many" session
-is 'a thousand reads: the status and the replies' '0 1000' "$status $(grep -c '^data 3 616263$' "$room/said")"
+is 'a thousand reads: the status and the replies' '0 1000' "$status $(count_like 'data 3 616263' <"$room/said")"
 is 'a thousand reads make no call more than one' "$once" "$reads"
 
 # Each read of a file of the folder asks for a page, or for the rest of one of which a part was given. The loader of the program reads too.
 strace -f -y -e trace=pread64 -o "$room/calls" "$program" "$folder" count >"$room/said" 2>"$room/complained"
-sed -n '/\/window\//s/.*, \([0-9]*\), \([0-9]*\)) *= [0-9]*$/\1 \2/p' "$room/calls" >"$room/asked"
-is 'the reads of a count end where a page does' 'some, none elsewhere' \
-    "$(awk '{ n++; if ($1 > 4096 || ($1 + $2) % 4096) bad++ } END { print (n ? "some" : "none") ", " (bad ? bad : "none") " elsewhere" }' "$room/asked")"
+asked=none elsewhere=none
+while IFS= read -r line; do
+    [[ $line == */window/* && $line =~ ,\ ([0-9]+),\ ([0-9]+)\)\ *=\ [0-9]+$ ]] || continue
+    asked=some
+    [ "${BASH_REMATCH[1]}" -le 4096 ] && [ $(((BASH_REMATCH[1] + BASH_REMATCH[2]) % 4096)) = 0 ] || elsewhere=$line
+done <"$room/calls"
+is 'the reads of a count end where a page does' 'some, none elsewhere' "$asked, $elsewhere elsewhere"
 finish

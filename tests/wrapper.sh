@@ -9,7 +9,9 @@ folder=$room/folder
 export room calls stubs
 export TMPDIR=$room/temporary
 mkdir -p "$out" "$stubs" "$folder" "$TMPDIR"
+mkdir "$repository/dist"
 cp "$top/blkcache" "$top/crates.txt" "$repository"
+cp "$top/dist/build.sh" "$repository/dist"
 while IFS=: read -r name _; do
     [[ $name == '#'* || -z $name ]] || mkdir -p "$repository/crates/${name%% *}"/{src,specs,proofs}
 done <"$top/crates.txt"
@@ -18,29 +20,49 @@ touch -d '1 hour ago' "$repository/crates.txt" "$repository/crates"/*/{src,specs
 # A git that knows one commit, with the crates that the file commit names, and the changes that the file changes has.
 cat >"$stubs/git" <<'END'
 echo "git $3" >>"$calls"
-case $3 in
+case ${3-} in
     rev-parse) [ -s "$room/commit" ] && echo "$(<"$room/commit")" ;;
+    diff-index) [ ! -s "$room/changes" ] ;;
     status) echo -n "$(<"$room/changes")" ;;
     log) echo 2026-01-02 ;;
 esac
 END
-# An rt that proves nothing: it fails in the crate that the file fails names, and hangs in the one that hangs names.
+# Names a commit whose crates, and their list, have these names.
+commit() {
+    : >"$room/commit"
+    [ -z "$1" ] || printf '%040x\n%040x\n' "$1" "$1" >"$room/commit"
+}
+# An rt that proves nothing: it fails in the crate that the file fails names, and hangs in the one that hangs names. It tells where a crate
+# lacks what is proved of those below, and leaves in order when each began and ended.
 cat >"$stubs/rt" <<'END'
+[ "$1" != version ] || { echo 'some kit'; exit 0; }
 crate=${PWD##*/}
 echo "rt $1 $crate" >>"$calls"
+echo "begin $crate" >>"$room/order"
 echo "rt says much of $crate"
 [ "$crate" != "$(<"$room/fails")" ] || exit 1
 if [ "$crate" = "$(<"$room/hangs")" ]; then
     echo "$$" >"$room/hanging"
     while :; do read -r -t 1 _ <>"$room/never" || :; done
 fi
-[ "$1" = run ] || exit 0
+sleep 0.02
+if [ "$1" = lib ]; then
+    for it in ../*; do
+        [ "${it##*/}" = "$crate" ] || [ -f "$it/out/rlib/made" ] || echo "$crate lacks $it" >>"$room/lacks"
+    done
+    mkdir -p out/rlib
+    echo "$crate" >out/rlib/made
+    echo "end $crate" >>"$room/order"
+    exit 0
+fi
 cp "$room/program" out/blkcache
 [ "$(<"$room/fails")" = 'to link' ] || echo usage
 exit 2
 END
-# A program that says what it was given.
+# A program that says what it was given, and notes that it ran.
 cat >"$room/program" <<'END'
+[ $# != 0 ] || { echo usage; exit 2; }
+echo ran >>"$room/ran"
 printf 'words:'
 printf ' %q' "$@"
 read -r line
@@ -51,11 +73,11 @@ for it in "$stubs/git" "$stubs/rt" "$room/program"; do
     printf '%s\n' "#!$BASH" "$(<"$it")" >"$it"
     chmod +x "$it"
 done
-for it in bash cp mkdir mv rm touch; do
+for it in bash cp du ln mkdir mv nproc readlink rm sha256sum sleep sort touch; do
     ln -s "$(type -P "$it")" "$stubs/$it"
 done
 mkfifo "$room/never"
-echo first >"$room/commit"
+commit 1
 : >"$room/changes"
 : >"$room/fails"
 : >"$room/hangs"
@@ -63,6 +85,8 @@ echo first >"$room/commit"
 # Runs the wrapper on words, with nothing on its path but the stand-ins and what it is said to need. Leaves its status, what it said, and what it called.
 wrap() {
     : >"$calls"
+    : >"$room/order"
+    rm -f "$room/ran"
     PATH=$stubs "$BASH" "$repository/blkcache" "$@" <"$room/line" >"$room/said" 2>"$room/complained"
     status=$?
     said=$(cat "$room/said")
@@ -70,6 +94,13 @@ wrap() {
     called=$(cat "$calls")
 }
 echo caller >"$room/line"
+
+# Why the program at hand was not taken, as the first line of a build tells.
+said_why() {
+    local why=${complained%%$'\n'*}
+    why=${why#*' crates, since '}
+    echo "${why%', up to '*}"
+}
 
 # What the build may leave: the program and the note of its commit, and nothing among the temporary files.
 left() {
@@ -126,7 +157,7 @@ wrap "$folder" count 'two words'
 is 'after the build the program runs' "4 words: $(printf '%q ' "$folder" count)two\\ words input: caller" "$status $said"
 order=()
 while IFS= read -r line; do
-    [[ $line =~ ^blkcache:\ ([a-z_0-9]+)\ proved,\ ([0-9]+)\ of\ ([0-9]+)$ ]] || continue
+    [[ $line =~ ^blkcache:\ ([a-z_0-9]+)\ proved,\ ([0-9]+)\ of\ ([0-9]+),\ [0-9]+\.[0-9]\ minutes$ ]] || continue
     order+=("${BASH_REMATCH[1]}")
     is "the number of ${BASH_REMATCH[1]}" "${#order[@]}" "${BASH_REMATCH[2]}"
     total=${BASH_REMATCH[3]}
@@ -134,42 +165,76 @@ done <<<"$complained"
 is 'the number of crates' "$total" "${#order[@]}"
 is 'one line before them, and none besides' "$((total + 1))" "$(wc -l <"$room/complained")"
 is 'the last crate is the program' blkcache "${order[-1]}"
-for ((i = 0; i < ${#order[@]}; i++)); do
-    while IFS=: read -r name below; do
-        [ "${name%% *}" = "${order[i]}" ] || continue
-        for it in $below; do
-            [ ! -d "$repository/crates/$it" ] || [[ " ${order[*]:0:i} " == *" $it "* ]]
-            is "$it is proved before $name" 0 $?
-        done
-    done <"$top/crates.txt"
-done
-wanted='git rev-parse'
-for it in "${order[@]:0:total-1}"; do wanted+=$'\n'"rt lib $it"; done
-wanted+=$'\nrt run blkcache\ngit rev-parse\ngit status'
-is 'rt is called once a crate' "$wanted" "$called"
-is 'nothing else is left' $'blkcache blkcache.commit\n' "$(left)"$'\n'
+first='^blkcache: proving and building ([0-9]+) crates, since .*/blkcache is missing, up to ([0-9]+) at once; the first time takes about [0-9]+ min, judged by the size of the sources$'
+[[ ${complained%%$'\n'*} =~ $first ]]
+is 'the first line tells how many crates, and how long' "0 $total" "$? ${BASH_REMATCH[1]}"
+lanes=${BASH_REMATCH[2]}
+
+# Each crate begins when those below have ended, and as many run at once as it was said, where so many can.
+declare -A below=() ended=()
+while IFS=: read -r name crates; do
+    [[ $name == '#'* || -z $name ]] || below[${name%% *}]=$crates
+done <"$top/crates.txt"
+now=0 most=0
+while read -r what name; do
+    if [ "$what" = end ]; then
+        ended[$name]=yes now=$((now - 1))
+        continue
+    fi
+    now=$((now + 1))
+    [ "$now" -le "$most" ] || most=$now
+    for it in ${below[$name]}; do
+        [ -z "${below[$it]+there}" ] || [ -n "${ended[$it]-}" ]
+        is "$it has ended before $name begins" 0 $?
+    done
+done <"$room/order"
+[ "$most" -le "$lanes" ] && { [ "$lanes" = 1 ] || [ "$most" -ge 2 ]; }
+is "side by side: at most $lanes, and more than one where so many may be ($most)" 0 $?
+is 'each has what is proved of those below' '' "$(cat "$room/lacks" 2>/dev/null)"
+is 'what is proved of each goes back to its own place' "$((total - 1))" "$(cat "$repository/crates"/*/out/rlib/made | wc -l)"
+wanted=$(for it in "${order[@]:0:total-1}"; do echo "rt lib $it"; done | sort)
+is 'rt is called once a crate' $'git rev-parse\ngit rev-parse\ngit status\n'"$wanted"$'\nrt run blkcache' "$(sort <<<"$called")"
+is 'the program is built last' $'rt run blkcache\ngit rev-parse\ngit status' "$(tail -n 3 <<<"$called")"
+is 'nothing else is left' $'blkcache blkcache.commit build.times\n' "$(left)"$'\n'
+
+# From here on there are four crates.
+printf '%s\n' '# NAME: DEP DEP ..' 'blk_image:' 'blk_io: blk_image hex' 'blk_run: blk_image' 'blkcache: blk_run blk_io' >"$repository/crates.txt"
+touch -d '1 hour ago' "$repository/crates.txt"
+total=4
 
 # A run on a built program calls one other program, and builds nothing.
 wrap "$folder" count
 is 'a run on a built program' "4 words: $folder count input: caller" "$status $said$complained"
-is 'what it calls' 'git rev-parse' "$called"
+is 'what it calls' $'git rev-parse\ngit diff-index' "$called"
 sleep 0.05
 touch "$repository/crates/blk_io/src"
 wrap "$folder" count
-is 'the sources are not searched' 'git rev-parse' "$called"
+is 'the times of the sources are not asked' $'git rev-parse\ngit diff-index' "$called"
+echo ' M crates/blk_io/src/mem.rt' >"$room/changes"
+wrap "$folder" count
+is 'unless one was changed' "$((total + 5))" "$(wc -l <"$calls")"
+: >"$room/changes"
+touch -d '1 hour ago' "$repository/crates/blk_io/src"
+wrap "$folder" count
+wrap "$folder" count
+is 'once the change is gone it is noted' $'git rev-parse\ngit diff-index' "$called"
+sleep 0.05
+touch "$repository/crates/blk_io/src"
 
 # With other crates it builds again; where no source is newer than the program it notes the commit alone.
-echo second >"$room/commit"
+commit 2
 wrap "$folder" count
 is 'other crates are built' "$((total + 3))" "$(wc -l <"$calls")"
 is 'and it is said' "$((total + 1))" "$(wc -l <"$room/complained")"
+[[ ${complained%%$'\n'*} == *'; the last time here took '*' minutes' ]]
+is 'with how long it took the last time' 0 $?
 touch -d '1 hour ago' "$repository/crates/blk_io/src"
-echo third >"$room/commit"
+commit 3
 wrap "$folder" count
 is 'crates that are no newer are not built' $'git rev-parse\ngit status' "$called"
 wrap "$folder" count
-is 'which is noted' 'git rev-parse' "$called"
-echo fourth >"$room/commit"
+is 'which is noted' $'git rev-parse\ngit diff-index' "$called"
+commit 4
 echo ' M crates/blk_io/src/mem.rt' >"$room/changes"
 for it in once twice; do
     wrap "$folder" count
@@ -193,10 +258,10 @@ touch -d '1 hour ago' "$repository/crates/blk_io/src"
 : >"$room/commit"
 wrap "$folder" count
 is 'no commit' "4 words: $folder count input: caller git rev-parse" "$status $said$complained $called"
-echo first >"$room/commit"
+commit 1
 
 # A build that fails says where the log is, and what is above is not tried.
-rm "$out"/*
+rm -r "$out"/*
 for it in blk_io blkcache 'to link'; do
     echo "$it" >"$room/fails"
     wrap "$folder" count
@@ -207,19 +272,26 @@ for it in blk_io blkcache 'to link'; do
     is "the log has what rt said ($it)" 0 $?
     rm -f "$out/build.log" "$out/blkcache"
     is "nothing else is left where it fails ($it)" $'*\n' "$(left)"$'\n'
+    rm -rf "$repository"/crates/*/out/*
 done
 : >"$room/fails"
 
-# An interrupt ends rt and leaves nothing.
-echo blk_io >"$room/hangs"
+# An interrupt ends rt, puts what was proved back in its place, and leaves nothing else.
+echo blk_run >"$room/hangs"
 for it in INT:130 TERM:143 HUP:129; do
-    rm -f "$room/hanging"
+    if [[ $(trap -p "${it%:*}") == *"''"* ]]; then
+        skip "${it%:*}" 'the tests themselves run where it is ignored'
+        continue
+    fi
+    rm -rf "$room/hanging" "$repository"/crates/*/out/*
+    mkdir -p "$repository/crates/blk_run/out"
+    echo kept >"$repository/crates/blk_run/out/work"
     set -m
     PATH=$stubs "$BASH" "$repository/blkcache" "$folder" count <"$room/line" >"$room/said" 2>"$room/complained" &
     wrapper=$!
     set +m
-    for ((i = 0; i < 200; i++)); do
-        [ ! -s "$room/hanging" ] || break
+    for ((i = 0; i < 400; i++)); do
+        [ ! -s "$room/hanging" ] || [ "$(wc -l <"$room/complained")" -lt 3 ] || break
         sleep 0.05
     done
     kill -s "${it%:*}" "$wrapper"
@@ -228,10 +300,169 @@ for it in INT:130 TERM:143 HUP:129; do
     is "${it%:*}: the output" '' "$(cat "$room/said")"
     is "${it%:*}: the last line" 'blkcache: interrupted; what is proved so far is kept' "$(tail -n 1 "$room/complained")"
     is "${it%:*}: nothing is left" $'*\n' "$(left)"$'\n'
+    is "${it%:*}: what was proved is kept, and what was begun" 'blk_image blk_io kept' "$(echo $(cat "$repository"/crates/blk_*/out/{rlib/made,work} 2>/dev/null))"
     kill -0 "$(cat "$room/hanging")" 2>/dev/null
     is "${it%:*}: rt has ended" 1 $?
 done
+
+# What a build that was killed left is put back by the next, and two builds at once go one after another.
+rm -f "$room/hanging"
+set -m
+PATH=$stubs "$BASH" "$repository/blkcache" "$folder" count <"$room/line" >"$room/said" 2>"$room/complained" &
+wrapper=$!
+set +m
+for ((i = 0; i < 400; i++)); do
+    [ ! -s "$room/hanging" ] || break
+    sleep 0.05
+done
+kill -KILL "$wrapper" "$(cat "$room/hanging")"
+wait "$wrapper" 2>/dev/null
 : >"$room/hangs"
+(PATH=$stubs "$BASH" "$repository/blkcache" "$folder" count <"$room/line" >"$room/second" 2>&1) &
+wrap "$folder" count
+wait "$!"
+is 'behind a build that was killed' "4 words: $folder count input: caller" "$status $said"
+is 'its work is put back' kept "$(cat "$repository/crates/blk_run/out/work")"
+is 'the second at once has the program too' "words: $folder count input: caller" "$(tail -n 1 "$room/second")"
+is 'one of the two waits' yes "$(cat "$room/second" "$room/complained" | while read -r line; do [[ $line != *'waiting for the build of process '* ]] || echo yes; done)"
+is 'one of the two builds' 1 "$(cat "$room/second" "$room/complained" | while read -r line; do [[ $line != *'proving and building '* ]] || echo 1; done)"
+is 'nothing but the program is left' $'blkcache blkcache.commit build.times\n' "$(left)"$'\n'
+
+# The program at hand: it is run where SOURCES names the commit's crates, no source was changed, its sum is right and it runs here.
+hand=$repository/dist/$HOSTTYPE-${OSTYPE%%-*}
+mkdir "$hand"
+describe() {
+    local sum
+    sum=$(sha256sum <"$hand/blkcache")
+    printf 'crates %040x\ncrates.txt %040x\nkit some kit\nsha256 %s\n' "$1" "$1" "${sum%% *}" >"$hand/SOURCES"
+}
+# Makes all as it is to be, and nothing built.
+lay() {
+    rm -rf "$repository"/crates/*/out "$hand"/*
+    cp "$room/program" "$hand/blkcache"
+    describe 1
+    commit 1
+    : >"$room/changes"
+}
+lay
+wrap "$folder" count 'two words'
+is 'the program at hand runs, and nothing is said' "4 words: $folder count two\\ words input: caller" "$status $said$complained"
+is 'git is called twice' $'git diff-index\ngit rev-parse' "$(sort <<<"$called")"
+wrap --program
+is '--program names it' "0 $hand/blkcache" "$status $said$complained"
+commit ''
+wrap "$folder" count
+is 'where git knows no commit it runs too' "4 words: $folder count input: caller git rev-parse" "$status $said$complained $called"
+sleep 0.05
+touch "$repository/crates/blk_io/specs"
+wrap "$folder" count
+is 'unless a source is newer than SOURCES' "4 blkcache $((total + 1))" "$status $(tail -n 1 <<<"${said:+blkcache}") $(wc -l <"$room/complained")"
+is 'which is said' 'a source was changed' "$(said_why)"
+lay
+echo ' M crates/blk_io/src/mem.rt' >"$room/changes"
+wrap "$folder" count
+is 'a change that is not committed is built' "4 $((total + 1)) a source was changed" "$status $(wc -l <"$room/complained") $(said_why)"
+
+# Each way in which it may be wrong: it is built, or one line says why that cannot be; and no program whose sum is wrong runs.
+cut_short() { truncate -s -5 "$hand/blkcache"; }
+other_byte() { patch "$hand/blkcache" 3 '\040'; }
+no_bytes() { : >"$hand/blkcache"; }
+no_run_bit() { chmod -x "$hand/blkcache"; }
+other_machine() {
+    cp "$program" "$hand/blkcache"
+    patch "$hand/blkcache" 18 '\363\000'
+    describe 1
+}
+no_program() { rm "$hand/blkcache"; }
+no_sources() { rm "$hand/SOURCES"; }
+two_lines() { printf '%s\n' "$(head -n 2 "$hand/SOURCES")" >"$hand/SOURCES"; }
+five_lines() { echo more >>"$hand/SOURCES"; }
+other_sources() { describe 2; }
+other_list() { printf '%s\n' "$(head -n 1 "$hand/SOURCES")" "crates.txt $(printf %040x 2)" "$(tail -n 2 "$hand/SOURCES")" >"$hand/SOURCES"; }
+while read -r what why; do
+    lay
+    "$what"
+    wrap "$folder" count
+    is "${what//_/ }: it is built" "4 words: $folder count input: caller $((total + 1))" "$status $said $(wc -l <"$room/complained")"
+    is "${what//_/ }: the first line says why" "${why//HAND/$hand}" "$(said_why)"
+    rm -rf "$repository"/crates/*/out "$room/ran"
+    mv "$stubs/rt" "$room/rt"
+    wrap "$folder" count
+    mv "$room/rt" "$stubs/rt"
+    is "${what//_/ }: without rt one line says why" "70 blkcache: ${why//HAND/$hand}, and there is no rt here to build it" "$status $said$complained"
+    is "${what//_/ }: it is not run" no "$([ -e "$room/ran" ] && echo yes || echo no)"
+done <<'END'
+cut_short HAND/blkcache has another SHA-256 than SOURCES
+other_byte HAND/blkcache has another SHA-256 than SOURCES
+no_bytes HAND/blkcache has another SHA-256 than SOURCES
+no_run_bit HAND/blkcache has no run bit
+other_machine HAND/blkcache does not run on this machine
+no_program HAND/blkcache is missing
+no_sources HAND/SOURCES is not as dist/renew writes it
+two_lines HAND/SOURCES is not as dist/renew writes it
+five_lines HAND/SOURCES is not as dist/renew writes it
+other_sources HAND/SOURCES names other sources
+other_list HAND/SOURCES names other sources
+END
+
+# --prove builds whatever there is, and tells in its last line whether the program is the one at hand.
+lay
+wrap --prove
+is '--prove builds, and finds the same program' "0 proved; the program is the same, byte for byte, as $hand/blkcache $((total + 1))" "$status $said $(wc -l <"$room/complained")"
+is '--prove runs the program on no folder' no "$([ -e "$room/ran" ] && echo yes || echo no)"
+wrap --prove
+is '--prove builds once more' "0 $((total + 1))" "$status $(wc -l <"$room/complained")"
+wrap "$folder" count
+is 'what was built is run, and not what is at hand' $'4 git rev-parse\ngit diff-index' "$status $called"
+wrap --program
+is '--program names what was built' "0 $out/blkcache" "$status $said$complained"
+other_byte
+wrap --prove
+is '--prove finds another program' "1 proved; the program is not the same as $hand/blkcache" "$status $said"
+rm "$hand/SOURCES"
+wrap --prove
+is '--prove finds none' "1 proved; there is no $hand/blkcache with its SOURCES to compare with" "$status $said"
+lay
+rm "$hand/blkcache"
+wrap --program
+is '--program builds nothing' "70 blkcache: $hand/blkcache is missing git rev-parse" "$status $said$complained $called"
+
+# dist/renew makes the program that was built the one at hand, and dist/check tells whether it is.
+cp "$top/dist/common.sh" "$top/dist/renew" "$top/dist/check" "$repository/dist"
+for it in cat chmod dirname; do ln -s "$(type -P "$it")" "$stubs/$it"; done
+in_dist() {
+    PATH=$stubs "$BASH" "$repository/dist/$1" >"$room/said" 2>"$room/complained"
+    status=$?
+    said=$(cat "$room/said" "$room/complained")
+}
+lay
+stale="dist/${hand##*/} is not the program of these sources: dist/renew makes it so, and is to be committed"
+in_dist check
+is 'dist/check where nothing is built' "1 there is no $out/blkcache: rt ci builds it" "$status $said"
+mkdir -p "$out"
+cp "$room/program" "$out/blkcache"
+in_dist renew
+is 'dist/renew' "0 dist/${hand##*/} is that of the sources: commit it" "$status $said"
+in_dist check
+is 'dist/check behind it' '0 ' "$status $said"
+for what in cut_short other_byte no_run_bit no_sources two_lines five_lines other_sources other_list; do
+    in_dist renew
+    "$what"
+    in_dist check
+    is "dist/check: ${what//_/ }" "1 $stale" "$status $said"
+done
+in_dist renew
+commit 2
+in_dist check
+is 'dist/check behind another commit' "1 $stale" "$status $said"
+echo ' M crates/blk_io/src/mem.rt' >"$room/changes"
+for it in check renew; do
+    in_dist "$it"
+    is "dist/$it with a change that is not committed" '1 crates has changes that are not committed: commit them, and have rt ci build the program' "$status $said"
+done
+lay
+rm -r "$hand"
+mkdir -p "$out"
 
 # Through the wrapper too, closed streams lose nothing, and a folder's name may be relative to the caller's.
 cp "$program" "$out/blkcache"
@@ -252,7 +483,6 @@ done
 
 # It may be called by a link, from anywhere.
 ln -s "$repository/blkcache" "$room/link"
-ln -s "$(type -P readlink)" "$stubs/readlink"
 make finished "$room/last"
 wrapped=$(cd / && PATH=$stubs "$BASH" "$room/link" "$room/last" count 2>&1)
 is 'by a link' "0 $empty_line" "$? $wrapped"

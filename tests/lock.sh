@@ -1,0 +1,145 @@
+# One process at a time has a folder, by a lock on it that every program can see; words that only read have it beside each other.
+. "$(dirname "${BASH_SOURCE[0]}")/common.sh"
+
+# Five entries, which have to be there behind all that follows.
+folder=$room/folder
+mkdir "$folder"
+for number in 1 2 3 4 5; do
+    printf 'create 0 old%s\nwrite 0 0 0 6f6c64\nclose 0\n' "$number"
+done >"$room/input"
+run "$folder" session
+is 'five entries are made' '0 15' "$status $(count_like 'ok*' <<<"$said")"
+: >"$room/input"
+old=$'main old5 3 0 0\nmain old4 3 0 0\nmain old3 3 0 0\nmain old2 3 0 0\nmain old1 3 0 0'
+
+# The folder is another process's: 3 at once, nothing is printed and nothing is changed.
+is_held() {
+    local before
+    before=$(both "$folder")
+    run "$folder" "${@:2}"
+    is "$1, ${*:2}" '3 ' "$status $said$complained"
+    is "$1, ${*:2}: the folder" "$before" "$(both "$folder")"
+}
+words_that_open=(count list 'get old1 0' 'put other 0' 'doom old1' 'trim 0' 'gen 1 5' session)
+words_that_read=(verify 'inspect index')
+
+# Beside an open session.
+coproc talk { "$program" "$folder" session 2>"$room/talked"; }
+talk_in=${talk[1]} talk_out=${talk[0]} talk_id=$talk_PID
+asked() {
+    echo "$1" >&"$talk_in"
+    read -r -t 20 reply <&"$talk_out"
+}
+asked 'create 0 page'
+is 'a session is open' ok "$reply"
+asked 'write 0 0 0 6e6577'
+is 'and has written' 'ok 3' "$reply"
+for words in "${words_that_open[@]}" "${words_that_read[@]}" 'no-word-of-it'; do
+    # shellcheck disable=SC2086
+    is_held 'beside a session' $words
+done
+asked 'close 0'
+is 'the session goes on' ok "$reply"
+eval "exec $talk_in>&-"
+wait "$talk_id"
+is 'and ends' 0 $?
+run "$folder" list
+is 'its entry and the old ones are there' "0 main page 3 0 0"$'\n'"$old"$'\nend 6' "$status $said"
+run "$folder" get page 0
+is 'with its bytes' $'0 ok\ndata 3 6e6577\nok' "$status $said"
+run "$folder" doom page
+is 'it is removed' '0 ok' "$status $said"
+
+# A session that is killed leaves no lock.
+coproc talk { exec "$program" "$folder" session 2>"$room/talked"; }
+talk_in=${talk[1]} talk_out=${talk[0]} talk_id=$talk_PID
+asked 'create 0 page'
+is 'a session is open once more' ok "$reply"
+kill -9 "$talk_id"
+wait "$talk_id" 2>/dev/null
+run "$folder" list
+is 'behind a session that was killed' "0 $old"$'\nend 5' "$status $said"
+
+# Many processes at once: each put is done or answers 3, and what was done is there.
+puts() {
+    local lane=$1 number
+    for number in 1 2 3 4 5 6; do
+        echo "$lane$number" | timeout 60 "$program" "$folder" put "new$lane$number" 0 >/dev/null 2>&1
+        echo "$? new$lane$number"
+    done >"$room/lane$lane"
+}
+four_at_once() {
+    local lane
+    for lane in 1 2 3 4; do
+        puts "$lane" &
+    done
+    wait
+    cat "$room"/lane? >"$room/lanes"
+    is "$1: each is done or refused" 24 "$(count_like '[03] *' <"$room/lanes")"
+    run "$folder" list
+    while read -r answer key; do
+        [ "$answer" = 0 ] || continue
+        [[ $said == *"main $key 3 0 0"* ]]
+        is "$1: $key, which was done, is there" 0 $?
+    done <"$room/lanes"
+    [[ $said == *"$old"* ]]
+    is "$1: the old ones are there" "0 0" "$status $?"
+}
+four_at_once 'four at once'
+export BLKCACHE_WAIT=50
+four_at_once 'four at once that wait'
+is 'four at once that wait: none is refused' 24 "$(count_like '0 *' <"$room/lanes")"
+unset BLKCACHE_WAIT
+
+# Words that only read, several at once.
+for number in 1 2 3 4 5 6 7 8; do
+    (timeout 60 "$program" "$folder" verify >/dev/null 2>&1; echo $? >"$room/verified$number") &
+done
+wait
+is 'verify, eight at once' '0 0 0 0 0 0 0 0' "$(echo $(cat "$room"/verified?))"
+
+# How long to wait is a number of seconds.
+for seconds in x -1 1.5 ' 1' 1s 99999999999999999999999; do
+    BLKCACHE_WAIT=$seconds run "$folder" count
+    is "BLKCACHE_WAIT is [$seconds]" '2 usage' "$status $said"
+done
+for seconds in '' 0 3; do
+    BLKCACHE_WAIT=$seconds run "$folder" count
+    is "BLKCACHE_WAIT is [$seconds]" '0 items' "$status ${said%% *}"
+done
+
+if ! type -P flock >/dev/null; then
+    skip 'a lock of another program' 'flock is missing'
+    finish
+fi
+exec 8<"$folder"
+flock --exclusive 8
+for words in "${words_that_open[@]}" "${words_that_read[@]}"; do
+    # shellcheck disable=SC2086
+    is_held 'beside a lock of another program' $words
+done
+flock --unlock 8
+flock --shared 8
+for words in "${words_that_open[@]}"; do
+    # shellcheck disable=SC2086
+    is_held 'beside a shared lock of another program' $words
+done
+for words in "${words_that_read[@]}"; do
+    # shellcheck disable=SC2086
+    run "$folder" $words
+    is "beside a shared lock of another program, $words" 0 "$status"
+done
+flock --unlock 8
+
+# It is waited for, at least as long as that is said, and not longer than the other one has it.
+flock --exclusive 8
+from=${EPOCHREALTIME/./}
+BLKCACHE_WAIT=1 run "$folder" count
+took=$((${EPOCHREALTIME/./} - from))
+is 'a lock that is not given back: a second, and 3' '3 yes' "$status$said $([ "$took" -ge 1000000 ] && echo yes || echo "$took")"
+(sleep 1 && flock --unlock 8) &
+BLKCACHE_WAIT=50 run "$folder" count
+is 'a lock that is given back' '0 items' "$status ${said%% *}"
+wait
+exec 8<&-
+finish

@@ -1,0 +1,150 @@
+# Nothing outside the folder is read or written: links and second names of cache files are refused, before a run and in the midst of one.
+. "$(dirname "${BASH_SOURCE[0]}")/common.sh"
+
+# A folder with two entries, each with a stream in a file of its own.
+digits=$(printf '7a%.0s' {1..20000})
+mkdir "$room/two"
+printf '%s\n' 'create 0 a' "write 0 0 0 $digits" 'create 1 b' "write 1 0 0 $digits" 'close 0' 'close 1' >"$room/input"
+run "$room/two" session
+is 'two entries with files of their own' '0 f_000001 f_000002' "$status $(cd "$room/two" && echo f_*)"
+: >"$room/input"
+
+# What may be put in place of a file: something that leads to a file outside, which has the same bytes.
+elsewhere=$room/elsewhere
+mkdir "$elsewhere"
+place() {
+    rm -f "$elsewhere/file" "$2.new"
+    cp "$2" "$elsewhere/file"
+    case $1 in
+        'a hard link') ln "$elsewhere/file" "$2.new" ;;
+        'a link') ln -s "$elsewhere/file" "$2.new" ;;
+        'a link to nothing') ln -s "$elsewhere/nothing" "$2.new" ;;
+        'a FIFO') mkfifo "$2.new" ;;
+    esac
+    mv -fT "$2.new" "$2"
+}
+
+# Before a run: each name, on each word.
+for name in index data_0 data_1 data_2 data_3 f_000001; do
+    for what in 'a hard link' 'a link' 'a link to nothing'; do
+        rm -rf "$room/try"
+        cp -a "$room/two" "$room/try"
+        place "$what" "$room/try/$name"
+        before=$(both "$room/try" && both "$elsewhere")
+        for words in count 'get a 0' 'put a 0' verify; do
+            # shellcheck disable=SC2086
+            run "$room/try" $words
+            is "$what as $name, $words" '3 ' "$status $said$complained"
+        done
+        is "$what as $name: nothing is changed" "$before" "$(both "$room/try" && both "$elsewhere")"
+    done
+done
+make finished "$room/unmade"
+rm "$room/unmade/index"
+place 'a hard link' "$room/unmade/data_1"
+before=$(both "$elsewhere")
+run "$room/unmade" count
+is 'a hard link in a folder without an index' '3 ' "$status $said$complained"
+is 'its file is not written' "$before" "$(both "$elsewhere")"
+
+# While a session is open: the file of one entry was closed when that of the other was opened, and is opened again.
+talk() {
+    coproc talker { exec "$program" "$room/try" session 2>"$room/talked"; }
+    talk_in=${talker[1]} talk_out=${talker[0]} talk_id=$talker_PID
+}
+asked() {
+    reply=
+    { echo "$1" >&"$talk_in"; } 2>/dev/null
+    read -r -t 20 reply <&"$talk_out"
+}
+ends() {
+    eval "exec $talk_in>&-"
+    wait "$talk_id"
+    status=$?
+}
+for what in 'a hard link' 'a link' 'a link to nothing' 'a FIFO'; do
+    for line in 'write 0 0 0 6162' 'read 0 0 0 9'; do
+        rm -rf "$room/try"
+        cp -a "$room/two" "$room/try"
+        talk
+        asked 'open 0 a'
+        asked 'open 1 b'
+        asked 'read 0 0 0 1'
+        asked 'read 1 0 0 1'
+        is 'a session has both' 'data 1 7a' "$reply"
+        place "$what" "$room/try/f_000001"
+        before=$(both "$elsewhere")
+        asked "$line"
+        ends
+        is "$what in the midst of a session, $line" '3 ' "$status $reply"
+        is "$what in the midst of a session, $line: what is outside" "$before" "$(both "$elsewhere")"
+    done
+done
+
+# A folder that is moved away under a session stays its folder, whatever is put in its place.
+rm -rf "$room/try" "$room/moved"
+cp -a "$room/two" "$room/try"
+talk
+asked 'open 0 a'
+asked 'open 1 b'
+mv "$room/try" "$room/moved"
+mkdir "$room/instead"
+ln -s instead "$room/try"
+asked 'create 2 c'
+asked "write 2 0 0 $digits"
+is 'a session whose folder was moved goes on' 'ok 20000' "$reply"
+ends
+is 'and ends' 0 "$status"
+is 'nothing is put into what is in its place' '' "$(picture "$room/instead")"
+run "$room/moved" list
+is 'its entries are in the folder that was moved' $'0 main c 20000 0 0\nmain b 20000 0 0\nmain a 20000 0 0\nend 3' "$status $said"
+rm -rf "$room/try" "$room/instead"
+
+# A program that swaps the file with a link, a hard link and itself, all the while: sessions that open it again and again, ten thousand
+# times together or for half a minute, write nothing outside and answer 0 or 3.
+swaps() {
+    while [ -e "$room/going" ]; do
+        for how in -s ''; do
+            cp -f "$room/two/f_000001" "$room/own.new"
+            # shellcheck disable=SC2086
+            ln $how "$elsewhere/file" "$room/other.new"
+            mv -fT "$room/other.new" "$room/try/f_000001"
+            mv -fT "$room/own.new" "$room/try/f_000001"
+        done
+    done 2>/dev/null
+}
+rm -f "$elsewhere/file"
+cp "$room/two/f_000001" "$elsewhere/file"
+before=$(both "$elsewhere")
+{
+    printf '%s\n' 'open 0 a' 'open 1 b'
+    for ((number = 0; number < 250; number++)); do
+        printf '%s\n' 'write 0 0 0 6162' 'read 1 0 0 1'
+    done
+} >"$room/lines"
+: >"$room/going"
+cp -a "$room/two" "$room/try"
+swaps &
+swapper=$!
+openings=0 refused=0 others= ends=$((SECONDS + 30))
+while [ "$openings" -lt 10000 ] && [ "$SECONDS" -lt "$ends" ]; do
+    rm -rf "$room/next"
+    cp -a "$room/two" "$room/next"
+    rm -rf "$room/try.old"
+    mv "$room/try" "$room/try.old"
+    mv "$room/next" "$room/try"
+    timeout 60 "$program" "$room/try" session <"$room/lines" >"$room/said" 2>&1
+    status=$?
+    openings=$((openings + $(wc -l <"$room/said")))
+    case $status in
+        0) ;;
+        3) refused=$((refused + 1)) ;;
+        *) others+=" $status" ;;
+    esac
+done
+rm "$room/going"
+wait "$swapper"
+echo "$openings openings beside a program that swaps, $refused sessions refused"
+is 'beside a program that swaps: no other status' '' "$others"
+is 'beside a program that swaps: the times outside' "$before" "$(both "$elsewhere")"
+finish

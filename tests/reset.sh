@@ -1,0 +1,136 @@
+# ./blkcache FOLDER reset removes the cache files of a folder and nothing else, and not where another process has the folder.
+. "$(dirname "${BASH_SOURCE[0]}")/common.sh"
+
+# Runs the script at the top, which needs no program for this word.
+reset() {
+    "$BASH" "$top/blkcache" "$@" <"$room/input" >"$room/said" 2>"$room/complained"
+    status=$?
+    said=$(cat "$room/said")
+    complained=$(cat "$room/complained")
+}
+folder=$room/folder
+# Makes a folder with cache files and others whose names are close to theirs.
+ours='data_0 data_255 data_9 f_000001 f_00000a f_1000000 f_fffffff index'
+others='.index F_000001 data_ data_00 data_256 data_9x f_ f_00000 f_000000 f_00000A f_00000g f_0000001 f_10000000 index.old xindex'
+fill() {
+    rm -rf "$folder"
+    mkdir "$folder"
+    (cd "$folder" && touch $ours $others && mkdir below && touch below/index && ln -s ../out data_x)
+}
+names() (
+    shopt -s dotglob
+    cd "$folder" && echo *
+)
+
+if ! type -P flock >/dev/null; then
+    fill
+    before=$(names)
+    reset "$folder" reset --yes
+    is 'without flock one line says so' '3 blkcache: reset needs flock, of util-linux, to see that no other process has the folder' "$status $said$complained"
+    is 'and nothing is removed' "$before" "$(names)"
+    skip 'what reset removes' 'flock is missing'
+    finish
+fi
+
+fill
+left=$(cd "$folder" && rm $ours && names)
+for words in 'reset --yes' '--yes reset' '--wait reset'; do
+    fill
+    if [ "$words" = '--wait reset' ]; then
+        reset --wait 3 "$folder" reset --yes
+    else
+        # shellcheck disable=SC2086
+        reset "$folder" $words
+    fi
+    is "$words" '0 removed 8' "$status $said$complained"
+    is "$words: what is left" "$left" "$(names)"
+done
+reset "$folder" reset --yes
+is 'once more' '0 removed 0' "$status $said$complained"
+
+# It is refused, and nothing is removed.
+refused() {
+    local before
+    before=$(names)
+    reset "${@:4}"
+    is "$1" "$2 $3" "$status $said$complained"
+    is "$1: nothing is removed" "$before" "$(names)"
+}
+fill
+refused 'without a terminal' 2 'blkcache: reset asks on a terminal; elsewhere it is told by reset --yes' "$folder" reset
+for words in 'reset --no' 'reset --yes --yes' 'reset index'; do
+    # shellcheck disable=SC2086
+    refused "the words $words" 2 usage "$folder" $words
+done
+for words in '--wait x' '--wait -1' '--wait 01' '--wait 1.5'; do
+    # shellcheck disable=SC2086
+    refused "$words" 2 usage $words "$folder" reset --yes
+done
+refused '--wait without words' 2 usage --wait 3 "$folder"
+refused 'a folder that is not there' 3 "blkcache: no such folder: $room/nowhere" "$room/nowhere" reset --yes
+for what in 'ln -s below/index' mkdir mkfifo; do
+    for name in index data_3 f_000002; do
+        fill
+        rm -f "$folder/$name"
+        (cd "$folder" && $what "$name")
+        refused "$name made by $what" 3 "blkcache: $name is no regular file: nothing is removed" "$folder" reset --yes
+    done
+done
+fill
+exec 8<"$folder"
+flock --exclusive 8
+refused 'a lock of another program' 3 'blkcache: another process has the folder' "$folder" reset --yes
+from=${EPOCHREALTIME/./}
+refused 'a lock that is waited for' 3 'blkcache: another process has the folder' --wait 1 "$folder" reset --yes
+took=$((${EPOCHREALTIME/./} - from))
+is 'a lock that is waited for: a second' yes "$([ "$took" -ge 1000000 ] && echo yes || echo "$took")"
+flock --unlock 8
+flock --shared 8
+refused 'a shared lock of another program' 3 'blkcache: another process has the folder' "$folder" reset --yes
+(sleep 0.5 && flock --unlock 8) &
+reset --wait 50 "$folder" reset --yes
+is 'a lock that is given back' '0 removed 8' "$status $said$complained"
+wait
+exec 8<&-
+
+# An open session keeps its folder.
+rm -rf "$folder"
+mkdir "$folder"
+coproc talk { exec "$program" "$folder" session 2>"$room/talked"; }
+talk_in=${talk[1]} talk_out=${talk[0]} talk_id=$talk_PID
+echo 'create 0 page' >&"$talk_in"
+read -r -t 20 reply <&"$talk_out"
+refused 'an open session' 3 'blkcache: another process has the folder' "$folder" reset --yes
+eval "exec $talk_in>&-"
+wait "$talk_id"
+is 'which ends' 0 $?
+
+# It is the way out of a damage, and a folder with more files than one call of rm gets is emptied.
+make damaged "$room/damaged"
+count_in "$room/damaged"
+is 'a damaged folder' "7 $(line_of damaged)" "$status $said"
+for number in {1..2500}; do
+    printf -v name 'f_%06x' "$number"
+    : >"$room/damaged/$name"
+done
+reset "$room/damaged" reset --yes
+is 'it is emptied' '0 removed 2505' "$status $said$complained"
+count_in "$room/damaged"
+is 'and a new cache is made' "0 $empty_line" "$status $said"
+
+# On a terminal it asks.
+if ! type -P script >/dev/null || ! script --version >/dev/null 2>&1; then
+    skip 'the question on a terminal' 'script, of util-linux, is missing'
+    finish
+fi
+for answer in y yes Y n '' x; do
+    fill
+    printf '%s\n' "$answer" >"$room/answer"
+    timeout 20 script --quiet --return --command "'$BASH' '$top/blkcache' '$folder' reset" /dev/null <"$room/answer" >"$room/said" 2>&1
+    status=$?
+    case $answer in
+        [yY]*) is "the answer [$answer]" "0 $left" "$status $(names)" ;;
+        *) is "the answer [$answer]" "1 yes" "$status $([ -e "$folder/index" ] && echo yes)" ;;
+    esac
+done
+finish
