@@ -1,0 +1,3 @@
+pub mod ZeroWords
+pub mod MapWrites
+pub mod Leaving

@@ -1,0 +1,49 @@
+-- The zeros that are written before bytes go out of use.
+use Rattle.std.specs.Prelude.{ℕ, zero, suc, ◌+◌, ◌-◌, ◌*◌, Bool, not, ◌&&◌, if◌then◌else◌, List, [], ◌∷◌, ◌++◌, min}
+use Rattle.blk_image.specs.Bytes.{content, spliced, zeros}
+use Rattle.blk_image.specs.Image.{File, Index, Block, External, Image, byte, bytes_of, length_of}
+use Rattle.blk_image.specs.Steps.{TrailStep, SetLength, Delete, words}
+use Rattle.blk_format.specs.Address.{header_size}
+use Rattle.blk_format.specs.BlockFiles.{most_blocks}
+use Rattle.blk_format.specs.Headers.{entry_size_of}
+use Rattle.blk_format.specs.Maps.{is_block_marked_at}
+
+-- the file has a map
+abbrev pub IsBlockFile : File → Type 0
+IsBlockFile (Block n) = Unit {0}
+IsBlockFile _ = ⊥
+
+-- the place of block b in a file whose blocks have so many bytes
+abbrev pub place_of_block : ℕ → ℕ → ℕ
+place_of_block size b = header_size + b * size
+
+-- zeros over block b, as far as it lies inside the file's length
+abbrev pub zeros_over_block : File → ℕ → ℕ → ℕ → List TrailStep
+zeros_over_block file size long b = words file (place_of_block size b) (zeros (min size (long - place_of_block size b)))
+
+-- zeros over each of the first n blocks that passes a test, in rising order
+unfoldable pub zeros_over_blocks : (ℕ → Bool) → File → ℕ → ℕ → ℕ → List TrailStep
+zeros_over_blocks test file size long zero = []
+zeros_over_blocks test file size long (suc b) = zeros_over_blocks test file size long b ++ (if test b then zeros_over_block file size long b else [])
+
+-- whether a write of bytes over a block file takes the mark of block b away
+abbrev pub frees : List ℕ → ℕ → List ℕ → ℕ → Bool
+frees old place new b = is_block_marked_at (content old) b && not (is_block_marked_at (content (spliced place new old)) b)
+
+-- the blocks that a write to a map frees, overwritten by zeros; other files have no map
+abbrev pub zeros_before_write : Image → File → ℕ → List ℕ → List TrailStep
+zeros_before_write image Index place new = []
+zeros_before_write image (Block n) place new = zeros_over_blocks (frees (bytes_of image (Block n)) place new) (Block n) (entry_size_of (byte image (Block n))) (length_of image (Block n)) most_blocks
+zeros_before_write image (External n) place new = []
+
+-- a write, behind the zeros over what it frees
+abbrev pub write_steps : Image → File → ℕ → List ℕ → List TrailStep
+write_steps image file place new = zeros_before_write image file place new ++ words file place new
+
+-- a change of the length, behind the zeros over what it cuts off
+abbrev pub length_steps : Image → File → ℕ → List TrailStep
+length_steps image file n = words file n (zeros (length_of image file - n)) ++ (SetLength file n ∷ [])
+
+-- a deletion, behind the zeros over all bytes of the file
+abbrev pub delete_steps : Image → File → List TrailStep
+delete_steps image file = words file 0 (zeros (length_of image file)) ++ (Delete file ∷ [])

@@ -1,0 +1,3 @@
+pub mod Erasing
+pub mod Eraser
+pub mod Laws

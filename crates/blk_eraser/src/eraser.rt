@@ -1,0 +1,132 @@
+// A folder that erases.
+ghost use Rattle.std.specs.Prelude.{◌≡◌, ◌≤◌, [], ◌∷◌, length, OnOk, OnErr, IfOk};
+ghost use Rattle.std.specs.Option.{ForSome, option_map};
+ghost use Rattle.blk_image.specs.Order.{IsAfter, IsNextFile};
+ghost use Rattle.blk_image.specs.Told.{Applies, GivesBytes, MakesPartOf, Rises, Stays};
+ghost use Rattle.blk_image.specs.Steps.{Note};
+ghost use Rattle.blk_io.specs.FileNames.{file_of};
+ghost use Rattle.blk_eraser.specs.Erasing.{delete_steps, length_steps, write_steps};
+
+use crate::freeing::write_over;
+use crate::zeros::{cut, remove};
+use blk_io::{Failed, FileId, Folder};
+
+/// A folder over another, which overwrites by zeros what goes out of use: the blocks that a write to a map frees, what a new length cuts off, and the bytes of a file that is deleted.
+///
+/// The zeros come before the call's own steps, and where they fail these aren't made. It tells nothing, since the zeros are steps that no caller knows of. So a write asks the folder inside for the length of the file first, and fails where the file hasn't the range; one that touches a map fails too where the file is shorter than a header, or the header names no size of a block.
+#[derive(Drop)]
+pub struct Eraser<F> {
+    inner: F,
+    faults: u64,
+}
+
+impl<F: Folder> Eraser<F> {
+    ghost use Rattle.blk_eraser.specs.Eraser.{folder_of};
+
+    /// Passes on to this folder.
+    pub fn new(inner: F) -> Eraser<F>
+        ensures { folder_of result ≡ inner }
+    {
+        Eraser { inner, faults: 0 }
+    }
+
+    /// The folder inside.
+    pub fn into_inner(self) -> F
+        ensures { result ≡ folder_of self }
+    {
+        self.inner
+    }
+}
+
+// What the folder answered, with its failure counted.
+fn counted<T>(answer: Result<T, Failed>, faults: &mut u64) -> Result<T, Failed>
+    ensures answer { result ≡ answer }
+    ensures later { faults.old ≤ faults.new }
+    ensures failed { OnErr result (Rises faults.old faults.new) }
+{
+    if answer.is_err() {
+        *faults = faults.saturating_add(1);
+    }
+    answer
+}
+
+impl<F: Folder> Folder for Eraser<F> {
+    ghost use Rattle.blk_io.specs.SilentFolder.{untold, untold_agrees, untold_bytes};
+    ghost use Rattle.blk_eraser.specs.Eraser.{faults_of, folder_of};
+
+    ghost told = { λ _. untold };
+
+    ghost faults = { faults_of };
+
+    ghost agrees = { λ folder. untold_agrees };
+
+    ghost are_bytes = { λ folder. untold_bytes };
+
+    fn length(&mut self, file: FileId) -> Result<Option<u64>, Failed>
+        ensures later { faults_of self.old ≤ faults_of self.new }
+        ensures failed { OnErr result (Rises (faults_of self.old) (faults_of self.new)) }
+        ensures inside { IfOk result (λ n. ForSome (F.told (folder_of self.old)).files (λ image. n ≡ option_map length (image (file_of file)))) }
+        ensures inside_stays { Stays (F.told (folder_of self.old)) (F.told (folder_of self.new)) }
+    {
+        counted(self.inner.length(file), &mut self.faults)
+    }
+
+    fn read_at(&mut self, file: FileId, at: u64, out: &mut [u8]) -> Result<usize, Failed>
+        ensures within { IfOk result (λ n. n ≤ length out.old) }
+        ensures later { faults_of self.old ≤ faults_of self.new }
+        ensures failed { OnErr result (Rises (faults_of self.old) (faults_of self.new)) }
+        ensures inside { IfOk result (λ n. ForSome (F.told (folder_of self.old)).files (λ image. GivesBytes image (file_of file) at out.old out.new n)) }
+        ensures inside_stays { Stays (F.told (folder_of self.old)) (F.told (folder_of self.new)) }
+    {
+        counted(self.inner.read_at(file, at, out), &mut self.faults)
+    }
+
+    fn write_at(&mut self, file: FileId, at: u64, bytes: &[u8]) -> Result<(), Failed>
+        ensures later { faults_of self.old ≤ faults_of self.new }
+        ensures failed { OnErr result (Rises (faults_of self.old) (faults_of self.new)) }
+        ensures inside { OnOk result (ForSome (F.told (folder_of self.old)).files (λ image. Applies (F.told (folder_of self.old)) (F.told (folder_of self.new)) (write_steps image (file_of file) at bytes.now))) }
+        ensures inside_part { MakesPartOf (F.told (folder_of self.old)) (F.told (folder_of self.new)) (λ image. write_steps image (file_of file) at bytes.now) }
+    {
+        counted(
+            write_over(&mut self.inner, file, at, bytes),
+            &mut self.faults,
+        )
+    }
+
+    fn set_len(&mut self, file: FileId, length: u64) -> Result<(), Failed>
+        ensures later { faults_of self.old ≤ faults_of self.new }
+        ensures failed { OnErr result (Rises (faults_of self.old) (faults_of self.new)) }
+        ensures inside { OnOk result (ForSome (F.told (folder_of self.old)).files (λ image. Applies (F.told (folder_of self.old)) (F.told (folder_of self.new)) (length_steps image (file_of file) length))) }
+        ensures inside_part { MakesPartOf (F.told (folder_of self.old)) (F.told (folder_of self.new)) (λ image. length_steps image (file_of file) length) }
+    {
+        counted(cut(&mut self.inner, file, length), &mut self.faults)
+    }
+
+    fn delete(&mut self, file: FileId) -> Result<(), Failed>
+        ensures later { faults_of self.old ≤ faults_of self.new }
+        ensures failed { OnErr result (Rises (faults_of self.old) (faults_of self.new)) }
+        ensures inside { OnOk result (ForSome (F.told (folder_of self.old)).files (λ image. Applies (F.told (folder_of self.old)) (F.told (folder_of self.new)) (delete_steps image (file_of file)))) }
+        ensures inside_part { MakesPartOf (F.told (folder_of self.old)) (F.told (folder_of self.new)) (λ image. delete_steps image (file_of file)) }
+    {
+        counted(remove(&mut self.inner, file), &mut self.faults)
+    }
+
+    fn list(&mut self, after: Option<FileId>) -> Result<Option<FileId>, Failed>
+        ensures after { IfOk result (λ next. ForSome next (λ file. IsAfter (option_map file_of after) (file_of file))) }
+        ensures later { faults_of self.old ≤ faults_of self.new }
+        ensures failed { OnErr result (Rises (faults_of self.old) (faults_of self.new)) }
+        ensures inside { IfOk result (λ next. ForSome (F.told (folder_of self.old)).files (λ image. IsNextFile image (option_map file_of after) (option_map file_of next))) }
+        ensures inside_stays { Stays (F.told (folder_of self.old)) (F.told (folder_of self.new)) }
+    {
+        counted(self.inner.list(after), &mut self.faults)
+    }
+
+    fn note(&mut self, answered: u64) -> Result<(), Failed>
+        ensures later { faults_of self.old ≤ faults_of self.new }
+        ensures failed { OnErr result (Rises (faults_of self.old) (faults_of self.new)) }
+        ensures inside { OnOk result (Applies (F.told (folder_of self.old)) (F.told (folder_of self.new)) (Note answered ∷ [])) }
+        ensures inside_undone { OnErr result (Stays (F.told (folder_of self.old)) (F.told (folder_of self.new))) }
+    {
+        counted(self.inner.note(answered), &mut self.faults)
+    }
+}

@@ -1,0 +1,13 @@
+//! A folder that erases: what is freed, cut or deleted is overwritten by zeros before.
+//!
+//! A stop at any step leaves a block that is freed either marked, so that the next opening frees and erases it again, or full of zeros.
+#![tactic(auto)]
+
+mod eraser;
+mod freeing;
+mod laws;
+mod map;
+mod zeros;
+
+pub use eraser::Eraser;
+pub use laws::{cut_bytes_are_blank, freed_blocks_are_blank, only_freed_blocks_change};

@@ -1,0 +1,73 @@
+// Bytes of a file are overwritten by zeros.
+ghost use Rattle.std.specs.Prelude.{◌≡◌, ◌-◌, ◌≤◌, OnOk, OnErr, IfOk, min};
+ghost use Rattle.std.specs.Option.{ForSome};
+ghost use Rattle.blk_image.specs.Bytes.{zeros};
+ghost use Rattle.blk_image.specs.Image.{length_of};
+ghost use Rattle.blk_image.specs.Steps.{words};
+ghost use Rattle.blk_image.specs.Told.{Applies, AppliesPrefix, MakesPartOf, Stays};
+ghost use Rattle.blk_io.specs.FileNames.{file_of};
+ghost use Rattle.blk_eraser.specs.Erasing.{delete_steps, length_steps};
+
+use blk_io::{Failed, FileId, Folder};
+
+// The most bytes that go by one call.
+const PIECE: usize = 4096;
+
+// The length of a file, 0 where there is none.
+pub(crate) fn length<F: Folder>(f: &mut F, file: FileId) -> Result<u64, Failed>
+    ensures length { IfOk result (λ n. ForSome (F.told f.old).files (λ image. length_of image (file_of file) ≡ n)) }
+    ensures stays { Stays (F.told f.old) (F.told f.new) }
+{
+    match f.length(file)? {
+        Some(n) => Ok(n),
+        None => Ok(0),
+    }
+}
+
+// The first n of some zeros.
+#[tactic(auto, using(crate::proofs::ZeroWords::front_zeros))]
+fn front(bytes: &[u8], n: usize) -> &[u8]
+    requires blank { bytes.now ≡ zeros 4096 }
+    requires few { n ≤ 4096 }
+    ensures { result.now ≡ zeros n }
+{
+    &bytes[..n]
+}
+
+// Writes zeros over the bytes of a file from a place up to another, page by page.
+#[tactic(auto, unfolding(blk_image::specs::Bytes::zeros))]
+pub(crate) fn erase<F: Folder>(f: &mut F, file: FileId, from: u64, end: u64) -> Result<(), Failed>
+    requires rising { from ≤ end }
+    requires inside { ForSome (F.told f.old).files (λ image. end ≤ length_of image (file_of file)) }
+    ensures steps { OnOk result (Applies (F.told f.old) (F.told f.new) (words (file_of file) from (zeros (end - from)))) }
+    ensures prefix { AppliesPrefix (F.told f.old) (F.told f.new) (words (file_of file) from (zeros (end - from))) }
+{
+    let blank = [0u8; PIECE];
+    let mut place = from;
+    while place < end {
+        let n = (PIECE as u64 - place % PIECE as u64).min(end - place);
+        f.write_at(file, place, front(&blank, n as usize))?;
+        place += n;
+    }
+    Ok(())
+}
+
+/// Gives a file a length, behind zeros over what that cuts off.
+pub(crate) fn cut<F: Folder>(f: &mut F, file: FileId, to: u64) -> Result<(), Failed>
+    ensures steps { OnOk result (ForSome (F.told f.old).files (λ image. Applies (F.told f.old) (F.told f.new) (length_steps image (file_of file) to))) }
+    ensures prefix { MakesPartOf (F.told f.old) (F.told f.new) (λ image. length_steps image (file_of file) to) }
+{
+    let long = length(f, file)?;
+    erase(f, file, to.min(long), long)?;
+    f.set_len(file, to)
+}
+
+/// Removes a file, behind zeros over its bytes.
+pub(crate) fn remove<F: Folder>(f: &mut F, file: FileId) -> Result<(), Failed>
+    ensures steps { OnOk result (ForSome (F.told f.old).files (λ image. Applies (F.told f.old) (F.told f.new) (delete_steps image (file_of file)))) }
+    ensures prefix { MakesPartOf (F.told f.old) (F.told f.new) (λ image. delete_steps image (file_of file)) }
+{
+    let long = length(f, file)?;
+    erase(f, file, 0, long)?;
+    f.delete(file)
+}
