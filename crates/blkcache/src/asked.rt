@@ -9,7 +9,7 @@ use blk_words::Order;
 
 /// How the words have the folder: alone, unless they only read it. `None` stands for words outside the grammar, which are refused.
 pub fn access_for(order: Option<Order<'_>>) -> Access
-    ensures { (result ≡ Access.Shared) ↔ IsTrue (only_reads (option_map task_given order)) }
+    ensures { (result ≡ Access.Shared) ↔ IsTrue (only_reads (option_map task_given order.entry)) }
 {
     match order {
         None | Some(Order::Inspect { .. } | Order::Verify) => Access::Shared,
@@ -19,7 +19,7 @@ pub fn access_for(order: Option<Order<'_>>) -> Access
 
 /// Whether the words print only behind a change of the folder.
 pub fn replies_behind(order: Option<Order<'_>>) -> bool
-    ensures { result ≡ changes_first (option_map task_given order) }
+    ensures { result ≡ changes_first (option_map task_given order.entry) }
 {
     matches!(
         order,
