@@ -72,8 +72,9 @@ printf '%s\n' 'create 0 stays' 'write 0 0 0 616263' 'write 0 1 0 646566' 'close 
 run "$folder" session
 is 'an entry is made' $'0 ok\nok 3\nok 3\nok' "$status $said"
 for ((number = 0; number < 6; number++)); do
-    lines=$(<"$room/lines")
-    printf '%s\n' "${lines//key\//$number/}" >"$room/input"
+    while IFS= read -r line; do
+        printf '%s\n' "${line/ key\// $number/}"
+    done <"$room/lines" >"$room/input"
     "$program" "$folder" session <"$room/input" >"$room/replies" 2>/dev/null &
     session=$!
     sleep "0.$((RANDOM % 900 + 100))"

@@ -132,7 +132,7 @@ for it in $'\xff' $'a\xe4b' $'\xe2\x82' $'\xc0\xaf' $'\xed\xa0\x80' $'\xf4\x90\x
     answers "the folder $(printf %q "$it")" 2 usage ''
 done
 wrap --help
-for it in 'blkcache FOLDER WORDS' '  session ' '  count ' '  list ' '  get KEY STREAM' '  put KEY STREAM' '  doom KEY ' '  trim BYTES ' '  inspect PART ' '  verify ' '  gen SEED N ' '  --max N ' '  --items N ' '  --help ' '  --version ' \
+for it in 'blkcache FOLDER WORDS' '  session ' '  count ' '  list ' '  get KEY STREAM' '  put KEY STREAM' '  doom KEY ' '  trim BYTES ' '  inspect PART ' '  verify ' '  gen SEED N ' '  --max N ' '  --items N ' '  reset ' '  --wait SECONDS' 'another process has the folder' '  --help ' '  --version ' '  --program ' '  --prove ' \
     '  0 ' '  1 ' '  2 ' '  3 ' '  4 ' '  5 ' '  6 ' '  7 ' '  8 ' '  70 ' 'mkdir cache' './blkcache cache count'; do
     [[ $said == *"$it"* ]]
     is "--help tells [$it]" 0 $?
