@@ -93,18 +93,21 @@ hold() {
     local other words tries=0 it
     waited=
     mkdir -p "$out" || fail "$out cannot be made"
-    until ln -s "$$" "$out/building" 2>/dev/null; do
-        other=$(readlink "$out/building" 2>/dev/null) || other=
-        if [ -z "$other" ]; then
-            [ $((tries += 1)) -lt 50 ] || fail "$out cannot be written"
+    # (rt takes no link in out/)
+    until (set -o noclobber && echo "$$" >"$out/building") 2>/dev/null; do
+        other=
+        { read -r other <"$out/building"; } 2>/dev/null || :
+        if [ -z "$other" ] && [ $((tries += 1)) -lt 50 ]; then
+            sleep 0.1
             continue
         fi
+        [ -n "$other" ] || [ -e "$out/building" ] || fail "$out cannot be written"
         words=()
         { mapfile -d '' -t words <"/proc/$other/cmdline"; } 2>/dev/null || :
         if [[ " ${words[*]}" != *blkcache* ]]; then
             # It was killed. Two that take its place at once may meet: what is taken away has to be its own.
             mv -T "$out/building" "$out/building.$$" 2>/dev/null || continue
-            [ "$(readlink "$out/building.$$")" = "$other" ] || mv -nT "$out/building.$$" "$out/building"
+            [ "$(<"$out/building.$$")" = "$other" ] || mv -nT "$out/building.$$" "$out/building"
             rm -f "$out/building.$$"
             continue
         fi

@@ -63,7 +63,8 @@ ends() {
     status=$?
 }
 for what in 'a hard link' 'a link' 'a link to nothing' 'a FIFO'; do
-    for line in 'write 0 0 0 6162' 'read 0 0 0 9'; do
+    # A page of the file that was read is kept, so the read is of another.
+    for line in 'write 0 0 0 6162' 'read 0 0 16000 9'; do
         rm -rf "$room/try"
         cp -a "$room/two" "$room/try"
         talk
@@ -119,7 +120,7 @@ before=$(both "$elsewhere")
 {
     printf '%s\n' 'open 0 a' 'open 1 b'
     for ((number = 0; number < 250; number++)); do
-        printf '%s\n' 'write 0 0 0 6162' 'read 1 0 0 1'
+        printf '%s\n' 'write 0 0 0 6162' 'write 1 0 0 6162'
     done
 } >"$room/lines"
 : >"$room/going"
