@@ -25,13 +25,6 @@ pub fn block_file(alloc: Global, size: u16, map: u8, count: usize) -> Result<Vec
     Ok(bytes)
 }
 
-/// So many bytes, all of them the old one.
-pub fn full_file(alloc: Global, count: usize) -> Result<Vec<u8>, NoMemory> {
-    let mut bytes = Vec::new(alloc);
-    bytes.resize(count, OLD)?;
-    Ok(bytes)
-}
-
 /// A folder with one file.
 pub fn folder_with(alloc: Global, file: FileId, bytes: &[u8]) -> Result<MemFolder, NoMemory> {
     let mut folder = MemFolder::new(alloc);
