@@ -77,7 +77,10 @@ for what in 'a hard link' 'a link' 'a link to nothing' 'a FIFO'; do
         before=$(both "$elsewhere")
         asked "$line"
         ends
-        is "$what in the midst of a session, $line" '3 ' "$status $reply"
+        # Of the reply to the read no more than its front is printed, without a byte of data.
+        front=
+        [[ $line != read* ]] || front='data 9'
+        is "$what in the midst of a session, $line" "3 $front" "$status $reply"
         is "$what in the midst of a session, $line: what is outside" "$before" "$(both "$elsewhere")"
     done
 done
