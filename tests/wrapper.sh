@@ -452,6 +452,16 @@ for what in cut_short other_byte no_run_bit no_sources two_lines five_lines othe
     is "dist/check: ${what//_/ }" "1 $stale" "$status $said"
 done
 in_dist renew
+kit=$("$stubs/rt" version)
+mapfile -t told <"$hand/SOURCES"
+told[2]='kit of another day'
+printf '%s\n' "${told[@]}" >"$hand/SOURCES"
+in_dist check
+is 'dist/check with another kit' "0 skipped whether dist/${hand##*/} is the program that was built: it is of kit of another day, and here is kit $kit" "$status $said"
+other_byte
+in_dist check
+is 'dist/check with another kit and another byte' "1 $stale" "$status $said"
+in_dist renew
 commit 2
 in_dist check
 is 'dist/check behind another commit' "1 $stale" "$status $said"
