@@ -1,8 +1,11 @@
 -- The zeros that are written before bytes go out of use.
-use Rattle.std.specs.Prelude.{ℕ, zero, suc, ◌+◌, ◌-◌, ◌*◌, Bool, not, ◌&&◌, if◌then◌else◌, List, [], ◌∷◌, ◌++◌, min}
+use Rattle.std.specs.Prelude.{ℕ, zero, suc, ◌+◌, ◌-◌, ◌*◌, Bool, not, ◌&&◌, if◌then◌else◌, List, [], ◌∷◌, ◌++◌, Option, min}
+use Rattle.std.specs.Option.{ForSome}
 use Rattle.blk_image.specs.Bytes.{content, spliced, zeros}
 use Rattle.blk_image.specs.Image.{File, Index, Block, External, Image, byte, bytes_of, length_of}
 use Rattle.blk_image.specs.Steps.{TrailStep, SetLength, Delete, words}
+use Rattle.blk_image.specs.Order.{IsNextFile}
+use Rattle.blk_image.specs.Told.{Told, Applies}
 use Rattle.blk_format.specs.Address.{header_size}
 use Rattle.blk_format.specs.BlockFiles.{most_blocks}
 use Rattle.blk_format.specs.Headers.{entry_size_of}
@@ -30,6 +33,10 @@ zeros_over_blocks test file size long (suc b) = zeros_over_blocks test file size
 abbrev pub frees : List ℕ → ℕ → List ℕ → ℕ → Bool
 frees old place new b = is_block_marked_at (content old) b && not (is_block_marked_at (content (spliced place new old)) b)
 
+-- zeros over the blocks that a write of bytes frees, by the header before it, in a file of this length
+abbrev pub zeros_over_freed : List ℕ → File → ℕ → ℕ → List ℕ → List TrailStep
+zeros_over_freed header file long place new = zeros_over_blocks (frees header place new) file (entry_size_of (content header)) long most_blocks
+
 -- the blocks that a write to a map frees, overwritten by zeros; other files have no map
 abbrev pub zeros_before_write : Image → File → ℕ → List ℕ → List TrailStep
 zeros_before_write image Index place new = []
@@ -47,3 +54,11 @@ length_steps image file n = words file n (zeros (length_of image file - n)) ++ (
 -- a deletion, behind the zeros over all bytes of the file
 abbrev pub delete_steps : Image → File → List TrailStep
 delete_steps image file = words file 0 (zeros (length_of image file)) ++ (Delete file ∷ [])
+
+-- where the files are told, the steps that they ask for are made
+abbrev pub Makes : Told → Told → (Image → List TrailStep) → Type 0
+Makes old new steps = ForSome old.files (λ image. Applies old new (steps image))
+
+-- where the files are told, the next of them after one
+abbrev pub TellsNext : Told → Option File → Option File → Type 0
+TellsNext told after next = ForSome told.files (λ image. IsNextFile image after next)

@@ -8,7 +8,7 @@ ghost use Rattle.blk_format.specs.Address.{header_size};
 ghost use Rattle.blk_format.specs.BlockFiles.{most_blocks};
 ghost use Rattle.blk_format.specs.Headers.{entry_size_of};
 ghost use Rattle.blk_io.specs.FileNames.{file_of};
-ghost use Rattle.blk_eraser.specs.Erasing.{IsBlockFile, frees, write_steps, zeros_over_block, zeros_over_blocks, zeros_before_write};
+ghost use Rattle.blk_eraser.specs.Erasing.{IsBlockFile, Makes, frees, write_steps, zeros_over_block, zeros_over_freed, zeros_before_write};
 
 use crate::map::{BITS_OF_BYTE, HEADER_LEN, MAP, block_size, is_freed, read_header, touches_map};
 use crate::zeros::{erase, length};
@@ -48,8 +48,8 @@ fn erase_freed<F: Folder>(
     requires whole { length header.now ≡ header_size }
     requires front { at < header_size }
     requires known { ForSome (F.told f.old).files (λ image. length_of image (file_of file) ≡ long) }
-    ensures steps { OnOk result (Applies (F.told f.old) (F.told f.new) (zeros_over_blocks (frees header.now at bytes.now) (file_of file) (entry_size_of (content header.now)) long most_blocks)) }
-    ensures prefix { AppliesPrefix (F.told f.old) (F.told f.new) (zeros_over_blocks (frees header.now at bytes.now) (file_of file) (entry_size_of (content header.now)) long most_blocks) }
+    ensures steps { OnOk result (Applies (F.told f.old) (F.told f.new) (zeros_over_freed header.now (file_of file) long at bytes.now)) }
+    ensures prefix { AppliesPrefix (F.told f.old) (F.told f.new) (zeros_over_freed header.now (file_of file) long at bytes.now) }
     ensures known { ForSome (F.told f.new).files (λ image. length_of image (file_of file) ≡ long) }
 {
     let size = block_size(header)?;
@@ -76,7 +76,7 @@ fn erase_by_header<F: Folder>(
     requires front { at < header_size }
     requires known { ForSome (F.told f.old).files (λ image. length_of image (file_of file) ≡ long) }
     requires inside { at + length bytes.now ≤ long }
-    ensures steps { OnOk result (ForSome (F.told f.old).files (λ image. Applies (F.told f.old) (F.told f.new) (zeros_before_write image (file_of file) at bytes.now))) }
+    ensures steps { OnOk result (Makes (F.told f.old) (F.told f.new) (λ image. zeros_before_write image (file_of file) at bytes.now)) }
     ensures prefix { MakesPartOf (F.told f.old) (F.told f.new) (λ image. zeros_before_write image (file_of file) at bytes.now) }
     ensures known { ForSome (F.told f.new).files (λ image. length_of image (file_of file) ≡ long) }
 {
@@ -95,7 +95,7 @@ fn erase_before<F: Folder>(
 ) -> Result<(), Failed>
     requires known { ForSome (F.told f.old).files (λ image. length_of image (file_of file) ≡ long) }
     requires inside { at + length bytes.now ≤ long }
-    ensures steps { OnOk result (ForSome (F.told f.old).files (λ image. Applies (F.told f.old) (F.told f.new) (zeros_before_write image (file_of file) at bytes.now))) }
+    ensures steps { OnOk result (Makes (F.told f.old) (F.told f.new) (λ image. zeros_before_write image (file_of file) at bytes.now)) }
     ensures prefix { MakesPartOf (F.told f.old) (F.told f.new) (λ image. zeros_before_write image (file_of file) at bytes.now) }
     ensures known { ForSome (F.told f.new).files (λ image. length_of image (file_of file) ≡ long) }
 {
@@ -112,7 +112,7 @@ pub(crate) fn write_over<F: Folder>(
     at: u64,
     bytes: &[u8],
 ) -> Result<(), Failed>
-    ensures steps { OnOk result (ForSome (F.told f.old).files (λ image. Applies (F.told f.old) (F.told f.new) (write_steps image (file_of file) at bytes.now))) }
+    ensures steps { OnOk result (Makes (F.told f.old) (F.told f.new) (λ image. write_steps image (file_of file) at bytes.now)) }
     ensures prefix { MakesPartOf (F.told f.old) (F.told f.new) (λ image. write_steps image (file_of file) at bytes.now) }
 {
     let long = length(f, file)?;

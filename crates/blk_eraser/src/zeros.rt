@@ -6,7 +6,7 @@ ghost use Rattle.blk_image.specs.Image.{length_of};
 ghost use Rattle.blk_image.specs.Steps.{words};
 ghost use Rattle.blk_image.specs.Told.{Applies, AppliesPrefix, MakesPartOf, Stays};
 ghost use Rattle.blk_io.specs.FileNames.{file_of};
-ghost use Rattle.blk_eraser.specs.Erasing.{delete_steps, length_steps};
+ghost use Rattle.blk_eraser.specs.Erasing.{Makes, delete_steps, length_steps};
 
 use blk_io::{Failed, FileId, Folder};
 
@@ -54,7 +54,7 @@ pub(crate) fn erase<F: Folder>(f: &mut F, file: FileId, from: u64, end: u64) -> 
 
 /// Gives a file a length, behind zeros over what that cuts off.
 pub(crate) fn cut<F: Folder>(f: &mut F, file: FileId, to: u64) -> Result<(), Failed>
-    ensures steps { OnOk result (ForSome (F.told f.old).files (λ image. Applies (F.told f.old) (F.told f.new) (length_steps image (file_of file) to))) }
+    ensures steps { OnOk result (Makes (F.told f.old) (F.told f.new) (λ image. length_steps image (file_of file) to)) }
     ensures prefix { MakesPartOf (F.told f.old) (F.told f.new) (λ image. length_steps image (file_of file) to) }
 {
     let long = length(f, file)?;
@@ -64,7 +64,7 @@ pub(crate) fn cut<F: Folder>(f: &mut F, file: FileId, to: u64) -> Result<(), Fai
 
 /// Removes a file, behind zeros over its bytes.
 pub(crate) fn remove<F: Folder>(f: &mut F, file: FileId) -> Result<(), Failed>
-    ensures steps { OnOk result (ForSome (F.told f.old).files (λ image. Applies (F.told f.old) (F.told f.new) (delete_steps image (file_of file)))) }
+    ensures steps { OnOk result (Makes (F.told f.old) (F.told f.new) (λ image. delete_steps image (file_of file))) }
     ensures prefix { MakesPartOf (F.told f.old) (F.told f.new) (λ image. delete_steps image (file_of file)) }
 {
     let long = length(f, file)?;
