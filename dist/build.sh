@@ -47,7 +47,7 @@ fit_lanes() {
 }
 
 # How many seconds each crate takes: as many as it took here the last time, or so many by the size of its sources.
-bytes_per_second=2000
+bytes_per_second=3000
 declare -A seconds=()
 weigh() {
     local bytes path name took

@@ -1,6 +1,11 @@
 # The edits that stand beside the crates: each still names text of its crate, once, so that tests/edits can try it.
 . "$(dirname "${BASH_SOURCE[0]}")/common.sh"
 
+type -P awk >/dev/null || {
+    skip 'whether each edit still names text of its crate' 'awk is missing'
+    finish
+}
+
 # Prints why an edit of a crate can't be applied, and nothing where it can.
 hindrance() (
     cd "$top/crates/$1" || exit

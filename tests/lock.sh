@@ -74,7 +74,7 @@ four_at_once() {
         puts "$lane" &
     done
     wait
-    cat "$room"/lane? >"$room/lanes"
+    cat "$room"/lane[1-4] >"$room/lanes"
     is "$1: each is done or refused" 24 "$(count_like '[03] *' <"$room/lanes")"
     run "$folder" list
     while read -r answer key; do

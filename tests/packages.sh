@@ -3,7 +3,7 @@
 
 # A copy of the repository without sources, with the program at hand.
 repository=$room/repository
-hand=$repository/dist/$HOSTTYPE-${OSTYPE%%-*}
+hand=$repository/dist/${BASH_VERSINFO[5]%%-*}-linux
 mkdir -p "$hand" "$repository/docs" "$repository/packaging"
 cp "$top/blkcache" "$top/install" "$repository"
 cp "$top/docs/blkcache.1" "$repository/docs"

@@ -329,7 +329,7 @@ is 'one of the two builds' 1 "$(cat "$room/second" "$room/complained" | while re
 is 'nothing but the program is left' $'blkcache blkcache.commit build.times\n' "$(left)"$'\n'
 
 # The program at hand: it is run where SOURCES names the commit's crates, no source was changed, its sum is right and it runs here.
-hand=$repository/dist/$HOSTTYPE-${OSTYPE%%-*}
+hand=$repository/dist/${BASH_VERSINFO[5]%%-*}-linux
 mkdir "$hand"
 describe() {
     local sum
@@ -457,10 +457,14 @@ mapfile -t told <"$hand/SOURCES"
 told[2]='kit of another day'
 printf '%s\n' "${told[@]}" >"$hand/SOURCES"
 in_dist check
+is 'dist/check with another kit that README does not name' "1 $stale" "$status $said"
+echo 'proved with `of another day`' >"$repository/README.md"
+in_dist check
 is 'dist/check with another kit' "0 skipped whether dist/${hand##*/} is the program that was built: it is of kit of another day, and here is kit $kit" "$status $said"
 other_byte
 in_dist check
 is 'dist/check with another kit and another byte' "1 $stale" "$status $said"
+rm "$repository/README.md"
 in_dist renew
 commit 2
 in_dist check
