@@ -264,10 +264,13 @@ build() {
     trap 'stop 130' INT
     trap 'stop 143' TERM
     hold
-    if [ -n "$waited" ] && [ -z "${proving-}" ] && is_built; then
-        end_all
-        trap - HUP INT TERM
-        return
+    if [ -n "$waited" ] && [ -z "${proving-}" ]; then
+        ask_git
+        if is_built; then
+            end_all
+            trap - HUP INT TERM
+            return
+        fi
     fi
     list_crates
     count_lanes

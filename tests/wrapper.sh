@@ -17,13 +17,15 @@ while IFS=: read -r name _; do
 done <"$top/crates.txt"
 touch -d '1 hour ago' "$repository/crates.txt" "$repository/crates"/*/{src,specs,proofs}
 
-# A git that knows one commit, with the crates that the file commit names, and the changes that the file changes has.
+# A git that knows one commit, with the crates that the file commit names, the changes that the file changes has, and the new files that the
+# file new has; those of the file ignored are new too, and ignored.
 cat >"$stubs/git" <<'END'
 echo "git $3" >>"$calls"
 case ${3-} in
     rev-parse) [ -s "$room/commit" ] && echo "$(<"$room/commit")" ;;
     diff-index) [ ! -s "$room/changes" ] ;;
-    status) echo -n "$(<"$room/changes")" ;;
+    ls-files) echo -n "$(<"$room/new")$(<"$room/ignored")" ;;
+    status) echo -n "$(<"$room/changes")$(<"$room/new")" ;;
     log) echo 2026-01-02 ;;
 esac
 END
@@ -79,10 +81,13 @@ done
 mkfifo "$room/never"
 commit 1
 : >"$room/changes"
+: >"$room/new"
+: >"$room/ignored"
 : >"$room/fails"
 : >"$room/hangs"
 
-# Runs the wrapper on words, with nothing on its path but the stand-ins and what it is said to need. Leaves its status, what it said, and what it called.
+# Runs the wrapper on words, with nothing on its path but the stand-ins and what it is said to need. Leaves its status, what it said, and what
+# it called, with the three calls of git at its start, which are made at once, as one line.
 wrap() {
     : >"$calls"
     : >"$room/order"
@@ -92,6 +97,9 @@ wrap() {
     said=$(cat "$room/said")
     complained=$(cat "$room/complained")
     called=$(cat "$calls")
+    if [ "$(head -n 3 "$calls" | sort)" = $'git diff-index\ngit ls-files\ngit rev-parse' ]; then
+        called=$(echo 'git is asked' && tail -n +4 "$calls")
+    fi
 }
 echo caller >"$room/line"
 
@@ -193,7 +201,7 @@ is "side by side: at most $lanes, and more than one where so many may be ($most)
 is 'each has what is proved of those below' '' "$(cat "$room/lacks" 2>/dev/null)"
 is 'what is proved of each goes back to its own place' "$((total - 1))" "$(cat "$repository/crates"/*/out/rlib/made | wc -l)"
 wanted=$(for it in "${order[@]:0:total-1}"; do echo "rt lib $it"; done | sort)
-is 'rt is called once a crate' $'git rev-parse\ngit rev-parse\ngit status\n'"$wanted"$'\nrt run blkcache' "$(sort <<<"$called")"
+is 'rt is called once a crate' $'git is asked\ngit rev-parse\ngit status\n'"$wanted"$'\nrt run blkcache' "$(sort <<<"$called")"
 is 'the program is built last' $'rt run blkcache\ngit rev-parse\ngit status' "$(tail -n 3 <<<"$called")"
 is 'nothing else is left' $'blkcache blkcache.commit build.times\n' "$(left)"$'\n'
 
@@ -202,48 +210,64 @@ printf '%s\n' '# NAME: DEP DEP ..' 'blk_image:' 'blk_io: blk_image hex' 'blk_run
 touch -d '1 hour ago' "$repository/crates.txt"
 total=4
 
-# A run on a built program calls one other program, and builds nothing.
+# A run on a built program calls git alone, and builds nothing.
 wrap "$folder" count
 is 'a run on a built program' "4 words: $folder count input: caller" "$status $said$complained"
-is 'what it calls' $'git rev-parse\ngit diff-index' "$called"
+is 'what it calls' 'git is asked' "$called"
 sleep 0.05
 touch "$repository/crates/blk_io/src"
 wrap "$folder" count
-is 'the times of the sources are not asked' $'git rev-parse\ngit diff-index' "$called"
+is 'the times of the sources are not asked' 'git is asked' "$called"
 echo ' M crates/blk_io/src/mem.rt' >"$room/changes"
 wrap "$folder" count
-is 'unless one was changed' "$((total + 5))" "$(wc -l <"$calls")"
+is 'unless one was changed' "$((total + 6))" "$(wc -l <"$calls")"
 : >"$room/changes"
 touch -d '1 hour ago' "$repository/crates/blk_io/src"
 wrap "$folder" count
 wrap "$folder" count
-is 'once the change is gone it is noted' $'git rev-parse\ngit diff-index' "$called"
+is 'once the change is gone it is noted' 'git is asked' "$called"
+
+# A new file is seen as a change is; one that git ignores is none.
+echo 'crates/blk_io/src/new.rt' >"$room/ignored"
+wrap "$folder" count
+is 'a new file that git ignores' $'git is asked\ngit status' "$called"
+: >"$room/ignored"
+echo '?? crates/blk_io/src/new.rt' >"$room/new"
+wrap "$folder" count
+is 'a new file that is no newer than the program' $'4 git is asked\ngit status\ngit status' "$status $called"
+sleep 0.05
+touch "$repository/crates/blk_io/src"
+wrap "$folder" count
+is 'a new file in a folder that is newer is built' "$((total + 6))" "$(wc -l <"$calls")"
+: >"$room/new"
+touch -d '1 hour ago' "$repository/crates/blk_io/src"
+wrap "$folder" count
 sleep 0.05
 touch "$repository/crates/blk_io/src"
 
 # With other crates it builds again; where no source is newer than the program it notes the commit alone.
 commit 2
 wrap "$folder" count
-is 'other crates are built' "$((total + 3))" "$(wc -l <"$calls")"
+is 'other crates are built' "$((total + 5))" "$(wc -l <"$calls")"
 is 'and it is said' "$((total + 1))" "$(wc -l <"$room/complained")"
 [[ ${complained%%$'\n'*} == *'; the last time here took '*' minutes' ]]
 is 'with how long it took the last time' 0 $?
 touch -d '1 hour ago' "$repository/crates/blk_io/src"
 commit 3
 wrap "$folder" count
-is 'crates that are no newer are not built' $'git rev-parse\ngit status' "$called"
+is 'crates that are no newer are not built' $'git is asked\ngit status' "$called"
 wrap "$folder" count
-is 'which is noted' $'git rev-parse\ngit diff-index' "$called"
+is 'which is noted' 'git is asked' "$called"
 commit 4
 echo ' M crates/blk_io/src/mem.rt' >"$room/changes"
 for it in once twice; do
     wrap "$folder" count
-    is "what is not committed is not noted ($it)" $'git rev-parse\ngit status' "$called"
+    is "what is not committed is not noted ($it)" $'git is asked\ngit status' "$called"
 done
 sleep 0.05
 touch "$repository/crates/blk_io/src"
 wrap "$folder" count
-is 'what is not committed is built' "$((total + 3))" "$(wc -l <"$calls")"
+is 'what is not committed is built' "$((total + 5))" "$(wc -l <"$calls")"
 touch -d '1 hour ago' "$repository/crates/blk_io/src"
 : >"$room/changes"
 wrap "$folder" count
@@ -251,13 +275,13 @@ cp "$room/program" "$out/blkcache"
 sleep 0.05
 touch "$repository/crates/blk_io/src"
 wrap "$folder" count
-is 'a program that was built apart is compared with its sources' "$((total + 3))" "$(wc -l <"$calls")"
+is 'a program that was built apart is compared with its sources' "$((total + 5))" "$(wc -l <"$calls")"
 touch -d '1 hour ago' "$repository/crates/blk_io/src"
 
 # Where git knows no commit, the sources are looked at.
 : >"$room/commit"
 wrap "$folder" count
-is 'no commit' "4 words: $folder count input: caller git rev-parse" "$status $said$complained $called"
+is 'no commit' "4 words: $folder count input: caller git is asked" "$status $said$complained $called"
 commit 1
 
 # A build that fails says where the log is, and what is above is not tried.
@@ -343,16 +367,18 @@ lay() {
     describe 1
     commit 1
     : >"$room/changes"
+    : >"$room/new"
+    : >"$room/ignored"
 }
 lay
 wrap "$folder" count 'two words'
 is 'the program at hand runs, and nothing is said' "4 words: $folder count two\\ words input: caller" "$status $said$complained"
-is 'git is called twice' $'git diff-index\ngit rev-parse' "$(sort <<<"$called")"
+is 'git is asked at once, and no more' 'git is asked' "$called"
 wrap --program
 is '--program names it' "0 $hand/blkcache" "$status $said$complained"
 commit ''
 wrap "$folder" count
-is 'where git knows no commit it runs too' "4 words: $folder count input: caller git rev-parse" "$status $said$complained $called"
+is 'where git knows no commit it runs too' "4 words: $folder count input: caller git is asked" "$status $said$complained $called"
 sleep 0.05
 touch "$repository/crates/blk_io/specs"
 wrap "$folder" count
@@ -362,6 +388,14 @@ lay
 echo ' M crates/blk_io/src/mem.rt' >"$room/changes"
 wrap "$folder" count
 is 'a change that is not committed is built' "4 $((total + 1)) a source was changed" "$status $(wc -l <"$room/complained") $(said_why)"
+lay
+echo '?? crates/blk_io/src/new.rt' >"$room/new"
+wrap "$folder" count
+is 'a new file is built' "4 $((total + 1)) a source was changed" "$status $(wc -l <"$room/complained") $(said_why)"
+lay
+echo 'crates/blk_io/src/new.rt' >"$room/ignored"
+wrap "$folder" count
+is 'a new file that git ignores is none' $'4 git is asked\ngit status' "$status $complained$called"
 
 # Each way in which it may be wrong: it is built, or one line says why that cannot be; and no program whose sum is wrong runs.
 cut_short() { truncate -s -5 "$hand/blkcache"; }
@@ -413,7 +447,7 @@ is '--prove runs the program on no folder' no "$([ -e "$room/ran" ] && echo yes 
 wrap --prove
 is '--prove builds once more' "0 $((total + 1))" "$status $(wc -l <"$room/complained")"
 wrap "$folder" count
-is 'what was built is run, and not what is at hand' $'4 git rev-parse\ngit diff-index' "$status $called"
+is 'what was built is run, and not what is at hand' '4 git is asked' "$status $called"
 wrap --program
 is '--program names what was built' "0 $out/blkcache" "$status $said$complained"
 other_byte
@@ -425,7 +459,7 @@ is '--prove finds none' "1 proved; there is no $hand/blkcache with its SOURCES t
 lay
 rm "$hand/blkcache"
 wrap --program
-is '--program builds nothing' "70 blkcache: $hand/blkcache is missing git rev-parse" "$status $said$complained $called"
+is '--program builds nothing' "70 blkcache: $hand/blkcache is missing git is asked" "$status $said$complained $called"
 
 # dist/renew makes the program that was built the one at hand, and dist/check tells whether it is.
 cp "$top/dist/common.sh" "$top/dist/renew" "$top/dist/check" "$repository/dist"
@@ -477,6 +511,83 @@ done
 lay
 rm -r "$hand"
 mkdir -p "$out"
+
+# What the real git finds: the program at hand runs over the commit's files alone. There is no rt here, so what is found is told.
+real=$room/real
+tools=$room/tools
+mkdir -p "$real/crates/blk_io"/{src,specs,proofs/deep,must-fail,out} "$real/dist/${hand##*/}" "$tools"
+for it in bash du git sha256sum; do ln -s "$(type -P "$it")" "$tools/$it"; done
+cp "$top/blkcache" "$real"
+cp "$top/dist/build.sh" "$real/dist"
+cp "$room/program" "$real/dist/${hand##*/}/blkcache"
+for it in src/lib.rt specs/Io.antt proofs/Io.antt proofs/deep/turns.antt must-fail/wrong.edit; do echo "$it" >"$real/crates/blk_io/$it"; done
+echo 'blk_io:' >"$real/crates.txt"
+printf '%s\n' 'crates/*/out/' '*.swp' >"$real/.gitignore"
+in_real() {
+    HOME=$room GIT_CONFIG_NOSYSTEM=1 GIT_CEILING_DIRECTORIES=$room git -C "$real" -c user.name=n -c user.email=e@e "$@" >/dev/null 2>&1
+}
+# Commits the sources, and has SOURCES name that commit's crates.
+settle() {
+    in_real add crates crates.txt .gitignore && in_real commit -m sources
+    {
+        echo "crates $(git -C "$real" rev-parse HEAD:crates)"
+        echo "crates.txt $(git -C "$real" rev-parse HEAD:crates.txt)"
+        echo 'kit some kit'
+        sum=$(sha256sum <"$real/dist/${hand##*/}/blkcache")
+        echo "sha256 ${sum%% *}"
+    } >"$real/dist/${hand##*/}/SOURCES"
+}
+# What the wrapper says there: nothing where it runs the program, else why it does not.
+heard() {
+    local told
+    told=$(HOME=$room PATH=$tools "$BASH" "$real/blkcache" "$folder" count 2>&1 >/dev/null <"$room/line")
+    told=${told#blkcache: }
+    echo "${told%, and there is no rt here to build it}"
+}
+in_real init
+settle
+changed='a source was changed'
+is 'the real git: all is committed' '' "$(heard)"
+for it in src/new.rt specs/New.antt must-fail/new.edit new; do
+    echo new >"$real/crates/blk_io/$it"
+    is "the real git: the new file $it" "$changed" "$(heard)"
+    rm "$real/crates/blk_io/$it"
+done
+mkdir "$real/crates/blk_new"
+is 'the real git: a new folder without a file' '' "$(heard)"
+echo new >"$real/crates/blk_new/new"
+is 'the real git: a new folder' "$changed" "$(heard)"
+rm -r "$real/crates/blk_new"
+for it in out/lib src/lib.rt.swp; do
+    echo new >"$real/crates/blk_io/$it"
+    is "the real git: the new file $it, which it ignores" '' "$(heard)"
+    rm "$real/crates/blk_io/$it"
+done
+for it in src/lib.rt specs/Io.antt proofs/Io.antt proofs/deep/turns.antt must-fail/wrong.edit; do
+    sleep 0.01
+    touch "$real/crates/blk_io/$it"
+    is "the real git: $it with a new time" '' "$(heard)"
+    echo more >>"$real/crates/blk_io/$it"
+    is "the real git: $it is changed" "$changed" "$(heard)"
+    in_real add crates
+    is "the real git: $it is changed, and staged" "$changed" "$(heard)"
+    rm "$real/crates/blk_io/$it"
+    is "the real git: $it is removed" "$changed" "$(heard)"
+    in_real reset --hard
+    is "the real git: $it is as it was" '' "$(heard)"
+done
+echo new >"$real/crates/blk_io/proofs/deep/new.antt"
+is 'the real git: a new proof, which makes no other program' '' "$(heard)"
+touch -d '1 hour ago' "$real/crates.txt" "$real/crates/blk_io"/{src,specs,proofs}{,/*} "$real/crates/blk_io/proofs/deep/turns.antt"
+mv "$real/.git" "$room/away"
+is 'without a commit a new proof is seen by its time' "$changed" "$(heard)"
+rm "$real/crates/blk_io/proofs/deep/new.antt"
+touch -d '1 hour ago' "$real/crates/blk_io/proofs/deep"
+is 'and without it nothing is' '' "$(heard)"
+mv "$room/away" "$real/.git"
+echo more >>"$real/crates/blk_io/src/lib.rt"
+in_real commit -am 'other sources'
+is 'the real git: other sources are committed' "$real/dist/${hand##*/}/SOURCES names other sources" "$(heard)"
 
 # Through the wrapper too, closed streams lose nothing, and a folder's name may be relative to the caller's.
 cp "$program" "$out/blkcache"
