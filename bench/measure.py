@@ -1,4 +1,4 @@
-"""Runs each workload through the program and each peer, one after another and again, and prints tables of medians that docs/SPEED.md takes as they are."""
+"""Runs each workload through the program and each peer, one after another and again, and prints tables of medians that docs/PERFORMANCE.md takes as they are."""
 
 import array
 import contextlib
