@@ -104,53 +104,90 @@ run "$room/moved" list
 is 'its entries are in the folder that was moved' $'0 main c 20000 0 0\nmain b 20000 0 0\nmain a 20000 0 0\nend 3' "$status $said"
 rm -rf "$room/try" "$room/instead"
 
-# A program that swaps the file with a link, a hard link and itself, all the while: sessions that open it again and again, ten thousand
-# times together or for half a minute, write nothing outside and answer 0 or 3.
+# A program that swaps a file with other things and with itself, all the while: its name, and what is put in its place. What is there
+# while a folder is put in place is nothing, now and then.
+mkfifo "$elsewhere/fifo"
 swaps() {
+    local name=$1 what
+    shift
     while [ -e "$room/going" ]; do
-        for how in -s ''; do
-            cp -f "$room/two/f_000001" "$room/own.new"
-            # shellcheck disable=SC2086
-            ln $how "$elsewhere/file" "$room/other.new"
-            mv -fT "$room/other.new" "$room/try/f_000001"
-            mv -fT "$room/own.new" "$room/try/f_000001"
+        for what; do
+            rm -rf "$room/other.new"
+            cp -f "$room/two/$name" "$room/own.new"
+            case $what in
+                'a link') ln -s "$elsewhere/file" "$room/other.new" ;;
+                'a hard link') ln "$elsewhere/file" "$room/other.new" ;;
+                'a FIFO') ln "$elsewhere/fifo" "$room/other.new" ;;
+                'a folder') mkdir "$room/other.new" && rm "$room/try/$name" ;;
+            esac
+            mv -fT "$room/other.new" "$room/try/$name"
+            [ "$what" != 'a folder' ] || rmdir "$room/try/$name"
+            mv -fT "$room/own.new" "$room/try/$name"
         done
     done 2>/dev/null
 }
-rm -f "$elsewhere/file"
-cp "$room/two/f_000001" "$elsewhere/file"
-before=$(both "$elsewhere")
+
+# Runs the program on words beside such a program until there are so many openings, or seconds are over: OPENINGS SECONDS RUNS STATUSES NAME
+# WHAT.. -- WORDS, so many runs on each new folder, with the lines as input. Each run is an opening, and each line that it prints. The runs
+# that are not refused end with one of the statuses, and nothing outside is written.
+beside_swaps() {
+    local most=$1 ends=$((SECONDS + $2)) runs=$3 allowed=$4 name=$5 what=() openings=0 others= before swapper status number
+    shift 5
+    while [ "$1" != -- ]; do
+        what+=("$1")
+        shift
+    done
+    shift
+    rm -f "$elsewhere/file"
+    cp "$room/two/$name" "$elsewhere/file"
+    before=$(both "$elsewhere")
+    rm -rf "$room/try"
+    cp -a "$room/two" "$room/try"
+    : >"$room/going"
+    swaps "$name" "${what[@]}" &
+    swapper=$!
+    while [ "$openings" -lt "$most" ] && [ "$SECONDS" -lt "$ends" ]; do
+        rm -rf "$room/next" "$room/try.old"
+        cp -a "$room/two" "$room/next"
+        mv "$room/try" "$room/try.old"
+        mv "$room/next" "$room/try"
+        for ((number = 0; number < runs; number++)); do
+            "$program" "$room/try" "$@" <"$room/lines" >"$room/said" 2>&1
+            status=$?
+            mapfile -t said <"$room/said"
+            openings=$((openings + 1 + ${#said[@]}))
+            case $status in
+                3) refused=$((refused + 1)) ;;
+                *) [[ " $allowed " == *" $status "* ]] || others+=" $status" ;;
+            esac
+        done
+    done
+    rm "$room/going"
+    wait "$swapper"
+    echo "$openings openings beside a program that swaps $name with ${what[*]}"
+    [ "$openings" -ge "$most" ] || skip "some of $most openings beside a program that swaps $name" 'the machine is too slow'
+    is "$name swapped with ${what[*]}: no other status" '' "$others"
+    is "$name swapped with ${what[*]}: what is outside" "$before" "$(both "$elsewhere")"
+}
+
+# Sessions that open an external file again and again, ten thousand times together or for half a minute.
 {
     printf '%s\n' 'open 0 a' 'open 1 b'
     for ((number = 0; number < 250; number++)); do
         printf '%s\n' 'write 0 0 0 6162' 'write 1 0 0 6162'
     done
 } >"$room/lines"
-: >"$room/going"
-cp -a "$room/two" "$room/try"
-swaps &
-swapper=$!
-openings=0 refused=0 others= ends=$((SECONDS + 30))
-while [ "$openings" -lt 10000 ] && [ "$SECONDS" -lt "$ends" ]; do
-    rm -rf "$room/next"
-    cp -a "$room/two" "$room/next"
-    rm -rf "$room/try.old"
-    mv "$room/try" "$room/try.old"
-    mv "$room/next" "$room/try"
-    timeout 60 "$program" "$room/try" session <"$room/lines" >"$room/said" 2>&1
-    status=$?
-    openings=$((openings + $(wc -l <"$room/said")))
-    case $status in
-        0) ;;
-        3) refused=$((refused + 1)) ;;
-        *) others+=" $status" ;;
-    esac
+refused=0
+beside_swaps 10000 30 1 0 f_000001 'a link' 'a hard link' -- session
+is 'sessions beside a program that swaps: some are refused' yes "$([ "$refused" -gt 0 ] && echo yes)"
+
+# Words that open the others once each. A folder is put in place where nothing was for a moment, so an index may be made anew beside old
+# block files, which is a damaged folder.
+: >"$room/lines"
+refused=0
+for name in index data_0 data_1; do
+    beside_swaps 800 6 20 0 "$name" 'a link' 'a hard link' 'a FIFO' -- count
+    beside_swaps 400 3 20 '0 7' "$name" 'a folder' -- count
 done
-rm "$room/going"
-wait "$swapper"
-echo "$openings openings beside a program that swaps, $refused sessions refused"
-[ "$openings" -ge 10000 ] || skip 'some of ten thousand openings beside a program that swaps' 'the machine is too slow'
-is 'beside a program that swaps: some sessions are refused' yes "$([ "$refused" -gt 0 ] && echo yes)"
-is 'beside a program that swaps: no other status' '' "$others"
-is 'beside a program that swaps: the times outside' "$before" "$(both "$elsewhere")"
+is 'words beside a program that swaps: some are refused' yes "$([ "$refused" -gt 0 ] && echo yes)"
 finish
