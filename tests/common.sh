@@ -156,6 +156,43 @@ line_of() {
     esac
 }
 
+# Prints a script of so many commands that are drawn from a seed: draw_script SEED COUNT. Keys and handles are few, so that most lines
+# meet what lines before them left. It needs awk.
+draw_script() {
+    awk -v seed="$1" -v count="$2" '
+        function below(n) { return int(rand() * n) }
+        function data(   n, text, all) {
+            n = rand()
+            n = n < 0.6 ? 1 + below(40) : n < 0.85 ? below(1500) : n < 0.95 ? 4000 + below(5000) : 16000 + below(9000)
+            if (n == 0) return "-"
+            text = sprintf("%02x", below(256))
+            for (all = text; length(all) < 2 * n; all = all all);
+            return substr(all, 1, 2 * n)
+        }
+        function key() { return "key/" below(12) }
+        function handle() { return below(6) }
+        function place() { return below(4) ? 1048576 * below(3) + below(3000) : 1048576 * (1 + below(2)) - below(1500) }
+        BEGIN {
+            srand(seed)
+            for (; count > 0; count--) {
+                n = rand()
+                if (n < 0.16) print "create", handle(), key()
+                else if (n < 0.32) print "open", handle(), key()
+                else if (n < 0.48) print "write", handle(), below(3), below(3) ? 0 : below(2000), data()
+                else if (n < 0.54) print "cut", handle(), below(3), below(2) ? 0 : below(300), data()
+                else if (n < 0.66) print "swrite", handle(), place(), data()
+                else if (n < 0.69) print "sread", handle(), place(), 1 + below(5000)
+                else if (n < 0.72) print "srange", handle(), place(), 1048576
+                else if (n < 0.76) print "read", handle(), below(3), below(100), 1 + below(3000)
+                else if (n < 0.94) print "close", handle()
+                else if (n < 0.96) print "doomkey", key()
+                else if (n < 0.97) print "doom", handle()
+                else if (n < 0.98) print "trim", below(200000)
+                else print below(2) ? "list" : "total"
+            }
+        }' </dev/null
+}
+
 # A finished folder and one with an entry, of which the others are copies. The first count of an entry completes its maps,
 # counters and hashes.
 mkdir "$room/made"

@@ -1,0 +1,446 @@
+# With BLKCACHE_ERASE=1 what is removed is gone: no byte of it stands in any file of the folder, also behind a kill and the next opening.
+# Without it the bytes are found. Of so many places of a kill one is tried, from a first one that is drawn: ERASE_STEP (5). ERASE_SEED is
+# what the script is drawn from.
+. "$(dirname "${BASH_SOURCE[0]}")/common.sh"
+
+for tool in awk grep; do
+    type -P "$tool" >/dev/null || {
+        skip 'what is erased' "$tool is missing"
+        finish
+    }
+done
+step=${ERASE_STEP:-5}
+seed=${ERASE_SEED:-$RANDOM}
+
+# Letters and digits that are drawn, so that no 16 of them stand anywhere by chance. Each secret begins at a multiple of 16, and is found
+# by its pieces of 16.
+pool=$(head -c 230000 /dev/urandom | base64 -w0 | tr -d '+/=')
+pool=${pool:0:280000}
+digits=$(printf %s "$pool" | od -An -v -tx1 | tr -d ' \n')
+drawn=0
+fold -w 16 <<<"$pool" >"$room/pieces"
+fold -w 32 <<<"$digits" >"$room/digits"
+
+# Leaves a secret of so many bytes, and its digits.
+secret() {
+    text=${pool:drawn:$1}
+    data=${digits:drawn * 2:$1 * 2}
+    drawn=$((drawn + ($1 + 15) / 16 * 16))
+}
+
+# Prints the pieces that stand in the files of a folder, each as often as it does.
+found_in() {
+    cat "$1"/* | grep -aoFf "$room/pieces" | sort
+}
+
+# Prints the pieces that the program gives of a folder, each as often as it does: those of the keys, by their rows, and of the streams.
+# Where the runs of sparse data begin is in sparse_places, in whole blocks of 1024: of a block that isn't whole at its front nothing is given.
+sparse_places=
+given_of() {
+    run "$1" list
+    cp "$room/said" "$room/rows"
+    awk -v places="$sparse_places" '
+        BEGIN { count = split(places, place, " ") }
+        $1 == "main" || $1 == "sparse" { print "open 0", $2 }
+        $1 == "main" { for (it = 0; it < 3; it++) if ($(3 + it)) print "read 0", it, 0, 99999999 }
+        $1 == "sparse" { for (it = 1; it <= count; it++) print "sread 0", place[it], 1048576 }
+        $1 == "main" || $1 == "sparse" { print "close 0" }' "$room/rows" >"$room/input"
+    run "$1" session
+    : >"$room/input"
+    {
+        grep -oFf "$room/pieces" "$room/rows"
+        grep -oFf "$room/digits" "$room/said" | awk 'of_pieces { piece[FNR] = $0; next } of_digits { of[$0] = piece[FNR]; next } { print of[$0] }' \
+            of_pieces=1 "$room/pieces" of_pieces=0 of_digits=1 "$room/digits" of_digits=0 -
+    } | sort
+}
+
+# Prints how many pieces stand in the files of a folder that are none of what it holds, or stand there more often.
+left_in() {
+    found_in "$1" >"$room/found"
+    given_of "$1" >"$room/given"
+    comm -23 "$room/found" "$room/given" | wc -l
+}
+
+# Prints how many blocks of a folder that are not marked have a byte that isn't 0.
+blocks_left_in() {
+    local file size
+    for file in "$1"/data_*; do
+        size=$(($(od -An -tu4 -j12 -N4 "$file")))
+        od -An -v -tu1 -w8112 -j80 -N8112 "$file"
+        od -Ad -tx1 -w"$size" -j8192 "$file" | awk -v size="$size" '{ place = $1; sub(/^[0-9*]+/, "") } /[1-9a-f]/ { print "block", (place - 8192) / size }'
+    done | awk '
+        $1 != "block" { for (it = 1; it <= NF; it++) map[it - 1] = $it; next }
+        int(map[int($2 / 8)] / 2 ^ ($2 % 8)) % 2 == 0 { left++ }
+        END { print left + 0 }'
+}
+
+# Prints how many bytes behind a file's header are not 0.
+bytes_in() {
+    tail -c +8193 "$1" | tr -d '\0' | wc -c
+}
+
+# Nothing is left: the block files hold zeros behind their headers, and there is no other.
+is_blank() {
+    is "$1" '0 0 0 0 ' "$(bytes_in "$2/data_0") $(bytes_in "$2/data_1") $(bytes_in "$2/data_2") $(bytes_in "$2/data_3") $(cd "$2" && ls | grep -E '^(f_|data_[4-9])')"
+}
+
+# What is left is none of what was removed.
+is_gone() {
+    is "$1: no piece is left" 0 "$(left_in "$2")"
+    is "$1: no block that is free holds a byte" 0 "$(blocks_left_in "$2")"
+}
+
+# Runs a script, of which no line may be refused.
+plays() {
+    run "$@" session
+    : >"$room/input"
+    is "a script of ${1##*/} is done" '0 0' "$status $(grep -cvE '^(ok|data|evicted)' "$room/said")"
+}
+
+# Which values erase, and which are no values. What is no value does nothing.
+unset BLKCACHE_ERASE
+folder=$room/values
+mkdir "$folder"
+secret 2000
+hex=$data
+printf 'create 0 page\nwrite 0 0 0 %s\nclose 0\n' "$hex" >"$room/input"
+plays "$folder"
+before=$(both "$folder")
+is_no_value() {
+    BLKCACHE_ERASE=$1 run "$folder" "${@:2}"
+    is "BLKCACHE_ERASE is [$1], ${*:2}" '2 usage' "$status $said$complained"
+}
+for value in 2 01 00 yes true ' 1' '1 ' -1 +1 1.0 $'\xff' $'1\xff'; do
+    is_no_value "$value" doom page
+done
+for words in count list 'get page 0' 'put page 0' 'trim 0' verify 'inspect list' session 'gen 1 9' no-word-of-it; do
+    # shellcheck disable=SC2086
+    is_no_value yes $words
+done
+is 'values that are none: the folder' "$before" "$(both "$folder")"
+for value in unset '' 0 1; do
+    rm -rf "$room/try"
+    cp -a "$folder" "$room/try"
+    before=$(both "$room/try")
+    [ "$value" = unset ] || export BLKCACHE_ERASE=$value
+    for words in verify 'inspect list' 'inspect index' 'inspect file 1'; do
+        # shellcheck disable=SC2086
+        run "$room/try" $words
+        is "BLKCACHE_ERASE is [$value], $words" "0 $(env -u BLKCACHE_ERASE "$program" "$folder" $words)" "$status $said"
+    done
+    is "BLKCACHE_ERASE is [$value], words that only read: the folder" "$before" "$(both "$room/try")"
+    run "$room/try" doom page
+    is "BLKCACHE_ERASE is [$value], doom" '0 ok' "$status $said"
+    is "BLKCACHE_ERASE is [$value], pieces that are left" "$([ "$value" = 1 ] && echo 0 || echo 125)" "$(left_in "$room/try")"
+    run "$room/try" no-word-of-it
+    is "BLKCACHE_ERASE is [$value], other words" '2 usage' "$status $said"
+done
+unset BLKCACHE_ERASE
+
+# Entries whose keys and streams have each storage: the bytes of the key, and of the streams.
+drawn=0
+entries=('40 1023 112 256' '400 1024 4095 2000' '920 4096 16384 5000' '1008 16400 32 304' '3000 40000 16 704' '9008 16 0 12000' '20000 512 3008 30000')
+declare -a keys lines
+expected=0
+for number in "${!entries[@]}"; do
+    read -r -a sizes <<<"${entries[number]}"
+    secret "${sizes[0]}"
+    keys[number]=$text
+    lines[number]="create 0 $text"$'\n'
+    for stream in 0 1 2; do
+        secret "${sizes[stream + 1]}"
+        lines[number]+="write 0 $stream 0 ${data:--}"$'\n'
+    done
+    for size in "${sizes[@]}"; do
+        # What has a file of its own is no longer found once that is removed.
+        [ "$size" -gt 16384 ] || expected=$((expected + size / 16))
+    done
+done
+secret 48
+sparse=$text
+sparse_places='0 1047552 2097152'
+secret 3008
+parts="swrite 0 0 $data"$'\n'
+secret 4000
+parts+="swrite 0 1047552 $data"$'\n'
+secret 20000
+parts+="swrite 0 2097152 $data"$'\n'
+secret 1600
+stays_text=$text stays=$data
+
+# Makes a folder with all these, and one more entry, which stays.
+fill() {
+    rm -rf "$1"
+    mkdir "$1"
+    {
+        for number in "${!entries[@]}"; do
+            printf '%sclose 0\n' "${lines[number]}"
+        done
+        printf 'create 0 %s\n%sclose 0\n' "$sparse" "$parts"
+        printf 'create 0 stays\nwrite 0 0 0 %s\nclose 0\n' "$stays"
+    } >"$room/input"
+    plays "$1"
+}
+
+# Each way in which all but one of them go: prints the lines of a session, or runs words.
+by_doomkey() {
+    printf 'doomkey %s\n' "${keys[@]}" "$sparse" >"$room/input"
+    plays "$1"
+}
+by_doom_of_open() {
+    printf 'open 0 %s\ndoom 0\nclose 0\n' "${keys[@]}" "$sparse" >"$room/input"
+    plays "$1"
+}
+by_doom_at_the_end() {
+    local number=0 key
+    for key in "${keys[@]}" "$sparse"; do
+        printf 'open %d %s\ndoomkey %s\n' "$number" "$key" "$key"
+        number=$((number + 1))
+    done >"$room/input"
+    plays "$1"
+}
+by_eviction() {
+    printf 'create 0 more\nclose 0\n' >"$room/input"
+    plays "$1" --items 2
+}
+by_bytes() {
+    printf 'create 0 more\nwrite 0 0 0 6d6f7265\nclose 0\n' >"$room/input"
+    plays "$1" --max 3000
+}
+by_trim() {
+    run "$1" trim 1700
+    is 'it is trimmed' 0 "$status"
+}
+by_doom() {
+    local key
+    for key in "${keys[@]}" "$sparse"; do
+        run "$1" doom "$key"
+        is 'it is doomed' '0 ok' "$status $said"
+    done
+}
+stays() {
+    run "$1" get stays 0
+    is "$2: the one that stays" $'0 ok\ndata 1600 '"$stays"$'\nok' "$status $said"
+}
+for way in by_doom by_doomkey by_doom_of_open by_doom_at_the_end by_eviction by_bytes by_trim; do
+    export BLKCACHE_ERASE=1
+    fill "$room/gone"
+    "$way" "$room/gone"
+    is_gone "$way" "$room/gone"
+    stays "$room/gone" "$way"
+    run "$room/gone" trim 0
+    is_blank "$way, and then all" "$room/gone"
+    unset BLKCACHE_ERASE
+    fill "$room/kept"
+    "$way" "$room/kept"
+    is "$way, without erasing: each piece in a block is left" yes "$([ "$(left_in "$room/kept")" -ge "$expected" ] && echo yes)"
+done
+rm -rf "$room/gone" "$room/kept"
+
+# Streams that are cut: from one size to another, in the same storage and into another.
+cuts='1008:992 1008:512 1008:256 1008:16 1008:0 4080:4064 4080:2048 4080:1024 4080:1008 4080:96 4080:0 16384:16368 16384:8192 16384:4096
+16384:4080 16384:160 16384:0 20000:19984 24000:16400 20000:16384 20000:4000 20000:96 20000:0'
+cut_all() {
+    local it from to number=0
+    rm -rf "$1"
+    mkdir "$1"
+    drawn=0
+    : >"$room/cutting"
+    for it in $cuts; do
+        from=${it%:*} to=${it#*:}
+        secret "$from"
+        printf 'create 0 cut%d\nwrite 0 0 0 %s\nclose 0\n' "$number" "$data"
+        # By a cut without data and with some, and as the first change of an entry that is open or not.
+        secret 16
+        case $2 in
+            cut) printf 'open 0 cut%d\ncut 0 0 %d -\nclose 0\n' "$number" "$to" >>"$room/cutting" ;;
+            data) printf 'open 0 cut%d\ncut 0 0 %d %s\nclose 0\n' "$number" "$((to < 16 ? 0 : to - 16))" "$data" >>"$room/cutting" ;;
+            twice) printf 'open 0 cut%d\ncut 0 0 %d %s\ncut 0 0 %d -\nclose 0\n' "$number" "$((from - 16))" "$data" "$to" >>"$room/cutting" ;;
+            odd) printf 'open 0 cut%d\ncut 0 0 %d -\nclose 0\n' "$number" "$((to > 7 ? to - 7 : 0))" >>"$room/cutting" ;;
+        esac
+        number=$((number + 1))
+    done >"$room/input"
+    plays "$1"
+    cp "$room/cutting" "$room/input"
+    plays "$1"
+}
+# How many bytes the streams of a folder have that are stored in blocks of a size: those of a length from one number to another.
+bytes_from() {
+    run "$1" list
+    awk -v from="$2" -v to="$3" '$1 == "main" { for (it = 3; it <= 5; it++) if ($it >= from && $it <= to) sum += $it } END { print sum + 0 }' "$room/said"
+}
+for how in cut data twice odd; do
+    export BLKCACHE_ERASE=1
+    cut_all "$room/gone" "$how"
+    is_gone "cut ($how)" "$room/gone"
+    is "cut ($how): the bytes in blocks of 1024" "$(bytes_from "$room/gone" 1024 4095)" "$(bytes_in "$room/gone/data_2")"
+    is "cut ($how): the bytes in blocks of 4096" "$(bytes_from "$room/gone" 4096 16384)" "$(bytes_in "$room/gone/data_3")"
+    run "$room/gone" trim 0
+    is_blank "cut ($how), and then all" "$room/gone"
+    unset BLKCACHE_ERASE
+    cut_all "$room/kept" "$how"
+    is "cut ($how), without erasing: pieces are left" yes "$([ "$(left_in "$room/kept")" -gt 1000 ] && echo yes)"
+done
+
+# Streams that grow into another storage, that are written anew by put, and an entry that is made anew under its key.
+grown() {
+    local size
+    rm -rf "$1"
+    mkdir "$1"
+    drawn=0
+    printf 'create 0 grows\n' >"$room/input"
+    local at=0
+    for size in 112 144 256 512 3072 8192 4304 30000; do
+        secret "$size"
+        printf 'write 0 0 %d %s\n' "$at" "$data"
+        at=$((at + size))
+    done >>"$room/input"
+    printf 'close 0\n' >>"$room/input"
+    plays "$1"
+}
+replaced() {
+    local size
+    rm -rf "$1"
+    mkdir "$1"
+    drawn=0
+    for size in 16000 9008 4096 3008 512 16 1008 48 40000 32 16400 16368; do
+        secret "$size"
+        printf %s "$text" >"$room/input"
+        run "$1" put page 1
+        is "put of $size" $'0 ok\nok '"$size"$'\nok' "$status $said"
+    done
+    : >"$room/input"
+}
+anew() {
+    local size
+    rm -rf "$1"
+    mkdir "$1"
+    drawn=0
+    for size in 9008 3008 304 20000; do
+        secret "$size"
+        printf 'create 0 page\nwrite 0 0 0 %s\nclose 0\ndoomkey page\n' "$data"
+    done >"$room/input"
+    plays "$1"
+}
+for way in grown replaced anew; do
+    export BLKCACHE_ERASE=1
+    "$way" "$room/gone"
+    is_gone "$way" "$room/gone"
+    run "$room/gone" trim 0
+    is_blank "$way, and then all" "$room/gone"
+    unset BLKCACHE_ERASE
+    "$way" "$room/kept"
+    is "$way, without erasing: pieces are left" yes "$([ "$(left_in "$room/kept")" -gt 0 ] && echo yes)"
+done
+
+# The bytes of a file that is removed or cut, as one sees them who opened it before.
+for erasing in 1 ''; do
+    rm -rf "$room/gone"
+    mkdir "$room/gone"
+    drawn=0
+    secret 40000
+    printf %s "$text" >"$room/input"
+    run "$room/gone" put page 0
+    exec 7<"$room/gone/f_000001"
+    : >"$room/input"
+    BLKCACHE_ERASE=$erasing run "$room/gone" doom page
+    is "a file that was open, with erasing [$erasing]" "40000 $([ "$erasing" = 1 ] && echo 0 || echo 40000)" "$(wc -c </dev/fd/7) $(tr -d '\0' </dev/fd/7 | wc -c)"
+    exec 7<&-
+done
+
+# A folder that is made anew: nothing of the old one is left.
+export BLKCACHE_ERASE=1
+fill "$room/gone"
+rm "$room/gone/index"
+run "$room/gone" count
+is 'a folder without an index is made anew' "0 $empty_line" "$status $said"
+is_blank 'a folder that is made anew' "$room/gone"
+unset BLKCACHE_ERASE
+
+# Every reply is the same with erasing and without: those of a script that is drawn, of the words behind it, and of a game. Behind it
+# no block that is free holds a byte.
+draw_script "$seed" 2500 >"$room/drawn"
+for limits in '--max 400000 --items 12' '--max 9000000 --items 60'; do
+    for erasing in 0 1; do
+        rm -rf "$room/drawn$erasing"
+        mkdir "$room/drawn$erasing"
+        export BLKCACHE_ERASE=$erasing
+        for words in session list count verify "$limits" 'gen 5 400' list verify; do
+            cp "$room/drawn" "$room/input"
+            [ "$words" != "$limits" ] || words=session
+            # shellcheck disable=SC2086
+            run "$room/drawn$erasing" $limits $words
+            echo "$status $words"
+            cat "$room/said"
+        done >"$room/all$erasing"
+        : >"$room/input"
+    done
+    is "a script that is drawn, $limits (ERASE_SEED=$seed)" '' "$(cmp "$room/all0" "$room/all1" 2>&1)"
+    is "a script that is drawn, $limits: no block that is free holds a byte (ERASE_SEED=$seed)" 0 "$(blocks_left_in "$room/drawn1")"
+    is "a script that is drawn, $limits: the control" yes "$([ "$(blocks_left_in "$room/drawn0")" -gt 0 ] && echo yes)"
+    run "$room/drawn1" trim 0
+    is_blank "a script that is drawn, $limits, and then all (ERASE_SEED=$seed)" "$room/drawn1"
+done
+unset BLKCACHE_ERASE
+
+# A kill at each place of what is written, and the next opening, which may be killed too.
+if ! command -v cc >/dev/null || ! cc -shared -fPIC -o "$room/stopped.so" "$top/tests/stopped.c" -ldl 2>/dev/null; then
+    skip 'what a kill leaves' 'cc is missing'
+    finish
+fi
+stopped() {
+    { STOPPED=$1 LD_PRELOAD=$room/stopped.so "$program" "${@:2}" <"$room/input" >"$room/said" 2>"$room/complained"; } 2>/dev/null
+    status=$?
+}
+export BLKCACHE_ERASE=1
+mkdir "$room/base"
+drawn=0
+secret 40; first=$text
+secret 304; second=$text
+secret 5008; third=$text
+{
+    secret 112; printf 'create 0 %s\nwrite 0 0 0 %s\n' "$first" "$data"
+    secret 2000; printf 'write 0 1 0 %s\n' "$data"
+    secret 8192; printf 'write 0 2 0 %s\nclose 0\n' "$data"
+    secret 20000; printf 'create 0 %s\nwrite 0 0 0 %s\nclose 0\n' "$second" "$data"
+    secret 304; printf 'create 0 %s\nwrite 0 0 0 %s\nclose 0\n' "$third" "$data"
+    sparse_places=1047552
+    secret 3008; printf 'create 0 sparse\nswrite 0 1047552 %s\nclose 0\n' "$data"
+} >"$room/input"
+plays "$room/base"
+secret 1008; new=$text
+secret 4000; longer=$data
+places=0
+# Kills the program at each place: NAME INPUT WORDS
+kills() {
+    local name=$1 input=$2 number=$((RANDOM % step + 1))
+    while :; do
+        rm -rf "$room/try"
+        cp -a "$room/base" "$room/try"
+        printf %b "$input" >"$room/input"
+        stopped "$number" "$room/try" "${@:3}"
+        : >"$room/input"
+        [ "$status" = 137 ] || break
+        places=$((places + 1))
+        [ $((RANDOM % 3)) != 0 ] || stopped $((RANDOM % 60 + 1)) "$room/try" count
+        run "$room/try" count
+        is "$name, killed at place $number: the next opening" '0 items' "$status ${said%% *}"
+        is_gone "$name, killed at place $number" "$room/try"
+        number=$((number + step))
+    done
+    is "$name, killed nowhere" 0 "$status"
+    is_gone "$name, killed nowhere" "$room/try"
+}
+kills 'doom of blocks' '' doom "$first"
+kills 'doom of a file' '' doom "$second"
+kills 'doom with a long key' '' doom "$third"
+kills 'doom of sparse data' '' doom sparse
+kills 'trim' '' trim 0
+kills 'put in the same blocks' "$new" put "$first" 1
+kills 'put in place of a file' "$new" put "$second" 0
+kills 'eviction' "$new" put more 0 --items 3
+kills 'cuts' "open 0 $first\ncut 0 0 64 -\ncut 0 1 1040 -\ncut 0 2 4096 -\ncut 0 2 512 -\nclose 0\n" session
+kills 'growth, and a file that is cut' "open 0 $first\nwrite 0 0 64 $longer\nclose 0\nopen 0 $second\ncut 0 0 16400 -\nclose 0\n" session
+kills 'doom of open entries' "open 0 $first\ndoom 0\nopen 1 $second\ndoom 1\nclose 1\nclose 0\n" session
+echo "$places places of a kill were tried"
+finish
