@@ -1,8 +1,8 @@
 -- The conditions of a search at a small folder, which has one entry with the key "a".
-use Rattle.std.proofs.Common.{◌≡◌, ℕ, true, false, List, [], ◌∷◌, length, None, refl, sym, subst, lit≤, ⊎_elim}
+use Rattle.std.proofs.Common.{◌≡◌, ℕ, true, false, List, [], ◌∷◌, length, Some, None, refl, sym, subst, lit≤, ⊎_elim}
 use Rattle.std.specs.Prelude.{◌==◌, ◌≤◌}
 use Rattle.std.proofs.lemmas.Bool.{or_cases, eqb-true}
-use Rattle.blk_image.specs.Bytes.{zeros, spliced, range_at}
+use Rattle.blk_image.specs.Bytes.{zeros, spliced, range_at, words_at}
 use Rattle.blk_image.specs.Steps.{with_word}
 use Rattle.blk_image.specs.Image.{Image}
 use Rattle.blk_format.specs.Address.{is_address, is_initialized, names_external, names_blocks, kind_of, reserved_bits, block_count, file_selector, first_block, external_number, block_size, block_place, place, byte_size}
@@ -11,17 +11,18 @@ use Rattle.blk_format.specs.Hash.{hash, mixed, of_bytes, of_one}
 use Rattle.blk_format.specs.Records.{entry_in, entry_checks}
 use Rattle.blk_format.specs.Standing.{stands, stands_as_blocks}
 use Rattle.blk_format.specs.Storage.{entry_blocks}
-use Rattle.blk_volume.specs.Chains.{IsChain}
-use Rattle.blk_volume.specs.Entries.{is_key_length, stored_key}
-use Rattle.blk_volume.specs.View.{fields_at, fields_of, entry_at, follow_at, key_place_at, store_of}
+use Rattle.blk_volume.specs.Chains.{IsChain, bucket_of_hash}
+use Rattle.blk_volume.specs.Entries.{is_key_length}
+use Rattle.blk_volume.specs.View.{RecordFields, fields_at, entry_at, key_place_at, store_of}
 use Rattle.blk_laws.proofs.examples.SmallFolder.{small_records, folder_with}
-use Rattle.blk_entry.specs.Keys.{HasReadableKey, key_at}
+use Rattle.blk_entry.specs.Keys.{HasReadableKey}
 use Rattle.blk_chain.specs.Examples.{SomeChainIsSearched}
 use Rattle.blk_chain.specs.Finding.{CanBeSearched, IsFound}
 use Rattle.blk_volume.specs.Searches.{bucket_of_key, chained_for, HasKey}
 use Rattle.blk_chain.specs.Unlinking.{StandsBehind}
 use Rattle.blk_chain.proofs.Pairs.{chain-words}
 use Rattle.blk_chain.proofs.Searches.{found-linked}
+use Rattle.blk_chain.proofs.SmallRecords.{Says, bare_fields, says-key, says-next, says-of_bucket, says-readable, small-bucket}
 
 abbrev small : Image
 small = folder_with small_records
@@ -32,17 +33,34 @@ entry = 0xA0010000
 abbrev key : List ℕ
 key = 97 ∷ []
 
+-- the record: two bytes of stream 0 at block 1 of data_1
+abbrev fields : RecordFields
+fields = record (bare_fields 0x115EA782 0x90000000 1) { data_size = 2 ∷ 0 ∷ 0 ∷ 0 ∷ []; data_addr = 0xA0010001 ∷ 0 ∷ 0 ∷ 0 ∷ [] }
+
+shown : (fields_at small entry ≡ Some fields) × ((entry_at small entry).next ≡ 0) × (key_place_at small entry 1 ≡ key)
+unfolding fields_at key_place_at folder_with zeros with_word spliced next_file_in max_entries_in linked files_along kind_among stands stands_as_blocks is_address is_initialized names_external names_blocks kind_of reserved_bits block_count file_selector first_block external_number block_size block_place place byte_size entry_in entry_checks words_at range_at
+shown = (refl, refl, refl)
+
+key-hash : hash key ≡ 0x115EA782
+unfolding hash mixed of_bytes of_one
+key-hash = refl
+
+says : Says small entry fields 0 key
+unfolding store_of
+says = record { here = shown.0; next_is = shown.1; hashed = sym key-hash; checks = refl; short = refl; in_place = refl; bytes = shown.2 }
+
 is_named : HasKey (store_of small) key false entry
-unfolding store_of fields_at key_place_at folder_with zeros with_word spliced next_file_in max_entries_in linked files_along kind_among stands stands_as_blocks is_address is_initialized names_external names_blocks kind_of reserved_bits block_count file_selector first_block external_number block_size block_place place byte_size entry_in entry_checks stored_key hash mixed of_bytes of_one range_at
-is_named = record { fields = fields_of (entry_at small entry); here = refl; hashed = refl; key = refl; flag = refl }
+is_named = says-key says
+
+right-length : is_key_length entry fields ≡ true
+unfolding is_key_length block_count entry_blocks
+right-length = refl
 
 is_readable : HasReadableKey entry small
-unfolding key_at is_key_length entry_blocks store_of fields_at key_place_at folder_with zeros with_word spliced next_file_in max_entries_in linked files_along kind_among stands stands_as_blocks is_address is_initialized names_external names_blocks kind_of reserved_bits block_count file_selector first_block external_number block_size block_place place byte_size entry_in entry_checks stored_key range_at
-is_readable = record { key = key; is = refl }
+is_readable = says-readable says right-length
 
 is_chained : IsChain (store_of small) (bucket_of_key key) (entry ∷ [])
-unfolding store_of fields_at follow_at folder_with zeros with_word spliced next_file_in max_entries_in linked files_along kind_among stands stands_as_blocks is_address is_initialized names_external names_blocks kind_of reserved_bits block_count file_selector first_block external_number block_size block_place place byte_size entry_in entry_checks hash mixed of_bytes of_one range_at
-is_chained = record { linked = (refl, refl, refl); once = (refl, tt) }
+is_chained = subst (λ (h : ℕ). IsChain (store_of small) (bucket_of_hash h) (entry ∷ [])) (sym key-hash) (record { linked = (small-bucket small_records, says-of_bucket says 0xA782 refl, says-next says); once = (refl, tt) })
 
 words : chained_for (store_of small) key ≡ entry ∷ []
 words = chain-words small (bucket_of_key key) (entry ∷ []) is_chained

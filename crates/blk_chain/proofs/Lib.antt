@@ -9,5 +9,6 @@ pub mod Keys
 pub mod Searches
 pub mod Heads
 pub mod Pairs
+pub mod SmallRecords
 pub mod Examples
 pub mod LinkExamples
