@@ -20,6 +20,3 @@ pub fn turns_are_counted()
     ensures says { TurnsSayTheirCounts }
     ensures few { CommandsOfTurnsAreFew }
 {}
-
-#[cfg(test)]
-mod tests;

@@ -19,6 +19,3 @@ pub use held::{Access, Held, NotHeld};
 pub use patient::Patient;
 pub use stand_ins::StandIns;
 pub use streams::{StdSink, StdSource, SystemClock};
-
-#[cfg(test)]
-mod tests;

@@ -1,8 +1,10 @@
-//! The tests of the crates of values: limits, addresses, records, handles, lines, maps of parts.
+//! The tests of the crates of values: limits, addresses, records, handles, lines, maps of parts, what is drawn.
 #![tactic(auto)]
 
 #[cfg(test)]
 mod addr;
+#[cfg(test)]
+mod drawing;
 #[cfg(test)]
 mod handles;
 #[cfg(test)]

@@ -1,4 +1,5 @@
-use crate::{Counts, Draws, Turn, fill};
+// What is drawn from a seed, and what is counted.
+use blk_gen::{Counts, Draws, Turn, fill};
 use blk_io::MemSink;
 use blk_model::{Answer, Refusal};
 

@@ -1,0 +1,11 @@
+//! The tests of the real objects, on the machine.
+#![tactic(auto)]
+
+#[cfg(test)]
+mod files;
+#[cfg(test)]
+mod folders;
+#[cfg(test)]
+mod held;
+#[cfg(test)]
+mod streams;
