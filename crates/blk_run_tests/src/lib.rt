@@ -1,4 +1,4 @@
-//! The tests of whole runs: the word `count`, and sessions.
+//! The tests of whole runs: the word `count`, sessions, and sparse data, with what is printed, writes at the borders of parts and blocks, stops at words, and folder calls.
 #![tactic(auto)]
 
 #[cfg(test)]
@@ -7,3 +7,13 @@ mod counting;
 mod long_session;
 #[cfg(test)]
 mod playing;
+#[cfg(test)]
+mod sparse_borders;
+#[cfg(test)]
+mod sparse_calls;
+#[cfg(test)]
+mod sparse_rows;
+#[cfg(test)]
+mod sparse_sessions;
+#[cfg(test)]
+mod sparse_stops;

@@ -1,4 +1,4 @@
-//! The tests of the audit and of the repair of whole folders.
+//! The tests of whole folders: the audit, the repair, what is printed of them, and objects that are made and removed.
 #![tactic(auto)]
 
 #[cfg(test)]
@@ -7,6 +7,14 @@ mod calls;
 mod cases;
 #[cfg(test)]
 mod long;
+#[cfg(test)]
+mod objects;
+#[cfg(test)]
+mod printed_entries;
+#[cfg(test)]
+mod printed_parts;
+#[cfg(test)]
+mod printed_reasons;
 #[cfg(test)]
 mod reasons;
 #[cfg(test)]

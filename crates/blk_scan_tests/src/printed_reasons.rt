@@ -1,5 +1,5 @@
 // What is printed of a folder that is verified.
-use crate::entries::{JIO, PARENT_INDEX, STREAMS, changed, holds};
+use crate::printed_entries::{JIO, PARENT_INDEX, STREAMS, changed, holds};
 use blk_test_folders::folders::Change::{Bucket, Word};
 use blk_test_folders::folders::{
     ADDRS, BACK, CONTENTS, Change, DIRTY, FLAGS, KEY, KEY_LEN, LONG_KEY, NODE_NEXT, PREV, SEAL,

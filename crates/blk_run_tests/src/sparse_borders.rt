@@ -1,5 +1,5 @@
 // Writes at the borders of parts and blocks.
-use crate::sessions::Session;
+use crate::sparse_sessions::Session;
 use blk_cache::StepFault;
 use blk_io::MemSink;
 use blk_model::{Answer, Command, Refusal};

@@ -1,5 +1,7 @@
 // What is printed of the parts of a folder.
-use crate::entries::{IEV, PARENT, STREAMS, all_entries, cut, holds, no_entries, shows, twins};
+use crate::printed_entries::{
+    IEV, PARENT, STREAMS, all_entries, cut, holds, no_entries, shows, twins,
+};
 use blk_inspect::{InspectFault, Part};
 use blk_io::{MemFolder, SilentFolder};
 use blk_test_folders::folders::Change::Index;

@@ -1,5 +1,5 @@
 // Sessions on sparse data that are stopped, and openings of what they left that are stopped too.
-use crate::sessions::{Held, LIMITS, MOMENT, held};
+use crate::sparse_sessions::{Held, LIMITS, MOMENT, held};
 use blk_cache::Cache;
 use blk_io::{MemFolder, MemSink, NoMemory, SilentFolder};
 use blk_model::{Command, Limits};

@@ -1,5 +1,5 @@
 // The folder calls of commands on sparse data.
-use crate::sessions::Session;
+use crate::sparse_sessions::Session;
 use blk_model::Command;
 use std::test::Fail;
 
