@@ -1,13 +1,13 @@
 -- The bytes of a folder that keeps the worked state, with each block file as long as its blocks that are used: it is well formed, and represents the state.
 use Rattle.std.proofs.Common.{◌≡◌, ◌≢◌, ◌⊎◌, inl, inr, ⊎_elim, ℕ, zero, suc, ◌+◌, ◌<◌, ◌≤◌, List, [], ◌∷◌, ◌++◌, refl, ap, sym, ◌∙◌, subst, arith, lit≤, Bool, Some, None, true, false, Ok}
-use Rattle.std.specs.Prelude.{if◌then◌else◌, ◌==◌, codes, replicate}
+use Rattle.std.specs.Prelude.{if◌then◌else◌, ◌==◌, ◌^◌, codes, length, nat_le, replicate}
 use Rattle.std.specs.Fmt.{digits}
 use Rattle.std.proofs.lemmas.Bool.{eq-eqb, eqb-true, cases_lt}
-use Rattle.blk_image.specs.Bytes.{range_at, spliced, words_at, zeros}
+use Rattle.blk_image.specs.Bytes.{content, range_at, spliced, word_at, words_at, zeros}
 use Rattle.blk_image.specs.Image.{Index, Block, Image, byte}
 use Rattle.blk_image.specs.Steps.{with_word, with_words}
 use Rattle.blk_image.proofs.Splices.{content-zeros, length-zeros}
-use Rattle.blk_image.proofs.Words.{word-zeros}
+use Rattle.blk_image.proofs.Words.{length-with_words, word-there, word-zeros}
 use Rattle.blk_format.specs.Address.{block_count, block_place, block_size, byte_size, external, external_number, file_selector, first_block, is_address, is_initialized, kind_of, names_blocks, names_external, place, reserved_bits}
 use Rattle.blk_format.specs.BlockFiles.{IsWellFormed, checks_along, checks_of_kind, file_checks, files_along, is_block_count, is_link, kind_among, linked, linked_up_to, max_entries_in, next_file_in, stands_in}
 use Rattle.blk_format.specs.Hash.{hash, mixed, of_bytes, of_four, of_one, of_three, of_two}
@@ -17,21 +17,22 @@ use Rattle.blk_format.specs.NewFolder.{new_file_words, new_index_words}
 use Rattle.blk_format.specs.Records.{entry_body, entry_checks, entry_in, entry_is_sealed, node_body, node_checks, node_in, node_is_sealed}
 use Rattle.blk_format.specs.SparseIndex.{read_parent_index, read_part_index}
 use Rattle.blk_format.specs.Standing.{stands, stands_as_blocks}
-use Rattle.blk_format.specs.Storage.{blocks_for, entry_blocks, is_storage, kind_for}
+use Rattle.blk_format.specs.Storage.{blocks_for, entry_blocks, is_storage, kind_for, longest_short_key}
 use Rattle.blk_volume.specs.Chains.{IsChain, is_of_bucket}
 use Rattle.blk_format.proofs.Bodies.{range-add}
-use Rattle.blk_volume.specs.Entries.{IsParent, is_covered, is_key_length, parent_role, part_role, role_of, stored_key, stored_stream, stored_streams}
+use Rattle.blk_volume.specs.Entries.{IsParent, IsPlain, is_covered, is_key_length, parent_role, part_role, role_of, stored_key, stored_stream, stored_streams}
 use Rattle.blk_volume.specs.Layout.{Represents, order, rule_of}
-use Rattle.blk_volume.specs.ListView.{IsList}
-use Rattle.blk_volume.specs.Loads.{Loaded, load, load_key, load_record, unchained_rule}
-use Rattle.blk_volume.specs.View.{RecordFields, block_bytes, checks_at, fields_at, follow_at, key_place_at, list_of, next_at, node_fields_at, prev_at, store_of, stored_at, view_of}
+use Rattle.blk_volume.specs.ListView.{IsList, Segment}
+use Rattle.blk_volume.specs.Loads.{Loaded, load, unchained_rule}
+use Rattle.blk_volume.specs.View.{RecordFields, block_bytes, checks_at, entry_at, fields_at, key_place_at, list_of, next_at, node_fields_at, prev_at, store_of, stored_at, view_of}
+use Rattle.blk_laws.proofs.chains.ChainWords.{shown-chain_next}
 use Rattle.blk_laws.proofs.states.Bare.{no-record}
 use Rattle.blk_laws.proofs.states.NewFolders.{Neighbours, words_beside}
 use Rattle.blk_laws.proofs.examples.WholeMarks.{byte-outside, content-words, over_all}
 use Rattle.blk_laws.proofs.walks.Loading.{load-from}
 use Rattle.blk_laws.proofs.walks.Loads.{IsKeyed}
 use Rattle.blk_kept.proofs.LaidOut.{looked}
-use Rattle.blk_kept.proofs.WorkedState.{all_four, chain_of, index_head, nodes, parent_bytes, parent_index, records, the_doomed, the_parent, the_part, the_plain, worked, worked-lies, worked_layout}
+use Rattle.blk_kept.proofs.WorkedState.{all_four, chain_of, index_head, nodes, parent_bytes, parent_index, records, part_bytes, the_doomed, the_parent, the_part, the_plain, worked, worked-lies, worked_layout}
 
 -- three items, and the sum of their charges; session 7 is open; the list goes from the part over its parent to `b`, and each of them is alone in its chain
 abbrev pub index_words : List (ℕ × ℕ)
@@ -132,9 +133,13 @@ parent-named : ((store_of short_folder).node_fields (nodes 0) ≡ Some (record {
 unfolding short_folder zeros with_word spliced next_file_in max_entries_in linked files_along kind_among store_of node_fields_at fields_at stands stands_as_blocks is_address is_initialized names_external names_blocks kind_of reserved_bits block_count file_selector first_block external_number block_size block_place place byte_size entry_checks entry_is_sealed node_in entry_in entry_body words_at hash mixed of_bytes of_four of_three of_two of_one
 parent-named = (refl, refl)
 
+parent-key : key_place_at short_folder (records 0) 1 ≡ codes "a"
+unfolding key_place_at range_at short_folder zeros with_word spliced file_selector kind_of first_block block_size block_place place
+parent-key = refl
+
 parent-keyed : IsKeyed (store_of short_folder) (unchained_rule 0) (nodes 0) (records 0) 0 parent_fields (codes "a")
-unfolding short_folder zeros with_word spliced store_of key_place_at stored_key is_key_length range_at kind_of block_count file_selector first_block block_size block_place place entry_blocks hash mixed of_bytes of_one
-parent-keyed = record { state = refl; back = refl; flags = refl; clean = refl; key_length = refl; key = refl; hashed = refl; chained = refl }
+unfolding store_of stored_key is_key_length block_count entry_blocks hash mixed of_bytes of_one
+parent-keyed = record { state = refl; back = refl; flags = refl; clean = refl; key_length = refl; key = rw parent-key refl; hashed = refl; chained = refl }
 
 no-stream : (store_of short_folder).stored 0 0 ≡ Some []
 unfolding store_of stored_at is_storage
@@ -160,27 +165,127 @@ parent-loads = load-from (store_of short_folder) (unchained_rule 0) (nodes 0) th
   facts = record { keyed = parent-keyed; streams = parent-streams; role = parent-role; node_is = refl; contents_is = refl; dirty_is = refl; others_are = refl };
 })
 
+-- the records of the part, of `b` and of the doomed object
+abbrev part_fields : RecordFields
+part_fields = record { checks = true; hash = 0xEA940B6C; rankings_node = nodes 1; state = 0; key_len = 12; long_key = 0; data_size = 0 ∷ 2 ∷ 192 ∷ 0 ∷ []; data_addr = 0 ∷ 0xA0010006 ∷ 0xA0010007 ∷ 0 ∷ []; flags = 2 }
+
+abbrev plain_fields : RecordFields
+plain_fields = record { checks = true; hash = 0x70C1A0E1; rankings_node = nodes 2; state = 0; key_len = 1; long_key = 0; data_size = 2 ∷ 0 ∷ 0 ∷ 0 ∷ []; data_addr = 0xA0010004 ∷ 0 ∷ 0 ∷ 0 ∷ []; flags = 0 }
+
+abbrev doomed_fields : RecordFields
+doomed_fields = record { checks = true; hash = 0xF381A0E1; rankings_node = nodes 3; state = 2; key_len = 3; long_key = 0; data_size = 3 ∷ 0 ∷ 0 ∷ 0 ∷ []; data_addr = 0xA0010005 ∷ 0 ∷ 0 ∷ 0 ∷ []; flags = 0 }
+
+-- what the bytes of a node and of its record say
+record Shown (node contents dirty : ℕ) (fields : RecordFields) (key : List ℕ) : Type 0 where
+  named : node_fields_at short_folder node ≡ Some (record { contents = contents; dirty = dirty })
+  here : fields_at short_folder contents ≡ Some fields
+  key_bytes : key_place_at short_folder contents fields.key_len ≡ key
+
+three-shown : Shown (nodes 1) (records 1) 0 part_fields the_part.key × Shown (nodes 2) (records 2) 0 plain_fields (codes "b") × Shown (nodes 3) (records 3) 7 doomed_fields the_doomed.key
+unfolding short_folder zeros with_word spliced next_file_in max_entries_in linked files_along kind_among node_fields_at fields_at key_place_at range_at stands stands_as_blocks is_address is_initialized names_external names_blocks kind_of reserved_bits block_count file_selector first_block external_number block_size block_place place byte_size node_in entry_checks entry_is_sealed entry_in entry_body words_at hash mixed of_bytes of_four
+three-shown = (record { named = refl; here = refl; key_bytes = refl }, record { named = refl; here = refl; key_bytes = refl }, record { named = refl; here = refl; key_bytes = refl })
+
+-- and their streams
+four-stored : (stored_at short_folder 2 0xA0010006 ≡ Some (codes "xx")) × (stored_at short_folder 192 0xA0010007 ≡ Some part_bytes) × (stored_at short_folder 2 0xA0010004 ≡ Some (codes "zz")) × (stored_at short_folder 3 0xA0010005 ≡ Some (codes "yyy"))
+unfolding short_folder zeros with_word spliced next_file_in max_entries_in linked files_along kind_among stored_at range_at stands stands_as_blocks is_address is_initialized names_external names_blocks kind_of reserved_bits block_count file_selector first_block external_number block_size block_place place byte_size kind_for blocks_for is_storage
+four-stored = (refl, refl, refl, refl)
+
+short-keyed : (node contents dirty state : ℕ) (fields : RecordFields) (key : List ℕ) → Shown node contents dirty fields key → (fields.state == state) ≡ true → (fields.rankings_node == node) ≡ true → nat_le fields.flags 2 ≡ true
+    → is_key_length contents fields ≡ true → nat_le fields.key_len longest_short_key ≡ true → (fields.long_key == 0) ≡ true → (fields.hash == hash key) ≡ true → IsKeyed (store_of short_folder) (unchained_rule state) node contents dirty fields key
+unfolding store_of stored_key
+short-keyed node contents dirty state fields key shown right back flags long short in_place hashed = record { state = right; back = back; flags = flags; clean = refl; key_length = long; key = rw (short, in_place, shown.key_bytes) refl; hashed = hashed; chained = refl }
+
+key-lengths : (is_key_length (records 1) part_fields ≡ true) × (is_key_length (records 2) plain_fields ≡ true) × (is_key_length (records 3) doomed_fields ≡ true)
+unfolding is_key_length block_count entry_blocks
+key-lengths = (refl, refl, refl)
+
+key-hashes : ((0xEA940B6C == hash the_part.key) ≡ true) × ((0x70C1A0E1 == hash (codes "b")) ≡ true) × ((0xF381A0E1 == hash the_doomed.key) ≡ true)
+unfolding hash mixed of_bytes of_one of_two of_three of_four
+key-hashes = (refl, refl, refl)
+
+four-there : ((store_of short_folder).stored 2 0xA0010006 ≡ Some (codes "xx")) × ((store_of short_folder).stored 192 0xA0010007 ≡ Some part_bytes) × ((store_of short_folder).stored 2 0xA0010004 ≡ Some (codes "zz")) × ((store_of short_folder).stored 3 0xA0010005 ≡ Some (codes "yyy"))
+unfolding store_of
+four-there = four-stored
+
+three-streams : (stored_streams (store_of short_folder) part_fields ≡ Some the_part.streams) × (stored_streams (store_of short_folder) plain_fields ≡ Some the_plain.streams) × (stored_streams (store_of short_folder) doomed_fields ≡ Some the_doomed.streams)
+unfolding stored_streams stored_stream
+three-streams = (rw (no-stream, four-there.0, four-there.1) refl, rw (no-stream, four-there.2) refl, rw (no-stream, four-there.3) refl)
+
+three-roles : (role_of part_fields the_part.key the_part.streams ≡ Some the_part.role) × (role_of plain_fields the_plain.key the_plain.streams ≡ Some IsPlain) × (role_of doomed_fields the_doomed.key the_doomed.streams ≡ Some IsPlain)
+unfolding role_of part_role is_covered read_part_index read_name split_last child_name digits words_at
+three-roles = (refl, refl, refl)
+
+short-loads : (node contents dirty state : ℕ) (fields : RecordFields) (loaded : Loaded) → Shown node contents dirty fields loaded.key → fields.checks ≡ true → IsKeyed (store_of short_folder) (unchained_rule state) node contents dirty fields loaded.key
+    → stored_streams (store_of short_folder) fields ≡ Some loaded.streams → role_of fields loaded.key loaded.streams ≡ Some loaded.role → loaded.node ≡ node → loaded.contents ≡ contents → loaded.dirty ≡ dirty → loaded.others ≡ fields.long_key ∷ fields.data_addr
+    → load (store_of short_folder) (unchained_rule state) node ≡ Ok loaded
+unfolding store_of
+short-loads node contents dirty state fields loaded shown checks keyed streams role node_is contents_is dirty_is others_are =
+    load-from (store_of short_folder) (unchained_rule state) node loaded (record { contents = contents; dirty = dirty }) fields (record {
+      node = shown.named;
+      entry = shown.here;
+      checks = checks;
+      facts = record { keyed = keyed; streams = streams; role = role; node_is = node_is; contents_is = contents_is; dirty_is = dirty_is; others_are = others_are };
+    })
+
 others-load : Loads (nodes 1) the_part × Loads (nodes 2) the_plain × Loads (nodes 3) the_doomed
-unfolding short_folder zeros with_word spliced next_file_in max_entries_in linked files_along kind_among load load_record load_key is_key_length stored_key stored_stream stored_streams role_of part_role is_covered read_part_index read_name split_last child_name digits store_of node_fields_at fields_at key_place_at stored_at stands stands_as_blocks is_address is_initialized names_external names_blocks kind_of reserved_bits block_count file_selector first_block external_number block_size block_place place byte_size kind_for blocks_for entry_blocks is_storage node_checks node_is_sealed entry_checks entry_is_sealed node_in node_body entry_in entry_body range_at words_at hash mixed of_bytes of_four of_three of_two of_one
-others-load = (refl, refl, refl)
+others-load = (
+  short-loads (nodes 1) (records 1) 0 0 part_fields the_part three-shown.0 refl (short-keyed (nodes 1) (records 1) 0 0 part_fields the_part.key three-shown.0 refl refl refl key-lengths.0 refl refl key-hashes.0) three-streams.0 three-roles.0 refl refl refl refl,
+  short-loads (nodes 2) (records 2) 0 0 plain_fields the_plain three-shown.1 refl (short-keyed (nodes 2) (records 2) 0 0 plain_fields (codes "b") three-shown.1 refl refl refl key-lengths.1 refl refl key-hashes.1) three-streams.1 three-roles.1 refl refl refl refl,
+  short-loads (nodes 3) (records 3) 7 2 doomed_fields the_doomed three-shown.2 refl (short-keyed (nodes 3) (records 3) 7 2 doomed_fields the_doomed.key three-shown.2 refl refl refl key-lengths.2 refl refl key-hashes.2) three-streams.2 three-roles.2 refl refl refl refl,
+)
 
 each-loads : (node : ℕ) (loaded : Loaded) → worked_layout.at node ≡ Some loaded → Loads node loaded
 each-loads = looked Loads all_four (parent-loads, (others-load.0, (others-load.1, (others-load.2, tt))))
 
+-- the words of the index that say the list, by the law on the words that make it
+index-none : (p : ℕ) → Neighbours p index_words → word_at (byte short_folder Index) p ≡ 0
+unfolding short_folder
+index-none p beside = words_beside p index_words (zeros index_length) beside ∙ word-zeros index_length p
+
+-- a word of the index behind which only these were written
+index-there : (ws later : List (ℕ × ℕ)) (p value : ℕ) → with_words index_words (zeros index_length) ≡ with_words later (with_word p value (with_words ws (zeros index_length))) → value < 2 ^ 32 → p + 4 ≤ index_length → Neighbours p later → word_at (byte short_folder Index) p ≡ value
+unfolding short_folder
+index-there ws later p value is small room beside =
+    ap (λ (bytes : List ℕ). word_at (content bytes) p) is
+    ∙ words_beside p later (with_word p value (with_words ws (zeros index_length))) beside
+    ∙ word-there p value (with_words ws (zeros index_length)) small (let long : length (with_words ws (zeros index_length)) ≡ index_length = length-with_words ws (zeros index_length) ∙ length-zeros index_length in omega arith)
+
+abbrev counters : List (ℕ × ℕ)
+counters = new_index_words 50 ++ (8, 3) ∷ (12, 8466) ∷ (20, 7) ∷ (32, 1) ∷ (268, 3) ∷ []
+
+abbrev buckets : List (ℕ × ℕ)
+buckets = (12064, 0xA0010001) ∷ (165108, 0xA0010002) ∷ (171896, 0xA0010000) ∷ []
+
+head-is : word_at (byte short_folder Index) 288 ≡ nodes 1
+head-is = index-there counters ((308, 0x90000002) ∷ buckets) 288 (nodes 1) refl (lit≤ tt) (lit≤ tt) (inl (lit≤ tt), (inl (lit≤ tt), (inl (lit≤ tt), (inl (lit≤ tt), tt))))
+
+tail-is : word_at (byte short_folder Index) 308 ≡ nodes 2
+tail-is = index-there (counters ++ (288, 0x90000001) ∷ []) buckets 308 (nodes 2) refl (lit≤ tt) (lit≤ tt) (inl (lit≤ tt), (inl (lit≤ tt), (inl (lit≤ tt), tt)))
+
+-- the nodes, each with its next and its prev
+nodes-joined : Segment (checks_at short_folder) (next_at short_folder) (prev_at short_folder) (nodes 1) (nodes 1 ∷ nodes 0 ∷ nodes 2 ∷ []) (nodes 2)
+unfolding checks_at next_at prev_at short_folder zeros with_word spliced next_file_in max_entries_in linked files_along kind_among stands stands_as_blocks is_address is_initialized names_external names_blocks kind_of reserved_bits block_count file_selector first_block external_number block_size block_place place byte_size node_in node_checks node_is_sealed node_body hash mixed of_bytes of_four
+nodes-joined = (record { good = refl; next_is = refl; prev_is = refl }, (record { good = refl; next_is = refl; prev_is = refl }, (record { good = refl; next_is = refl; prev_is = refl }, tt)))
+
+no-node : checks_at short_folder 0 ≡ false
+unfolding checks_at stands stands_as_blocks is_address is_initialized names_external names_blocks kind_of reserved_bits block_count file_selector first_block external_number block_size block_place place byte_size
+no-node = refl
+
 short-list : IsList (list_of short_folder) (order worked worked_layout)
-unfolding list_of checks_at next_at prev_at short_folder zeros with_word spliced next_file_in max_entries_in linked files_along kind_among stands stands_as_blocks is_address is_initialized names_external names_blocks kind_of reserved_bits block_count file_selector first_block external_number block_size block_place place byte_size node_in node_checks node_is_sealed node_body hash mixed of_bytes of_four
+unfolding list_of
 short-list = record {
-  head_is = refl;
-  tail_is = refl;
-  linked = (record { good = refl; next_is = refl; prev_is = refl }, (record { good = refl; next_is = refl; prev_is = refl }, (record { good = refl; next_is = refl; prev_is = refl }, tt)));
+  head_is = head-is;
+  tail_is = tail-is;
+  linked = nodes-joined;
   distinct = (refl, (refl, (refl, tt)));
   few = omega arith;
-  no_zero = refl;
+  no_zero = no-node;
 }
 
 short-idle : (list_of short_folder).transaction ≡ 0
-unfolding list_of short_folder zeros with_word spliced
-short-idle = refl
+unfolding list_of
+short-idle = index-none 328
+    (inr (lit≤ tt), (inr (lit≤ tt), (inr (lit≤ tt), (inr (lit≤ tt), (inr (lit≤ tt), (inr (lit≤ tt), (inr (lit≤ tt), (inr (lit≤ tt), (inr (lit≤ tt), (inr (lit≤ tt), (inr (lit≤ tt), (inr (lit≤ tt), (inl (lit≤ tt), (inl (lit≤ tt), (inl (lit≤ tt), tt)))))))))))))))
 
 -- a bucket that is none of the three has no record
 other-bucket : (b : ℕ) → (b == 0xA782) ≡ false → (b == 0xB6C) ≡ false → (b == 0xA0E1) ≡ false → bucket_of (byte short_folder Index) b ≡ 0
@@ -201,9 +306,32 @@ record IsAlone (bucket w : ℕ) : Type 0 where
   good : is_of_bucket (store_of short_folder) bucket w ≡ true
   last : (store_of short_folder).chain_next w ≡ 0
 
+three-next : ((entry_at short_folder (records 0)).next ≡ 0) × ((entry_at short_folder (records 1)).next ≡ 0) × ((entry_at short_folder (records 2)).next ≡ 0)
+unfolding short_folder zeros with_word spliced file_selector kind_of first_block block_size block_place place entry_in words_at
+three-next = (refl, refl, refl)
+
+both-named : ((store_of short_folder).entry (records 1) ≡ Some part_fields) × ((store_of short_folder).entry (records 2) ≡ Some plain_fields)
+unfolding store_of
+both-named = (three-shown.0.here, three-shown.1.here)
+
 three-alone : IsAlone 0xA782 (records 0) × IsAlone 0xB6C (records 1) × IsAlone 0xA0E1 (records 2)
-unfolding short_folder zeros with_word spliced next_file_in max_entries_in linked files_along kind_among store_of fields_at follow_at stands stands_as_blocks is_address is_initialized names_external names_blocks kind_of reserved_bits block_count file_selector first_block external_number block_size block_place place byte_size entry_checks entry_is_sealed entry_in entry_body words_at hash mixed of_bytes of_four
-three-alone = (record { first = refl; good = refl; last = refl }, record { first = refl; good = refl; last = refl }, record { first = refl; good = refl; last = refl })
+three-alone = (
+  record {
+    first = index-there (counters ++ (288, 0x90000001) ∷ (308, 0x90000002) ∷ (12064, 0xA0010001) ∷ (165108, 0xA0010002) ∷ []) [] 171896 (records 0) refl (lit≤ tt) (lit≤ tt) tt;
+    good = rw parent-named.1 refl;
+    last = shown-chain_next short_folder (records 0) parent_fields parent-named.1 ∙ three-next.0;
+  },
+  record {
+    first = index-there (counters ++ (288, 0x90000001) ∷ (308, 0x90000002) ∷ []) ((165108, 0xA0010002) ∷ (171896, 0xA0010000) ∷ []) 12064 (records 1) refl (lit≤ tt) (lit≤ tt) (inl (lit≤ tt), (inl (lit≤ tt), tt));
+    good = rw both-named.0 refl;
+    last = shown-chain_next short_folder (records 1) part_fields both-named.0 ∙ three-next.1;
+  },
+  record {
+    first = index-there (counters ++ (288, 0x90000001) ∷ (308, 0x90000002) ∷ (12064, 0xA0010001) ∷ []) ((171896, 0xA0010000) ∷ []) 165108 (records 2) refl (lit≤ tt) (lit≤ tt) (inl (lit≤ tt), tt);
+    good = rw both-named.1 refl;
+    last = shown-chain_next short_folder (records 2) plain_fields both-named.1 ∙ three-next.2;
+  },
+)
 
 short-chains : (b : ℕ) → b < 65536 → IsChain (store_of short_folder) b (chain_of b)
 unfolding store_of
