@@ -21,7 +21,7 @@ use Rattle.blk_eraser.proofs.MapWrites.{is_one}
 
 -- What steps touch.
 
-within_trans : (F G H : Footprint) → IsWithin F G → IsWithin G H → IsWithin F H
+pub within_trans : (F G H : Footprint) → IsWithin F G → IsWithin G H → IsWithin F H
 within_trans F G H first second = record { bytes = λ file i e. second.bytes file i (first.bytes file i e); sizes = λ file e. second.sizes file (first.sizes file e) }
 
 within_nothing : (F : Footprint) → IsWithin (touched_by_all []) F
@@ -35,19 +35,27 @@ within_append F [] t first second = second
 within_append F (x ∷ s) t first second =
     within_both (touched_by x) (touched_by_all (s ++ t)) F (within_first (touched_by x) (touched_by_all s) F first) (within_append F s t (within_second (touched_by x) (touched_by_all s) F first) second)
 
-zeros_within : (F : Footprint) (test : ℕ → Bool) (file : File) (size long n : ℕ) → ((b : ℕ) → test b ≡ true → IsWithin (touched_by_all (zeros_over_block file size long b)) F) → IsWithin (touched_by_all (zeros_over_blocks test file size long n)) F
+pub zeros_within : (F : Footprint) (test : ℕ → Bool) (file : File) (size long n : ℕ) → ((b : ℕ) → b < n → test b ≡ true → IsWithin (touched_by_all (zeros_over_block file size long b)) F)
+    → IsWithin (touched_by_all (zeros_over_blocks test file size long n)) F
 unfolding zeros_over_blocks
 zeros_within F test file size long zero each = within_nothing F
 zeros_within F test file size long (suc b) each =
-    within_append F (zeros_over_blocks test file size long b) (if test b then zeros_over_block file size long b else []) (zeros_within F test file size long b each) (by_test (test b) refl)
+    within_append F (zeros_over_blocks test file size long b) (if test b then zeros_over_block file size long b else [])
+    (zeros_within F test file size long b (λ c below. each c (omega (arith, below)))) (by_test (test b) refl)
   where
     by_test : (t : Bool) → test b ≡ t → IsWithin (touched_by_all (if t then zeros_over_block file size long b else [])) F
-    by_test true passes = each b passes
+    by_test true passes = each b (omega arith) passes
     by_test false fails = within_nothing F
 
-block_within : (image : Image) (n place : ℕ) (new : List ℕ) (size long b : ℕ) → size ≡ entry_size_of (byte image (Block n)) → frees (bytes_of image (Block n)) place new b ≡ true → IsWithin (touched_by_all (zeros_over_block (Block n) size long b)) (freed_bytes image n place new)
-block_within image n place new size long b is freed =
-    within_trans (touched_by_all (zeros_over_block (Block n) size long b)) (range (Block n) start count) (freed_bytes image n place new) (words_within (Block n) start start count (zeros count) (omega arith) (omega (arith, length-zeros count))) (record { bytes = λ g i e. by_file g (same_file (Block n) g) i e; sizes = λ g e. e })
+-- the bytes of the blocks that pass a test, in a file whose blocks have so many bytes
+abbrev pub block_bytes : ℕ → ℕ → (ℕ → Bool) → Footprint
+block_bytes n size which = record { bytes = λ file i. same_file (Block n) file && (nat_le 8192 i && which ((i - 8192) / size)); sizes = λ file. false }
+
+pub block_within : (n size long b : ℕ) (which : ℕ → Bool) → which b ≡ true → IsWithin (touched_by_all (zeros_over_block (Block n) size long b)) (block_bytes n size which)
+block_within n size long b which passes =
+    within_trans (touched_by_all (zeros_over_block (Block n) size long b)) (range (Block n) start count) (block_bytes n size which)
+    (words_within (Block n) start start count (zeros count) (omega arith) (omega (arith, length-zeros count)))
+    (record { bytes = λ g i e. by_file g (same_file (Block n) g) i e; sizes = λ g e. e })
   where
     start : ℕ
     start = 8192 + b * size
@@ -55,15 +63,15 @@ block_within image n place new size long b is freed =
     count : ℕ
     count = min size (long - start)
 
-    inner : (i : ℕ) → start ≤ i → i < start + count → (nat_le 8192 i && frees (bytes_of image (Block n)) place new ((i - 8192) / entry_size_of (byte image (Block n)))) ≡ true
+    inner : (i : ℕ) → start ≤ i → i < start + count → (nat_le 8192 i && which ((i - 8192) / size)) ≡ true
     inner i low high =
         let rest : i - 8192 ≡ b * size + (i - start) = omega arith in
         let below : i - start < size = omega arith in
-        let at : (i - 8192) / entry_size_of (byte image (Block n)) ≡ b = ap (λ (s : ℕ). (i - 8192) / s) (sym is) ∙ ap (λ (m : ℕ). m / size) rest ∙ div-mul-add b size (i - start) below in
+        let at : (i - 8192) / size ≡ b = ap (λ (m : ℕ). m / size) rest ∙ div-mul-add b size (i - start) below in
         let past : nat_le 8192 i ≡ true = grind (arith, nat_tests) in
-        ap (λ (q : ℕ). nat_le 8192 i && frees (bytes_of image (Block n)) place new q) at ∙ ap (λ (t : Bool). nat_le 8192 i && t) freed ∙ ap (λ (t : Bool). t && true) past
+        ap (λ (q : ℕ). nat_le 8192 i && which q) at ∙ ap (λ (t : Bool). nat_le 8192 i && t) passes ∙ ap (λ (t : Bool). t && true) past
 
-    by_file : (g : File) (t : Bool) (i : ℕ) → (t && (nat_le start i && nat_lt i (start + count))) ≡ true → (t && (nat_le 8192 i && frees (bytes_of image (Block n)) place new ((i - 8192) / entry_size_of (byte image (Block n))))) ≡ true
+    by_file : (g : File) (t : Bool) (i : ℕ) → (t && (nat_le start i && nat_lt i (start + count))) ≡ true → (t && (nat_le 8192 i && which ((i - 8192) / size))) ≡ true
     by_file g true i e =
         let low : start ≤ i = grind (arith, nat_tests) in
         let high : i < start + count = grind (arith, nat_tests) in
@@ -74,10 +82,18 @@ pub only_freed : OnlyFreedBlocksChange
 only_freed image n place new =
     outside_steps F (write_steps image (Block n) place new) image image
     (within_append F (zeros_before_write image (Block n) place new) (words (Block n) place new)
-    (zeros_within F (frees (bytes_of image (Block n)) place new) (Block n) (entry_size_of (byte image (Block n))) (length_of image (Block n)) 64896 (λ b freed. within_trans (touched_by_all (zeros_over_block (Block n) (entry_size_of (byte image (Block n))) (length_of image (Block n)) b)) (freed_bytes image n place new) F (block_within image n place new (entry_size_of (byte image (Block n))) (length_of image (Block n)) b refl freed) (within_right own (freed_bytes image n place new))))
+    (zeros_within F (frees (bytes_of image (Block n)) place new) (Block n) size long 64896
+    (λ b below freed. within_trans (touched_by_all (zeros_over_block (Block n) size long b)) (freed_bytes image n place new) F
+    (block_within n size long b (frees (bytes_of image (Block n)) place new) freed) (within_right own (freed_bytes image n place new))))
     (within_trans (touched_by_all (words (Block n) place new)) own F (words_within (Block n) place place (length new) new (omega arith) (omega arith)) (within_left own (freed_bytes image n place new))))
     (outside-refl F image)
   where
+    size : ℕ
+    size = entry_size_of (byte image (Block n))
+
+    long : ℕ
+    long = length_of image (Block n)
+
     own : Footprint
     own = range (Block n) place (length new)
 
@@ -139,7 +155,7 @@ zeros_past : (test : ℕ → Bool) (n size long count : ℕ) (image : Image) →
 unfolding past_header
 zeros_past test n size long count image =
     outside_steps (past_header n) (zeros_over_blocks test (Block n) size long count) image image
-    (zeros_within (past_header n) test (Block n) size long count (λ b passes. block_past b))
+    (zeros_within (past_header n) test (Block n) size long count (λ b below passes. block_past b))
     (outside-refl (past_header n) image)
   where
     block_past : (b : ℕ) → IsWithin (touched_by_all (zeros_over_block (Block n) size long b)) (past_header n)

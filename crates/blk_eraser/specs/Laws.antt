@@ -1,15 +1,21 @@
 -- What erasing leaves, at each step of it.
-use Rattle.std.specs.Prelude.{◌≡◌, ℕ, ◌+◌, ◌-◌, ◌/◌, ◌<◌, ◌≤◌, ◌&&◌, true, false, nat_le, List, length}
+use Rattle.std.specs.Prelude.{◌≡◌, ℕ, ◌+◌, ◌-◌, ◌/◌, ◌<◌, ◌≤◌, ◌&&◌, true, false, nat_le, List, length, None}
 use Rattle.blk_image.specs.Bytes.{zeros}
-use Rattle.blk_image.specs.Footprint.{Footprint, SameOutside, either, range}
-use Rattle.blk_image.specs.Image.{File, Block, Image, byte, bytes_of, length_of, same_file}
+use Rattle.blk_image.specs.Footprint.{Footprint, SameOutside, either, range, whole}
+use Rattle.blk_image.specs.Image.{File, Block, External, Image, byte, bytes_of, has_file, length_of, same_file}
 use Rattle.blk_image.specs.Steps.{after, words}
-use Rattle.blk_image.specs.Told.{Along}
+use Rattle.blk_image.specs.Told.{Along, Until}
 use Rattle.blk_format.specs.Address.{header_size}
-use Rattle.blk_format.specs.BlockFiles.{most_blocks}
+use Rattle.blk_format.specs.BlockFiles.{most_blocks, IsWellFormed}
+use Rattle.blk_format.specs.Claims.{BlockOf, ExternalOf, claims_of_all, has_claim}
+use Rattle.blk_format.specs.Growth.{StaysWhole}
 use Rattle.blk_format.specs.Headers.{entry_size_of}
 use Rattle.blk_format.specs.Maps.{is_block_marked}
-use Rattle.blk_eraser.specs.Erasing.{frees, place_of_block, write_steps}
+use Rattle.blk_model.specs.State.{State}
+use Rattle.blk_volume.specs.Layout.{Layout, Represents}
+use Rattle.blk_volume.specs.View.{view_of}
+use Rattle.blk_kept.specs.Changes.{KeepsWith, SameCounters, StillFinds}
+use Rattle.blk_eraser.specs.Erasing.{delete_steps, frees, length_steps, place_of_block, write_steps, zeros_before_write}
 
 -- each byte of block b is 0, in a file whose blocks have so many bytes
 abbrev pub IsBlank : Image → ℕ → ℕ → ℕ → Type 0
@@ -39,3 +45,50 @@ OnlyFreedBlocksChange = (image : Image) (n place : ℕ) (new : List ℕ)
 -- the zeros before a cut: each byte from the new end on is 0, and those before it are as they were
 abbrev pub CutBytesAreBlank : Type 0
 CutBytesAreBlank = (image : Image) (file : File) (n k : ℕ) → let now = after (words file n (zeros (length_of image file - n))) image in (n ≤ k → byte now file k ≡ 0) × (k < n → byte now file k ≡ byte image file k)
+
+-- at each step of a cut of a file that is there, nothing but the file has changed, and it is there
+abbrev pub CutsChangeOneFile : Type 0
+CutsChangeOneFile = (image : Image) (file : File) (size : ℕ) → has_file image file ≡ true
+    → Along (λ now. SameOutside (whole file) image now × (has_file now file ≡ true)) image (length_steps image file size)
+
+-- What the zeros leave of a state.
+
+-- each block that a write of bytes to a block file frees has this property
+abbrev pub EachFreed : (ℕ → Type 0) → Image → ℕ → ℕ → List ℕ → Type 0
+EachFreed P image n place new = (b : ℕ) → b < most_blocks → frees (bytes_of image (Block n)) place new b ≡ true → P b
+
+-- a well-formed folder shows a state by a layout
+abbrev pub ShowsWhole : State → Layout → Image → Type 0
+ShowsWhole state layout image = IsWellFormed image × Represents (view_of image) state layout
+
+-- where a layout has no owner of the blocks that a write frees, the state that a folder shows by it is shown at each of the zeros before the write
+abbrev pub UnownedBlocksMayBeErased : Type 0
+UnownedBlocksMayBeErased = (state : State) (layout : Layout) (image : Image) (n place : ℕ) (new : List ℕ) → ShowsWhole state layout image
+    → EachFreed (λ b. layout.owner (BlockOf n b) ≡ None) image n place new
+    → Along (ShowsWhole state layout) image (zeros_before_write image (Block n) place new)
+
+-- each state that was kept with these words unlinked is kept with them, and the index counts what it counted
+abbrev pub KeepsTheSame : List ℕ → Image → Image → Type 0
+KeepsTheSame unlinked from image = KeepsWith unlinked unlinked from image × SameCounters from image
+
+-- each block that a write of bytes to a block file frees is one that unlinked words name
+abbrev pub FreesUnlinked : List ℕ → Image → ℕ → ℕ → List ℕ → Type 0
+FreesUnlinked unlinked image n place new = EachFreed (λ b. has_claim (claims_of_all unlinked) (BlockOf n b) ≡ true) image n place new
+
+-- then the folder keeps the same at each of the zeros; so does the one in which the call began, were they written there
+abbrev pub UnlinkedBlocksMayBeErased : Type 0
+UnlinkedBlocksMayBeErased = (unlinked : List ℕ) (from image : Image) (n place : ℕ) (new : List ℕ) → StaysWhole from image
+    → FreesUnlinked unlinked image n place new
+    → Along (KeepsTheSame unlinked from) from (zeros_before_write image (Block n) place new)
+
+-- and where the call has written before, in a folder that stays whole, what was at rest when it began is found at each of them
+abbrev pub ErasingFindsTheSame : Type 0
+ErasingFindsTheSame = (unlinked : List ℕ) (from image : Image) (n place : ℕ) (new : List ℕ) → StaysWhole from image
+    → FreesUnlinked unlinked image n place new
+    → Along (StillFinds unlinked from) image (zeros_before_write image (Block n) place new)
+
+-- an external file that an unlinked word names: before each step of a deletion, and where it is there at each step of a cut, the folder keeps the same
+abbrev pub UnlinkedFilesMayBeErased : Type 0
+UnlinkedFilesMayBeErased = (unlinked : List ℕ) (image : Image) (n : ℕ) → has_claim (claims_of_all unlinked) (ExternalOf n) ≡ true
+    → Until (KeepsTheSame unlinked image) (λ now. Unit {0}) image (delete_steps image (External n))
+    × ((size : ℕ) → has_file image (External n) ≡ true → Along (KeepsTheSame unlinked image) image (length_steps image (External n) size))

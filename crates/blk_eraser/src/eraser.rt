@@ -1,5 +1,5 @@
 // A folder that erases.
-ghost use Rattle.std.specs.Prelude.{◌≡◌, ◌≤◌, [], ◌∷◌, length, OnOk, OnErr, IfOk};
+ghost use Rattle.std.specs.Prelude.{◌≡◌, ◌≤◌, true, [], ◌∷◌, length, OnOk, OnErr, IfOk};
 ghost use Rattle.std.specs.Option.{ForSome, option_map};
 ghost use Rattle.blk_image.specs.Order.{IsAfter};
 ghost use Rattle.blk_image.specs.Told.{Applies, GivesBytes, MakesPartOf, Rises, Stays};
@@ -13,7 +13,7 @@ use blk_io::{Failed, FileId, Folder};
 
 /// A folder over another, which overwrites by zeros what goes out of use: the blocks that a write to a map frees, what a new length cuts off, and the bytes of a file that is deleted.
 ///
-/// The zeros come before the call's own steps, and where they fail these aren't made. It tells nothing, since the zeros are steps that no caller knows of. So a write asks the folder inside for the length of the file first, and fails where the file hasn't the range; one that touches a map fails too where the file is shorter than a header, or the header names no size of a block.
+/// The zeros come before the call's own steps, and where they fail these aren't made. It tells nothing, since the zeros are steps that no caller knows of. So a write asks the folder inside for the length of the file first, and fails where the file hasn't the range; one that touches a map fails too where the file is shorter than a header.
 #[derive(Drop)]
 pub struct Eraser<F> {
     inner: F,
@@ -51,7 +51,7 @@ fn counted<T>(answer: Result<T, Failed>, faults: &mut u64) -> Result<T, Failed>
 }
 
 impl<F: Folder> Folder for Eraser<F> {
-    ghost use Rattle.blk_io.specs.SilentFolder.{untold, untold_agrees, untold_bytes};
+    ghost use Rattle.blk_io.specs.Untold.{untold, untold_agrees, untold_bytes};
     ghost use Rattle.blk_eraser.specs.Eraser.{faults_of, folder_of};
 
     ghost told = { λ _. untold };
@@ -119,6 +119,12 @@ impl<F: Folder> Folder for Eraser<F> {
         ensures inside_stays { Stays (F.told (folder_of self.old)) (F.told (folder_of self.new)) }
     {
         counted(self.inner.list(after), &mut self.faults)
+    }
+
+    fn erases(&self) -> bool
+        ensures { result ≡ true }
+    {
+        true
     }
 
     fn note(&mut self, answered: u64) -> Result<(), Failed>

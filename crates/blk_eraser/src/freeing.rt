@@ -1,5 +1,5 @@
 // Blocks are overwritten by zeros before a write to the map frees them.
-ghost use Rattle.std.specs.Prelude.{◌≡◌, ◌+◌, ◌<◌, ◌≤◌, length, OnOk};
+ghost use Rattle.std.specs.Prelude.{◌≡◌, ◌+◌, ◌^◌, ◌<◌, ◌≤◌, length, OnOk};
 ghost use Rattle.std.specs.Option.{ForSome};
 ghost use Rattle.blk_image.specs.Bytes.{content};
 ghost use Rattle.blk_image.specs.Image.{length_of};
@@ -22,7 +22,7 @@ fn erase_block<F: Folder>(
     long: u64,
     block: usize,
 ) -> Result<(), Failed>
-    requires sizes { size ≤ 4096 }
+    requires sizes { size < 2 ^ 32 }
     requires few { block < most_blocks }
     requires known { ForSome (F.told f.old).files (λ image. length_of image (file_of file) ≡ long) }
     ensures steps { OnOk result (Applies (F.told f.old) (F.told f.new) (zeros_over_block (file_of file) size long block)) }
@@ -52,7 +52,7 @@ fn erase_freed<F: Folder>(
     ensures prefix { AppliesPrefix (F.told f.old) (F.told f.new) (zeros_over_freed header.now (file_of file) long at bytes.now) }
     ensures known { ForSome (F.told f.new).files (λ image. length_of image (file_of file) ≡ long) }
 {
-    let size = block_size(header)?;
+    let size = block_size(header);
     let end = BITS_OF_BYTE * (at + bytes.len().min(HEADER_LEN - at)).saturating_sub(MAP);
     let mut block = BITS_OF_BYTE * at.saturating_sub(MAP);
     while block < end {

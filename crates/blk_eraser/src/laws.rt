@@ -1,5 +1,6 @@
 // What erasing leaves, at each step of it.
-ghost use Rattle.blk_eraser.specs.Laws.{CutBytesAreBlank, FreedBlocksAreBlank, OnlyFreedBlocksChange};
+ghost use Rattle.blk_eraser.specs.Laws.{CutBytesAreBlank, CutsChangeOneFile, FreedBlocksAreBlank, OnlyFreedBlocksChange};
+ghost use Rattle.blk_eraser.specs.Laws.{UnownedBlocksMayBeErased, UnlinkedBlocksMayBeErased, UnlinkedFilesMayBeErased, ErasingFindsTheSame};
 
 /// At each step of a write inside a header, a block that was marked and isn't is full of zeros. So a stop leaves each
 /// block that is freed marked, or erased whole.
@@ -15,4 +16,29 @@ pub fn only_freed_blocks_change()
 /// The zeros before a cut or a deletion leave each byte that goes 0, and the others as they were.
 pub fn cut_bytes_are_blank()
     ensures { CutBytesAreBlank }
+{}
+
+/// At each step of a cut nothing but the file has changed, and it is there.
+pub fn cuts_change_one_file()
+    ensures { CutsChangeOneFile }
+{}
+
+/// Where a write to a map frees blocks that nobody owns, the zeros before it leave the state that the folder shows, and
+/// the folder well formed.
+pub fn unowned_blocks_may_be_erased()
+    ensures { UnownedBlocksMayBeErased }
+{}
+
+/// Where a write to a map frees blocks of unlinked words alone, the zeros before it leave each state that a folder keeps,
+/// with the same words unlinked, and what the index counts. A call that frees sets `updating` before it writes the map,
+/// and no state is kept then; what was at rest when the call began is found at each of the zeros.
+pub fn unlinked_blocks_may_be_erased()
+    ensures kept { UnlinkedBlocksMayBeErased }
+    ensures found { ErasingFindsTheSame }
+{}
+
+/// The zeros over an external file that an unlinked word names leave each state that a folder keeps, with the same words
+/// unlinked, and what the index counts: before each step of a deletion, and at each step of a cut.
+pub fn unlinked_files_may_be_erased()
+    ensures { UnlinkedFilesMayBeErased }
 {}

@@ -10,4 +10,7 @@ mod map;
 mod zeros;
 
 pub use eraser::Eraser;
-pub use laws::{cut_bytes_are_blank, freed_blocks_are_blank, only_freed_blocks_change};
+pub use laws::{
+    cut_bytes_are_blank, cuts_change_one_file, freed_blocks_are_blank, only_freed_blocks_change,
+    unlinked_blocks_may_be_erased, unlinked_files_may_be_erased, unowned_blocks_may_be_erased,
+};

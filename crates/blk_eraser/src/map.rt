@@ -1,5 +1,5 @@
 // The blocks that a write to the map of a block file frees.
-ghost use Rattle.std.specs.Prelude.{◌≡◌, ℕ, ◌+◌, ◌<◌, ◌≤◌, ◌==◌, [], true, false, length, IfOk, OnOk};
+ghost use Rattle.std.specs.Prelude.{◌≡◌, ℕ, ◌+◌, ◌^◌, ◌<◌, ◌==◌, [], true, false, length, OnOk};
 ghost use Rattle.std.specs.Int.{bit_at};
 ghost use Rattle.std.specs.Option.{ForSome};
 ghost use Rattle.blk_image.specs.Bytes.{content, range_at};
@@ -45,19 +45,13 @@ pub(crate) fn is_freed(header: &[u8], at: usize, bytes: &[u8], block: usize) -> 
     has_bit(header[place], bit) && !has_bit(bytes[place - at], bit)
 }
 
-/// The bytes of a block, by a header: one of the four sizes that there are.
-pub(crate) fn block_size(header: &[u8]) -> Result<u64, Failed>
+/// The bytes of a block, by a header; 0 in one that isn't written yet.
+pub(crate) fn block_size(header: &[u8]) -> u64
     requires { length header.now ≡ header_size }
-    ensures size { IfOk result (λ n. n ≡ entry_size_of (content header.now)) }
-    ensures small { IfOk result (λ n. n ≤ 4096) }
+    ensures size { result ≡ entry_size_of (content header.now) }
+    ensures small { result < 2 ^ 32 }
 {
-    match BlockHead::new(header).entry_size() {
-        36 => Ok(36),
-        256 => Ok(256),
-        1024 => Ok(1024),
-        4096 => Ok(4096),
-        _ => Err(Failed),
-    }
+    u64::from(BlockHead::new(header).entry_size())
 }
 
 /// Whether a write of bytes at a place touches a map. One that doesn't frees nothing.

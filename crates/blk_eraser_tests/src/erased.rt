@@ -75,6 +75,20 @@ fn a_write_beside_the_map_erases_nothing(rt: HostRuntime) -> Result<(), Fail> {
 }
 
 #[test]
+fn a_header_is_written_into_a_file_of_zeros(rt: HostRuntime) -> Result<(), Fail> {
+    let bytes = block_file(rt.alloc(), 0, 0, 0)?;
+    let header = block_file(rt.alloc(), 256, 0x0F, 0)?;
+    let mut f = Eraser::new(folder_with(rt.alloc(), BLOCKS, &bytes)?);
+    assert_eq!(rt; f.write_at(BLOCKS, 0, &header), Ok(()));
+    let mut inner = f.into_inner();
+
+    // The length, the header and the write.
+    assert_eq!(rt; inner.calls(), 3);
+    assert!(rt; is_full_of(&mut inner, BLOCKS, MAP, 1, 0x0F)?);
+    Ok(())
+}
+
+#[test]
 fn external_files_are_zeros_before_they_go(rt: HostRuntime) -> Result<(), Fail> {
     let mut bytes = Vec::new(rt.alloc());
     bytes.resize(10_001, OLD)?;

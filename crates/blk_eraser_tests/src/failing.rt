@@ -60,10 +60,7 @@ fn a_failure_before_a_deletion_leaves_the_file(rt: HostRuntime) -> Result<(), Fa
 
 #[test]
 fn a_write_that_cannot_be_judged_fails(rt: HostRuntime) -> Result<(), Fail> {
-    // No block has this size; the header is not whole; the file hasn't the range; there is no file.
-    let odd = block_file(rt.alloc(), 512, 0xFF, 4096)?;
-    let mut f = Eraser::new(folder_with(rt.alloc(), BLOCKS, &odd)?);
-    assert_eq!(rt; f.write_at(BLOCKS, MAP, &[0]), Err(Failed));
+    // The header is not whole; the file hasn't the range; there is no file.
     let mut f = Eraser::new(folder_with(rt.alloc(), BLOCKS, &[0xFF; 100])?);
     assert_eq!(rt; f.write_at(BLOCKS, MAP, &[0]), Err(Failed));
     assert_eq!(rt; f.write_at(BLOCKS, 99, &[0, 0]), Err(Failed));

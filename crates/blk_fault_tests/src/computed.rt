@@ -2,7 +2,7 @@
 ghost use Rattle.blk_image.specs.Order.{IsAfter};
 ghost use Rattle.blk_image.specs.Told.{Rises};
 ghost use Rattle.blk_io.specs.FileNames.{file_of};
-ghost use Rattle.blk_io.specs.SilentFolder.{untold, untold_agrees, untold_bytes};
+ghost use Rattle.blk_io.specs.Untold.{untold, untold_agrees, untold_bytes};
 ghost use Rattle.std.specs.Option.{ForSome, option_map};
 ghost use Rattle.std.specs.Prelude.{◌≡◌, ◌≤◌, length, OnErr, IfOk};
 

@@ -140,7 +140,7 @@ fn the_last_piece_of_the_table_is_read_by_one_call(rt: HostRuntime) -> Result<()
 struct ShortReads;
 
 impl Folder for ShortReads {
-    ghost use Rattle.blk_io.specs.SilentFolder.{untold, untold_agrees, untold_bytes};
+    ghost use Rattle.blk_io.specs.Untold.{untold, untold_agrees, untold_bytes};
 
     ghost told = { λ _. untold };
 

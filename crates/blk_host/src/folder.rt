@@ -39,7 +39,7 @@ impl<R: Files<File = File> + AllocGlobal + Clone + Drop> RealFolder<R> {
 }
 
 impl<R: Files<File = File> + Drop> Folder for RealFolder<R> {
-    ghost use Rattle.blk_io.specs.SilentFolder.{untold, untold_agrees, untold_bytes};
+    ghost use Rattle.blk_io.specs.Untold.{untold, untold_agrees, untold_bytes};
 
     ghost told = { λ _. untold };
 

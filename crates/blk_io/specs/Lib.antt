@@ -10,5 +10,6 @@ pub mod MemFolder
 pub mod Streams
 pub mod Clock
 pub mod MemStreams
+pub mod Untold
 pub mod SilentFolder
 pub mod StopFolder

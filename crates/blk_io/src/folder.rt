@@ -6,6 +6,7 @@ ghost use Rattle.blk_image.specs.Steps.{SetLength, Delete, Note, words};
 ghost use Rattle.blk_image.specs.Order.{IsNextFile, IsAfter, IsBefore, file_rank, file_number};
 ghost use Rattle.blk_image.specs.Told.{Told, Applies, Stays, AppliesPrefix, Rises, AgreesWithTrail, TellsBytes, GivesBytes};
 ghost use Rattle.blk_io.specs.FileNames.{file_of};
+ghost use Rattle.blk_io.specs.Untold.{untold};
 
 use std::alloc::AllocError;
 use std::error::Error;
@@ -162,6 +163,14 @@ pub trait Folder {
         ensures undone { OnErr result (Stays (told self.old) (told self.new)) }
         ensures later { faults self.old ≤ faults self.new }
         ensures failed { OnErr result (Rises (faults self.old) (faults self.new)) };
+
+    /// Whether it overwrites what goes out of use, so that a caller that cuts bytes off within a file's length has to do so too. Such a
+    /// folder tells nothing, since its zeros are steps that no caller asked for.
+    fn erases(&self) -> bool
+        ensures { IsTrue result → told self.now ≡ untold }
+    {
+        false
+    }
 
     /// The files are the start files after the steps.
     ghost agrees: { (folder : Self) → AgreesWithTrail (told folder) };

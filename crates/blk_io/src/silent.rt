@@ -87,7 +87,8 @@ fn write_inside<F: Folder>(f: &mut F, file: FileId, at: u64, bytes: &[u8]) -> Re
 }
 
 impl<F: Folder> Folder for SilentFolder<F> {
-    ghost use Rattle.blk_io.specs.SilentFolder.{calls_of, faults_of, folder_of, untold, untold_agrees, untold_bytes};
+    ghost use Rattle.blk_io.specs.SilentFolder.{calls_of, faults_of, folder_of};
+    ghost use Rattle.blk_io.specs.Untold.{untold, untold_agrees, untold_bytes};
 
     ghost told = { λ _. untold };
 
@@ -166,6 +167,10 @@ impl<F: Folder> Folder for SilentFolder<F> {
     {
         self.calls = self.calls.saturating_add(1);
         counted(self.inner.list(after), &mut self.faults)
+    }
+
+    fn erases(&self) -> bool {
+        self.inner.erases()
     }
 
     fn note(&mut self, answered: u64) -> Result<(), Failed>

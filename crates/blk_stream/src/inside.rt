@@ -1,7 +1,7 @@
 // A stream is written inside its place.
 ghost use Rattle.std.specs.Prelude.{◌≡◌, ◌≢◌, ◌+◌, ◌≤◌, ◌<◌, IsTrue, OnErr, OnOk, length};
 ghost use Rattle.std.specs.Option.{ForSome};
-ghost use Rattle.blk_image.specs.Told.{Applies, AppliesPrefix, Passes, Rises};
+ghost use Rattle.blk_image.specs.Told.{Applies, AppliesPrefix, Passes, Rises, Stays};
 ghost use Rattle.blk_format.specs.Address.{blocks_256, byte_size, external, kind_of};
 ghost use Rattle.blk_format.specs.Records.{entry_size};
 ghost use Rattle.blk_format.specs.Sealed.{RecordChecks, record_at};
@@ -14,7 +14,7 @@ ghost use Rattle.blk_stream.specs.Inside.{HasStreamLength, WritesInProgress, Wri
 
 use crate::places::{is_of, size_at};
 use blk_addr::{Addr, Kind};
-use blk_disk::BlockFiles;
+use blk_disk::{BlockFiles, room_of};
 use blk_entry::write_data;
 use blk_io::{Failed, Folder};
 
@@ -77,7 +77,28 @@ fn write_here<F: Folder>(
     ensures failed { OnErr result (Rises (F.faults f.old) (F.faults f.new)) }
 {
     make_room(f, files, addr, old, size, offset)?;
-    write_some(f, files, addr, offset, bytes)
+    write_some(f, files, addr, offset, bytes)?;
+    erase_end(f, files, addr, old, size)
+}
+
+// Writes zeros into the rest of its blocks where data is cut, in a folder that erases. Nothing is done where the files are told.
+fn erase_end<F: Folder>(
+    f: &mut F,
+    files: &BlockFiles,
+    addr: Addr,
+    old: u32,
+    size: u32,
+) -> Result<(), Failed>
+    requires inside { IsInside files.now addr 0 size }
+    requires agrees { ForSome (F.told f.old).files (Agrees files.now) }
+    ensures stays { Stays (F.told f.old) (F.told f.new) }
+    ensures later { F.faults f.old ≤ F.faults f.new }
+    ensures failed { OnErr result (Rises (F.faults f.old) (F.faults f.new)) }
+{
+    if size >= old || is_of(addr, Kind::External) || !f.erases() {
+        return Ok(());
+    }
+    write_gap(f, files, addr, size, room_of(addr) as u32)
 }
 
 // Gives data the room for bytes at an offset: an external file its new length, and blocks zeros between their old end and the offset.

@@ -7,6 +7,7 @@ ghost use Rattle.blk_image.specs.Steps.{SetLength, Delete, Note, words};
 ghost use Rattle.blk_image.specs.Order.{IsNextFile, IsAfter};
 ghost use Rattle.blk_image.specs.Told.{Applies, Stays, AppliesPrefix, Rises, GivesBytes};
 ghost use Rattle.blk_io.specs.FileNames.{file_of};
+ghost use Rattle.blk_io.specs.Untold.{untold};
 ghost use Rattle.blk_window.specs.Held.{Agrees, is_held, page_at, dropped, unless_of, written, rewritten, ReadsThrough, FailsBehind, HoldsRange};
 ghost use Rattle.blk_window.specs.Pages.{held_of, places_of};
 ghost use Rattle.blk_window.specs.Reading.{ReadsPage};
@@ -237,6 +238,12 @@ impl<F: Folder> Folder for Window<F> {
         ensures pages { self.new.pages ≡ self.old.pages }
     {
         self.inner.list(after)
+    }
+
+    fn erases(&self) -> bool
+        ensures { IsTrue result → F.told self.now.inner ≡ untold }
+    {
+        self.inner.erases()
     }
 
     fn note(&mut self, answered: u64) -> Result<(), Failed>

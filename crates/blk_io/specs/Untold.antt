@@ -1,0 +1,20 @@
+-- What a folder tells that tells nothing.
+use Rattle.std.specs.Prelude.{◌≡◌, None, Some}
+use Rattle.blk_image.specs.Image.{Image}
+use Rattle.blk_image.specs.Told.{Told, AgreesWithTrail, TellsBytes}
+
+-- neither files nor a trail
+abbrev pub untold : Told
+untold = record { files = None; trail = None }
+
+no_image : {P : Type 0} (image : Image) → None ≡ Some image → P
+no_image image e = absurd (clash e)
+  where
+    clash : None ≡ Some image → ⊥
+    clash c = cc
+
+pub untold_agrees : AgreesWithTrail untold
+untold_agrees image e = no_image image e
+
+pub untold_bytes : TellsBytes untold
+untold_bytes image e = no_image image e
