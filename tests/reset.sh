@@ -105,6 +105,30 @@ eval "exec $talk_in>&-"
 wait "$talk_id"
 is 'which ends' 0 $?
 
+# With erasing on, what still has a file finds zeros, as long as it was; a file with a second name is not written.
+fill
+printf '%5000s' x >"$folder/data_9"
+exec 9<"$folder/data_9"
+BLKCACHE_ERASE=1 reset "$folder" reset --yes
+is 'erased' '0 removed 8' "$status $said$complained"
+is 'to zeros' "$(head -c 5000 /dev/zero | cksum)" "$(cksum <&9)"
+exec 9<&-
+is 'erased: what is left' "$left" "$(names)"
+fill
+echo secret >"$room/kept"
+ln -f "$room/kept" "$folder/data_255"
+export BLKCACHE_ERASE=1
+refused 'a second name' 3 'blkcache: a cache file has a second name: nothing more is erased or removed' "$folder" reset --yes
+is 'which is not written' secret "$(cat "$room/kept")"
+for value in 2 yes 01 ' '; do
+    export BLKCACHE_ERASE=$value
+    refused "BLKCACHE_ERASE=$value" 2 usage "$folder" reset --yes
+done
+export BLKCACHE_ERASE=0
+reset "$folder" reset --yes
+is 'told not to erase' '0 removed 8 secret' "$status $said$complained $(cat "$room/kept")"
+unset BLKCACHE_ERASE
+
 # It is the way out of a damage, and a folder with more files than one call of rm gets is emptied.
 make damaged "$room/damaged"
 count_in "$room/damaged"
