@@ -164,7 +164,7 @@ begin() {
         at=$lanes_at/$crate/crates/$crate words=(lib --jobs "$2")
         make_lane "$lanes_at/$crate" "$crate"
     fi
-    (cd "$at" && exec rt "${words[@]}") </dev/null >"$lanes_at/$crate.log" 2>&1 &
+    (cd "$at" && exec "${rt[@]}" "${words[@]}") </dev/null >"$lanes_at/$crate.log" 2>&1 &
     running[$!]=$crate
     jobs_of[$crate]=$2
     began[$crate]=$SECONDS
@@ -257,7 +257,9 @@ announce() {
 # Proves and builds all.
 build() {
     local it
-    lanes_at= held= failed=
+    lanes_at= held= failed= rt=(rt)
+    # (rt takes minutes of the upper crates to sum up what is below)
+    ! type -P python3 >/dev/null || rt=(python3 -B "$(CDPATH= cd -- "$here/dist" && pwd)/rt.py")
     type -P rt >/dev/null || fail "${why:-there is no program}, and there is no rt here to build it"
     [ $((BASH_VERSINFO[0] * 100 + BASH_VERSINFO[1])) -ge 501 ] || fail 'to build, bash 5.1 is needed'
     trap 'stop 129' HUP
