@@ -118,7 +118,7 @@ fill
 echo secret >"$room/kept"
 ln -f "$room/kept" "$folder/data_255"
 export BLKCACHE_ERASE=1
-refused 'a second name' 3 'blkcache: a cache file has a second name: nothing more is erased or removed' "$folder" reset --yes
+refused 'a second name' 3 'blkcache: data_255 is no regular file with one name: nothing more is erased or removed' "$folder" reset --yes
 is 'which is not written' secret "$(cat "$room/kept")"
 for value in 2 yes 01 ' '; do
     export BLKCACHE_ERASE=$value
@@ -147,6 +147,13 @@ if ! type -P script >/dev/null || ! script --version >/dev/null 2>&1; then
     skip 'the question on a terminal' 'script, of util-linux, is missing'
     finish
 fi
+fill
+{
+    sleep 1
+    ln -sf "$room/kept" "$folder/data_9"
+    echo y
+} | BLKCACHE_ERASE=1 timeout 20 script --quiet --return --command "'$BASH' '$top/blkcache' '$folder' reset" /dev/null >"$room/said" 2>&1
+is 'a link that comes while it is asked' '3 secret' "$? $(cat "$room/kept")"
 for answer in y yes Y n '' x; do
     fill
     printf '%s\n' "$answer" >"$room/answer"

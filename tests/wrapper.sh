@@ -611,4 +611,42 @@ ln -s "$repository/blkcache" "$room/link"
 make finished "$room/last"
 wrapped=$(cd / && PATH=$stubs "$BASH" "$room/link" "$room/last" count 2>&1)
 is 'by a link' "0 $empty_line" "$? $wrapped"
+# The build runs rt by dist/rt.py, by which the kit's rt sums up each crate below once, and its own each time. Another rt is run as it is.
+if ! type -P python3 >/dev/null; then
+    skip 'how often rt sums up a crate' 'python3 is missing'
+    finish
+fi
+mkdir "$room/kit"
+cat >"$room/kit/rtlib.py" <<'END'
+class Crate:
+    sums = 0
+
+    def __init__(self, folder, deps):
+        self.folder, self.deps = folder, deps
+
+    def below(self):
+        return self.deps
+
+    def stamp(self):
+        Crate.sums += 1
+        return " ".join([self.folder, *[it.stamp() for it in self.deps]])
+END
+cat >"$room/kit/rt" <<'END'
+#!/usr/bin/env python3
+import importlib.machinery, importlib.util, os, sys
+loader = importlib.machinery.SourceFileLoader("rtlib", f"{os.path.dirname(os.path.realpath(__file__))}/rtlib.py")
+rtlib = importlib.util.module_from_spec(importlib.util.spec_from_loader("rtlib", loader))
+loader.exec_module(rtlib)
+low = rtlib.Crate("low", [])
+top = rtlib.Crate(os.getcwd(), [rtlib.Crate("one", [low]), rtlib.Crate("two", [low])])
+print(*sys.argv[1:], top.stamp() == top.stamp() == f"{os.getcwd()} one low two low", rtlib.Crate.sums)
+END
+printf '#!%s\necho "plain $*"\n' "$BASH" >"$room/rt"
+chmod +x "$room/kit/rt" "$room/rt"
+once() {
+    (cd "$room" && PATH=$1:$PATH python3 -B "$top/dist/rt.py" lib --jobs 2)
+}
+is 'the kit itself' 'lib --jobs 2 True 10' "$(cd "$room" && "$room/kit/rt" lib --jobs 2)"
+is 'by dist/rt.py' 'lib --jobs 2 True 5' "$(once "$room/kit")"
+is 'another rt' 'plain lib --jobs 2' "$(once "$room")"
 finish
