@@ -1,5 +1,6 @@
 # With BLKCACHE_ERASE=1 what is removed is gone: no byte of it stands in any file of the folder, also behind a kill and the next opening.
-# Without it the bytes are found. Of so many places of a kill one is tried, from a first one that is drawn: ERASE_STEP (5). ERASE_SEED is
+# Without it the bytes are found. Of so many places of a kill one is tried, from a first one that is drawn, where ERASE_STEP says of how
+# many: all of them take hours, and one in five more than ten minutes. ERASE_SEED is
 # what the script is drawn from.
 . "$(dirname "${BASH_SOURCE[0]}")/common.sh"
 
@@ -9,7 +10,7 @@ for tool in awk grep; do
         finish
     }
 done
-step=${ERASE_STEP:-5}
+step=${ERASE_STEP:-0}
 seed=${ERASE_SEED:-$RANDOM}
 
 # Letters and digits that are drawn, so that no 16 of them stand anywhere by chance. Each secret begins at a multiple of 16, and is found
@@ -384,6 +385,10 @@ done
 unset BLKCACHE_ERASE
 
 # A kill at each place of what is written, and the next opening, which may be killed too.
+if [ "$step" = 0 ]; then
+    skip 'what a kill leaves' 'ERASE_STEP is not set'
+    finish
+fi
 if ! command -v cc >/dev/null || ! cc -shared -fPIC -o "$room/stopped.so" "$top/tests/stopped.c" -ldl 2>/dev/null; then
     skip 'what a kill leaves' 'cc is missing'
     finish

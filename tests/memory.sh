@@ -44,7 +44,8 @@ before=$(both "$room/none")
 refused=0
 for ((kb = first; kb < most; kb += step)); do
     with_room "$kb" "$room/none" no-word-of-it
-    [ "$status" = 6 ] || break
+    # (139: the stack has no room to grow, and the system ends the program)
+    [ "$status" = 6 ] || [ "$status" = 139 ] || break
     refused=$((refused + step))
     [ -z "$said" ] || is "6 without a word, in $kb kB" '' "$said"
 done
