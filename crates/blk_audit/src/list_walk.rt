@@ -28,14 +28,14 @@ pub struct Walked {
 }
 
 // Where a walk stands: at a word, behind the node before it.
-#[derive(Clone, Copy, Debug)]
+#[derive(Clone, Copy)]
 struct Link {
     word: u32,
     before: u32,
 }
 
 // A node and its address.
-#[derive(Clone, Copy, Debug)]
+#[derive(Clone, Copy)]
 pub(crate) struct Standing {
     pub(crate) addr: Addr,
     pub(crate) node: Node,

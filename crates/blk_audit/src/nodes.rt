@@ -16,7 +16,7 @@ use blk_io::Folder;
 use std::alloc::Global;
 
 // What a node says, whether it checks and whether its seal is 0: 20 bytes.
-#[derive(Clone, Copy, Debug)]
+#[derive(Clone, Copy)]
 pub(crate) struct Node {
     pub(crate) checks: bool,
     pub(crate) bare: bool,

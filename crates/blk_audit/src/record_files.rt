@@ -35,7 +35,7 @@ const BLOCK: usize = RECORD_BLOCK as usize;
 const PIECE: usize = BLOCK * BLOCKS_OF_PIECE as usize;
 
 // A record that was read, with the address of its first block: 72 bytes.
-#[derive(Clone, Copy, Debug)]
+#[derive(Clone, Copy)]
 pub(crate) struct Placed {
     pub(crate) first: Addr,
     pub(crate) said: ReadRecord,

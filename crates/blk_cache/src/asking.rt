@@ -24,7 +24,7 @@ pub(crate) const STREAMS: u8 = 3;
 const SPARSE: u32 = 1;
 
 /// A stream of an open object: the object's record and node, whether it is doomed, and the bytes of the stream.
-#[derive(Clone, Copy, Debug)]
+#[derive(Clone, Copy)]
 pub(crate) struct NamedStream {
     pub(crate) entry: Addr,
     pub(crate) node: Addr,
@@ -33,7 +33,7 @@ pub(crate) struct NamedStream {
 }
 
 /// The stream that a request names, or why there is none.
-#[derive(Clone, Copy, Debug)]
+#[derive(Clone, Copy)]
 pub(crate) enum Asked {
     Refused(Refusal),
     Stream(NamedStream),

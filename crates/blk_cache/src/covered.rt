@@ -5,7 +5,7 @@ ghost use Rattle.blk_cache.specs.Covering.{covers, no_parts, one_if_some, part_c
 use blk_addr::Addr;
 
 /// The parts of an open object that a command covers, as they lie in the folder: none of them goes while it runs.
-#[derive(Clone, Copy, Debug)]
+#[derive(Clone, Copy)]
 pub(crate) struct Covered {
     /// The nodes of those that there are, two at most.
     pub first: Option<Addr>,

@@ -8,7 +8,7 @@ ghost use Rattle.blk_cache.specs.Evicting.{is_met};
 use crate::cache::Cache;
 
 /// How far a cache evicts.
-#[derive(Clone, Copy, Debug)]
+#[derive(Clone, Copy)]
 pub(crate) enum Goal {
     /// Until so many more bytes and items fit below the low-water mark.
     Room { bytes: u64, items: u64 },

@@ -25,7 +25,7 @@ use crate::goal::Goal;
 use blk_io::{Fault, Folder, Sink};
 
 /// Whether there is room for what a command adds.
-#[derive(Clone, Copy, Debug, PartialEq, Eq)]
+#[derive(Clone, Copy, PartialEq, Eq)]
 pub(crate) enum Room {
     /// The open objects and what is added exceed a limit.
     Full,

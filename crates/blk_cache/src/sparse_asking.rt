@@ -25,7 +25,7 @@ const SPARSE: u32 = 1;
 pub(crate) const LARGEST_OFFSET: u64 = 68_719_476_736;
 
 /// A live plain object: its record and node, and whether it has no bytes in its second and its third stream.
-#[derive(Clone, Copy, Debug)]
+#[derive(Clone, Copy)]
 pub(crate) struct PlainObject {
     pub(crate) entry: Addr,
     pub(crate) node: Addr,
@@ -33,7 +33,7 @@ pub(crate) struct PlainObject {
 }
 
 /// The live object that a request on sparse data names, or why there is none.
-#[derive(Clone, Copy, Debug)]
+#[derive(Clone, Copy)]
 pub(crate) enum AskedSparse {
     Refused(Refusal),
     Plain(PlainObject),

@@ -20,7 +20,7 @@ use blk_model::{Answer, Refusal};
 use blk_sparse::use_range;
 
 /// What is told of the sparse data that a command covers.
-#[derive(Clone, Copy, Debug, PartialEq, Eq)]
+#[derive(Clone, Copy, PartialEq, Eq)]
 pub(crate) enum Wanted {
     /// How many bytes there are from the offset on, which are printed then: a SparseRead.
     Bytes,

@@ -22,7 +22,7 @@ use blk_io::{Fault, Folder};
 use blk_sparse::{Measured, Target, measure, measure_plain};
 
 /// What a SparseWrite adds: by how many bytes and items there is more then, beside the covered parts that there are.
-#[derive(Clone, Copy, Debug)]
+#[derive(Clone, Copy)]
 pub(crate) struct Rise {
     pub(crate) parts: Covered,
     pub(crate) bytes: u64,

@@ -21,7 +21,7 @@ use blk_sparse::{Parent, Target};
 const SIGNATURES: u64 = 1 << 63;
 
 /// The object that a SparseWrite names, or why it is refused, but for want of room.
-#[derive(Clone, Copy, Debug)]
+#[derive(Clone, Copy)]
 pub(crate) enum AskedTarget {
     Refused(Refusal),
     Found(Target),

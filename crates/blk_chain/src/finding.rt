@@ -28,14 +28,14 @@ use blk_record::{EntryFlags, EntryView, IndexHead, super_fast_hash};
 const MOST_RECORDS: u32 = 131_073;
 
 // Where a search stands: at a word, behind the record that has it as its next, or at the front of a chain.
-#[derive(Clone, Copy, Debug)]
+#[derive(Clone, Copy)]
 struct Link {
     word: u32,
     before: Option<Addr>,
 }
 
 // What a record is sought by beside its key: the hash of the key, and the child flag.
-#[derive(Clone, Copy, Debug)]
+#[derive(Clone, Copy)]
 struct Sought {
     hash: u32,
     child: bool,

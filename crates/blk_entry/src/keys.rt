@@ -49,7 +49,7 @@ pub struct Head {
 }
 
 // Where a key lies: its bytes in the data of an address, behind some others.
-#[derive(Clone, Copy, Debug)]
+#[derive(Clone, Copy)]
 pub(crate) struct KeyPlace {
     pub(crate) addr: Addr,
     pub(crate) skip: u32,

@@ -25,7 +25,7 @@ use blk_scan::scan_files;
 use std::alloc::Global;
 
 /// What is asked of a folder.
-#[derive(Clone, Copy, Debug)]
+#[derive(Clone, Copy)]
 pub(crate) enum Question {
     // A part of it.
     OfPart(Part),

@@ -26,7 +26,7 @@ pub(crate) trait Row {
 }
 
 /// A word with its name.
-#[derive(Clone, Copy, Debug)]
+#[derive(Clone, Copy)]
 pub(crate) struct NamedWord {
     pub(crate) name: &'static str,
     pub(crate) word: u32,
@@ -44,7 +44,7 @@ impl Row for NamedWord {
 }
 
 /// A node, with the word of its record and its mark.
-#[derive(Clone, Copy, Debug)]
+#[derive(Clone, Copy)]
 pub(crate) struct NodeRow {
     pub(crate) node: u32,
     pub(crate) contents: u32,
@@ -75,7 +75,7 @@ impl Row for NodeRow {
 }
 
 /// A record, with the hash of its key.
-#[derive(Clone, Copy, Debug)]
+#[derive(Clone, Copy)]
 pub(crate) struct RecordRow {
     pub(crate) entry: u32,
     pub(crate) hash: u32,

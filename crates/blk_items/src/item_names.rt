@@ -37,7 +37,7 @@ pub enum EntryKind {
 
 /// What the record of an item says: the kind of its entry, how many bytes its key or name has, and its places with what
 /// it is charged.
-#[derive(Clone, Copy, Debug)]
+#[derive(Clone, Copy)]
 pub(crate) struct Named {
     pub(crate) kind: EntryKind,
     pub(crate) len: usize,

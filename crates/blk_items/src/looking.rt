@@ -34,7 +34,7 @@ pub struct Live {
 }
 
 /// What the record of an object says: its node, what kind of entry it has, and what it is charged as a main item.
-#[derive(Clone, Copy, Debug)]
+#[derive(Clone, Copy)]
 pub(crate) struct Said {
     pub(crate) node: Addr,
     pub(crate) kind: EntryKind,

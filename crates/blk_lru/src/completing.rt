@@ -27,14 +27,14 @@ use blk_index::word;
 use blk_io::{Fault, Folder};
 
 // An operation in flight that counts, and its node.
-#[derive(Clone, Copy, Debug)]
+#[derive(Clone, Copy)]
 pub(crate) struct InFlight {
     node: Addr,
     operation: Operation,
 }
 
 // What an operation in flight goes by, where it can be used: it counts, or it names a word that is no node or one that doesn't check.
-#[derive(Clone, Copy, Debug)]
+#[derive(Clone, Copy)]
 pub(crate) enum Usable<T> {
     Counts(T),
     Fails,

@@ -18,7 +18,7 @@ use blk_io::{Damage, Fault, Folder};
 use blk_record::{BlockHead, NodeView, Record};
 
 // A node that checks, and the words of its links.
-#[derive(Clone, Copy, Debug)]
+#[derive(Clone, Copy)]
 pub(crate) struct Links {
     pub(crate) node: Addr,
     pub(crate) next: u32,

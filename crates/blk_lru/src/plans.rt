@@ -26,7 +26,7 @@ pub(crate) const REMOVE: u32 = 2;
 pub(crate) const MOVE: u32 = 3;
 
 // The nodes beside one, by its links: the next and the previous. At an end of the list that is the node itself.
-#[derive(Clone, Copy, Debug)]
+#[derive(Clone, Copy)]
 pub(crate) struct Neighbours {
     pub(crate) next: Addr,
     pub(crate) prev: Addr,
@@ -34,7 +34,7 @@ pub(crate) struct Neighbours {
 
 // An operation on a node, and the nodes that it goes by: the first node, and those beside the node,
 // where there are any. The node is put in front, taken out, or taken out and then put in front.
-#[derive(Clone, Copy, Debug)]
+#[derive(Clone, Copy)]
 pub(crate) enum Operation {
     Insert {
         head: Option<Addr>,

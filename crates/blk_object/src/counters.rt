@@ -18,7 +18,7 @@ use blk_io::{Failed, Fault, FileId, Folder, write_words};
 use blk_record::{IndexHead, WORD_VALUES};
 
 /// What the index counts.
-#[derive(Clone, Copy, Debug)]
+#[derive(Clone, Copy)]
 pub(crate) struct Counters {
     /// The entries.
     pub entries: u32,

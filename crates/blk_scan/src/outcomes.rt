@@ -9,7 +9,7 @@ use blk_verdict::{Loaded, Reason, Tried};
 use std::alloc::Global;
 
 // What came of a walked node.
-#[derive(Clone, Copy, Debug)]
+#[derive(Clone, Copy)]
 pub(crate) enum Outcome {
     // It is kept: this one of the kept records, counted from 0 in the order in which they were tried.
     Kept(usize),

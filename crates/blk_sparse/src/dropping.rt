@@ -39,14 +39,14 @@ pub struct Gone {
 }
 
 // What the index of an object says of its parts: the signature by which they are named, and whether any bit is set.
-#[derive(Clone, Copy, Debug)]
+#[derive(Clone, Copy)]
 pub(crate) struct IndexedParts {
     pub signature: i64,
     pub any: bool,
 }
 
 // A part that went: its number, its charge, and the node that was before its own, if there was one.
-#[derive(Clone, Copy, Debug)]
+#[derive(Clone, Copy)]
 struct Dropped {
     number: u32,
     charge: u64,

@@ -45,7 +45,7 @@ pub struct Measured {
 }
 
 // A covered part: its node and its charge, where there is the part, and how much more it is charged after the write.
-#[derive(Clone, Copy, Debug)]
+#[derive(Clone, Copy)]
 pub(crate) struct Piece {
     pub(crate) node: Option<Addr>,
     pub(crate) charged: u64,

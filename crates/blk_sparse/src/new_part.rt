@@ -39,7 +39,7 @@ use blk_record::{EntryView, IndexHead, super_fast_hash};
 use blk_stream::store_new;
 
 /// The places of a new part.
-#[derive(Clone, Copy, Debug)]
+#[derive(Clone, Copy)]
 pub(crate) struct PartPlaces {
     /// Those of its entry.
     pub(crate) places: Places,

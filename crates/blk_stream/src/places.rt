@@ -18,7 +18,7 @@ use blk_record::{EntryView, Record};
 const MOST_BYTES: u32 = blk_model::MOST_BYTES as u32;
 
 // The bytes of a stream: how many there are, and where they lie, if there are any.
-#[derive(Clone, Copy, Debug)]
+#[derive(Clone, Copy)]
 pub(crate) struct Stored {
     pub(crate) size: u32,
     pub(crate) addr: Option<Addr>,

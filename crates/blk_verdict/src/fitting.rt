@@ -21,7 +21,7 @@ use blk_io::{Fault, Folder};
 use blk_ranges::ChildName;
 
 // What is sought.
-#[derive(Clone, Copy, Debug, PartialEq, Eq)]
+#[derive(Clone, Copy, PartialEq, Eq)]
 pub(crate) enum Sought {
     // A part.
     Part,

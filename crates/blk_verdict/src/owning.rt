@@ -8,7 +8,7 @@ use blk_addr::Addr;
 const MOST_OWNED: usize = 7;
 
 // The addresses that a record owns.
-#[derive(Clone, Copy, Debug)]
+#[derive(Clone, Copy)]
 pub(crate) struct Owned {
     addrs: [Addr; MOST_OWNED],
     count: usize,
