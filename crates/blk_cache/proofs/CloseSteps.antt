@@ -42,7 +42,7 @@ use Rattle.blk_kept.proofs.Dirtying.{leaves}
 use Rattle.blk_kept.proofs.NextStates.{closes-next, closes-of-many-next}
 use Rattle.blk_kept.proofs.OneCalls.{closes-end-by-mark, closes-stop-by-mark}
 use Rattle.blk_kept.proofs.Stopping.{nothing-stops}
-use Rattle.blk_kept_calls.proofs.Marks.{being-set, check-as-records, marks-set, nodes-check}
+use Rattle.blk_object.proofs.KeptMarks.{being-set, check-as-records, marks-set, nodes-check}
 use Rattle.blk_cache.specs.declared.cache.Cache.{Cache}
 use Rattle.blk_cache.specs.BoundNames.{AreBoundAmong}
 use Rattle.blk_cache.specs.CacheKeeping.{IsBoundTo, KeepsState}

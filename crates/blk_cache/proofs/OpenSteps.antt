@@ -34,8 +34,8 @@ use Rattle.blk_kept.proofs.CommandEnding.{opens-end, passed}
 use Rattle.blk_kept.proofs.OneCalls.{opens-end-by-touch}
 use Rattle.blk_kept.proofs.Touched.{leaves}
 use Rattle.blk_kept.proofs.Touching.{opens-stop}
-use Rattle.blk_kept_calls.specs.Lists.{IsAmidList}
-use Rattle.blk_kept_calls.proofs.Lists.{listed-amid, touches-done, touches-partly}
+use Rattle.blk_object.specs.KeptLists.{IsAmidList}
+use Rattle.blk_object.proofs.KeptLists.{listed-amid, touches-done, touches-partly}
 use Rattle.blk_cache.specs.declared.cache.Cache.{Cache}
 use Rattle.blk_items.specs.declared.looking.Live.{Live}
 use Rattle.blk_cache.specs.CacheKeeping.{KeepsState}

@@ -38,8 +38,8 @@ use Rattle.blk_kept.proofs.CommandEnding.{passed, uses-end}
 use Rattle.blk_kept.proofs.OneCalls.{doomed-reads-end, reads-end-by-touch, reads-stop}
 use Rattle.blk_kept.proofs.Stopping.{nothing-stops, refusals-done}
 use Rattle.blk_kept.proofs.Touched.{leaves}
-use Rattle.blk_kept_calls.specs.Lists.{IsAmidList}
-use Rattle.blk_kept_calls.proofs.Lists.{listed-amid, touches-done, touches-partly}
+use Rattle.blk_object.specs.KeptLists.{IsAmidList}
+use Rattle.blk_object.proofs.KeptLists.{listed-amid, touches-done, touches-partly}
 use Rattle.blk_cache.specs.declared.asking.NamedStream.{NamedStream}
 use Rattle.blk_cache.specs.declared.cache.Cache.{Cache}
 use Rattle.blk_cache.specs.Asking.{IsNamedStream, stream_refusal}

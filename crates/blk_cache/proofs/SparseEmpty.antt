@@ -34,8 +34,8 @@ use Rattle.blk_kept.specs.ListLaws.{IsTouchDone}
 use Rattle.blk_kept.proofs.CommandEnding.{empty-sparse-writes-end, passed}
 use Rattle.blk_kept.proofs.Touched.{leaves, touch-counts}
 use Rattle.blk_kept.proofs.WordStops.{uses-stop}
-use Rattle.blk_kept_calls.specs.Lists.{IsAmidList}
-use Rattle.blk_kept_calls.proofs.Lists.{listed-amid, touches-done, touches-partly}
+use Rattle.blk_object.specs.KeptLists.{IsAmidList}
+use Rattle.blk_object.proofs.KeptLists.{listed-amid, touches-done, touches-partly}
 use Rattle.blk_sparse.specs.declared.storing.Target.{Target}
 use Rattle.blk_cache.specs.declared.cache.Cache.{Cache}
 use Rattle.blk_cache.specs.CacheKeeping.{KeepsState}

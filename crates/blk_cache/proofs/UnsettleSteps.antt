@@ -24,7 +24,7 @@ use Rattle.blk_kept.specs.Changes.{Finds}
 use Rattle.blk_kept.specs.OneCallLaws.{Names}
 use Rattle.blk_kept.specs.RecordLaws.{IsMarked, IsMarking}
 use Rattle.blk_kept.proofs.Keeping.{kept-found}
-use Rattle.blk_kept_calls.proofs.Marks.{being-set, check-as-records, marks-set, nodes-check}
+use Rattle.blk_object.proofs.KeptMarks.{being-set, check-as-records, marks-set, nodes-check}
 use Rattle.blk_cache.specs.declared.cache.Cache.{Cache}
 use Rattle.blk_cache.specs.BoundNames.{AreBoundAmong}
 use Rattle.blk_cache.specs.CacheKeeping.{IsBoundTo, KeepsState}

@@ -32,8 +32,8 @@ use Rattle.blk_kept.proofs.Keeping.{kept-found}
 use Rattle.blk_kept.proofs.NotAtRest.{own-uses, unsettled-rest}
 use Rattle.blk_kept.proofs.Touched.{touch-keeps}
 use Rattle.blk_kept.proofs.Touching.{touches-find}
-use Rattle.blk_kept_calls.specs.Lists.{IsAmidList}
-use Rattle.blk_kept_calls.proofs.Lists.{listed-amid, touches-done, touches-partly}
+use Rattle.blk_object.specs.KeptLists.{IsAmidList}
+use Rattle.blk_object.proofs.KeptLists.{listed-amid, touches-done, touches-partly}
 use Rattle.blk_object.specs.Writing.{IsRiseCounted}
 use Rattle.blk_cache.specs.Writing.{ForEachToUse, IsToBeUsed, IsUsedAndCounted}
 use Rattle.blk_cache.proofs.CreateWhole.{there-after, untold-by}

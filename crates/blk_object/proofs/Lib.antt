@@ -1,3 +1,12 @@
+pub mod KeptFreeing
+pub mod KeptAllocating
+pub mod KeptFreeNumbers
+pub mod KeptExternalFiles
+pub mod KeptLists
+pub mod KeptMarks
+pub mod KeptEntries
+pub mod KeptChains
+pub mod KeptNewEntries
 pub mod MakingRoom
 pub mod MakingTaken
 pub mod MakingStored

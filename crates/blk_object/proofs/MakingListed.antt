@@ -22,9 +22,9 @@ use Rattle.blk_lru.specs.Moments.{IsMidOperation}
 use Rattle.blk_chain.specs.Linking.{CanBeLinked, IsLinkedInFront}
 use Rattle.blk_kept.specs.NewEntryLaws.{HasRecordInFront, IsInsertDone}
 use Rattle.blk_kept.proofs.NewEntries.{entries-kept, inserts-find, links-find}
-use Rattle.blk_kept_calls.proofs.Lists.{inserts-done, new-can-be}
-use Rattle.blk_kept_calls.proofs.Marks.{come-in-front, in-front}
-use Rattle.blk_kept_calls.proofs.NewEntries.{new-can-be-linked}
+use Rattle.blk_object.proofs.KeptLists.{inserts-done, new-can-be}
+use Rattle.blk_object.proofs.KeptMarks.{come-in-front, in-front}
+use Rattle.blk_object.proofs.KeptNewEntries.{new-can-be-linked}
 use Rattle.blk_object.specs.Making.{CanBeListed, FindsUntilListed, IsListed}
 use Rattle.blk_object.proofs.MakingTaken.{none-before, told-mid}
 

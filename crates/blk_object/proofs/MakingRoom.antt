@@ -17,8 +17,8 @@ use Rattle.blk_alloc.specs.Allocating.{AreCounted}
 use Rattle.blk_external.specs.Numbers.{HasFreeNumber}
 use Rattle.blk_kept.specs.Keeping.{KeepsUncounted}
 use Rattle.blk_kept.proofs.Bounds.{leave-room}
-use Rattle.blk_kept_calls.proofs.Allocating.{files-counted}
-use Rattle.blk_kept_calls.proofs.FreeNumbers.{kept-have-free}
+use Rattle.blk_object.proofs.KeptAllocating.{files-counted}
+use Rattle.blk_object.proofs.KeptFreeNumbers.{kept-have-free}
 use Rattle.blk_object.specs.Making.{LeavesRoom}
 
 -- ---- the list is no longer than the items

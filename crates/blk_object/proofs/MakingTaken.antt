@@ -41,8 +41,8 @@ use Rattle.blk_kept.proofs.Externals.{making-finds}
 use Rattle.blk_kept.proofs.Free.{then-found, unlinked-change}
 use Rattle.blk_kept.proofs.MakingFiles.{its-claims, made-unlinked}
 use Rattle.blk_kept.proofs.Writes.{external-writes, growth-finds}
-use Rattle.blk_kept_calls.proofs.Allocating.{allocations-add}
-use Rattle.blk_kept_calls.proofs.ExternalFiles.{creations-add, deletions-find}
+use Rattle.blk_object.proofs.KeptAllocating.{allocations-add}
+use Rattle.blk_object.proofs.KeptExternalFiles.{creations-add, deletions-find}
 use Rattle.blk_object.specs.Making.{LeavesRoom, Takes}
 use Rattle.blk_object.proofs.MakingRoom.{counted-with-room, free-with-room}
 use Rattle.blk_object.proofs.MakingStored.{allocating-index, changed-stored, counters-then, growth-stored, index-counters, made-outside, made-stored, making-counters}

@@ -23,8 +23,8 @@ use Rattle.blk_entry.specs.Writing.{AreWords, FitsKey, IsLongPlace, IsShownNew, 
 use Rattle.blk_kept.specs.Changes.{KeepsWith, StillFinds}
 use Rattle.blk_kept.specs.Keeping.{KeepsUncounted}
 use Rattle.blk_kept.proofs.Free.{then-found}
-use Rattle.blk_kept_calls.proofs.Entries.{writing-keeps}
-use Rattle.blk_kept_calls.proofs.NewEntries.{written-new}
+use Rattle.blk_object.proofs.KeptEntries.{writing-keeps}
+use Rattle.blk_object.proofs.KeptNewEntries.{written-new}
 use Rattle.blk_object.specs.Making.{IsEntryOfKept, new_entry, new_loaded, long_word, words_of_places}
 use Rattle.blk_object.specs.declared.making_places.Places.{Places}
 use Rattle.blk_object.proofs.MakingRoom.{uses-few}

@@ -52,7 +52,7 @@ use Rattle.blk_kept.specs.RemovalLaws.{IsRemovalDone, chains_without}
 use Rattle.blk_kept.proofs.GoingOut.{chain-same}
 use Rattle.blk_kept.proofs.Leaving.{leaves-files}
 use Rattle.blk_kept.proofs.Links.{next-sealed, table-sealed}
-use Rattle.blk_kept_calls.proofs.Lists.{listed-amid}
+use Rattle.blk_object.proofs.KeptLists.{listed-amid}
 use Rattle.blk_object.specs.Removing.{GoingOutIsRemoving, TakenOutItemsLeaveCounters, IsBeingUnlinked, IsTakenOut, IsYetLinked, LiesBehind, ListedItemsMayGoOut, TakenOutItemsAreRemoved}
 use Rattle.blk_object.proofs.ChainsOut.{among-front, can-go, goes-out, leaves-files as out-leaves, yet-in}
 

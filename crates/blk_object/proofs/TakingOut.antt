@@ -16,12 +16,12 @@ use Rattle.blk_volume.specs.View.{list_of}
 use Rattle.blk_lru.specs.Moments.{IsMidOperation}
 use Rattle.blk_chain.specs.Unlinking.{BeforeChecks, CanBeUnlinked, IsSealedAgain, IsStillLinked, IsUnlinked, words_to_unlink}
 use Rattle.blk_kept.specs.RemovalLaws.{IsRemovalDone}
-use Rattle.blk_kept_calls.specs.Lists.{IsAmidList}
+use Rattle.blk_object.specs.KeptLists.{IsAmidList}
 use Rattle.blk_object.proofs.ChainsOut.{among-front}
 use Rattle.blk_laws.proofs.lists.Walks.{walk_list}
 use Rattle.blk_lru.specs.Lists.{IsListed}
 use Rattle.blk_format.specs.BlockFiles.{is_among}
-use Rattle.blk_kept_calls.proofs.Lists.{removals-done}
+use Rattle.blk_object.proofs.KeptLists.{removals-done}
 use Rattle.blk_stream.proofs.Joined.{IsTold, told_then}
 use Rattle.blk_object.specs.Removing.{IsGoingOut, IsTakenOut, IsYetLinked, MayGoOut}
 

@@ -31,8 +31,8 @@ use Rattle.blk_kept.proofs.Free.{then-found, unlinked-change}
 use Rattle.blk_kept.proofs.Freed.{freed-removed}
 use Rattle.blk_kept.proofs.MakingFiles.{made-unlinked}
 use Rattle.blk_kept.proofs.Writes.{block-writes, external-writes, growth-finds}
-use Rattle.blk_kept_calls.proofs.Allocating.{allocations-add}
-use Rattle.blk_kept_calls.proofs.Freeing.{map-only}
+use Rattle.blk_object.proofs.KeptAllocating.{allocations-add}
+use Rattle.blk_object.proofs.KeptFreeing.{map-only}
 use Rattle.blk_object.specs.Making.{KeepsStored, Takes}
 use Rattle.blk_object.specs.WritingPlaces.{FilledPlacesAreUnlinked, FillingFindsTheSame, FreedPlacesAreRemoved}
 use Rattle.blk_object.proofs.MakingStored.{allocating-index, changed-stored, counters-then, growth-stored, index-counters, made-stored, making-counters}

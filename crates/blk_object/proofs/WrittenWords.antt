@@ -39,8 +39,8 @@ use Rattle.blk_stream.proofs.Placed.{blocks_are}
 use Rattle.blk_kept.specs.Keeping.{KeepsUncounted, all_loaded, all_nodes, words_in_use}
 use Rattle.blk_kept.proofs.Bounds.{leave-room}
 use Rattle.blk_kept.proofs.Touched.{to-front}
-use Rattle.blk_kept_calls.proofs.Allocating.{files-counted}
-use Rattle.blk_kept_calls.proofs.FreeNumbers.{kept-have-free}
+use Rattle.blk_object.proofs.KeptAllocating.{files-counted}
+use Rattle.blk_object.proofs.KeptFreeNumbers.{kept-have-free}
 use Rattle.blk_object.proofs.WrittenItems.{its-address, kind, other-address, record-once, says, stands-so}
 
 -- ---- what is among words

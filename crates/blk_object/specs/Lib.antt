@@ -1,3 +1,9 @@
+pub mod KeptBlocks
+pub mod KeptExternalFiles
+pub mod KeptLists
+pub mod KeptMarks
+pub mod KeptEntries
+pub mod KeptChains
 pub mod Making
 pub mod Removing
 pub mod Freeing

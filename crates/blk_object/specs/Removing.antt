@@ -16,7 +16,7 @@ use Rattle.blk_kept.specs.Keeping.{KeepsUncounted}
 use Rattle.blk_kept.specs.PlainRemovals.{IsRemoved, IsRemoving}
 use Rattle.blk_kept.specs.RemovalLaws.{IsRemovalDone, chains_without}
 use Rattle.blk_kept.specs.WordStops.{IsMidRemoval}
-use Rattle.blk_kept_calls.specs.Lists.{IsAmidList}
+use Rattle.blk_object.specs.KeptLists.{IsAmidList}
 
 -- What the call does.
 

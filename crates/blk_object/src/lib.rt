@@ -1,6 +1,7 @@
 //! The objects of a folder that keeps a state of the map: how one is made, and how one goes, with what is found at each word.
 #![tactic(auto)]
 
+mod call_laws;
 mod counters;
 mod counting_laws;
 mod dooming;
@@ -25,6 +26,11 @@ mod writing;
 mod writing_laws;
 mod writing_places_laws;
 
+pub use call_laws::{
+    allocated_blocks_are_added, dirty_words_are_set, external_files_are_added,
+    external_files_are_gone, freed_blocks_are_gone, new_entries_are_written, nodes_are_listed,
+    records_are_linked, records_are_unlinked, whole_folders_find_the_same,
+};
 pub use counters::{count_less, count_more, count_rise};
 pub use counting_laws::{left_items_are_counted, parts_go_until_none_is_left};
 pub use dooming::{doom_plain, doom_record};

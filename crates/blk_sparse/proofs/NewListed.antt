@@ -60,8 +60,8 @@ use Rattle.blk_kept.proofs.Leaving.{leaves-files, leaves-then}
 use Rattle.blk_kept.proofs.NewEntries.{table-leaves, table-seals, table-word}
 use Rattle.blk_kept.proofs.NewParts as parts
 use Rattle.blk_kept.proofs.NewPartsKept.{making-finds, part-inserts-find}
-use Rattle.blk_kept_calls.proofs.Lists.{inserts-done}
-use Rattle.blk_kept_calls.proofs.Marks.{come-in-front, in-front}
+use Rattle.blk_object.proofs.KeptLists.{inserts-done}
+use Rattle.blk_object.proofs.KeptMarks.{come-in-front, in-front}
 use Rattle.blk_object.proofs.MakingListed.{told-at}
 use Rattle.blk_object.proofs.MakingStored.{counters-then}
 use Rattle.blk_object.proofs.MakingTaken.{told-mid}

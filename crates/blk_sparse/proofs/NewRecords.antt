@@ -13,8 +13,8 @@ use Rattle.blk_entry.specs.Writing.{AreWords, FitsKey, IsShownNew, IsWritten, Wr
 use Rattle.blk_kept.specs.Changes.{KeepsWith, StillFinds}
 use Rattle.blk_kept.proofs.Free.{then-found}
 use Rattle.blk_kept.specs.Keeping.{KeepsUncounted}
-use Rattle.blk_kept_calls.proofs.Entries.{change-own, places-spare, writing-keeps}
-use Rattle.blk_kept_calls.proofs.NewEntries.{fresh, nobody}
+use Rattle.blk_object.proofs.KeptEntries.{change-own, places-spare, writing-keeps}
+use Rattle.blk_object.proofs.KeptNewEntries.{fresh, nobody}
 use Rattle.blk_object.specs.Making.{words_of_places}
 use Rattle.blk_object.specs.declared.making_places.Places.{Places}
 use Rattle.blk_object.proofs.MakingStored.{index-counters}

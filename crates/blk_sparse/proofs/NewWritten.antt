@@ -38,7 +38,7 @@ use Rattle.blk_kept.specs.Keeping.{KeepsUncounted}
 use Rattle.blk_kept.proofs.AtNodes.{updates-change, updates-leave}
 use Rattle.blk_kept.proofs.Free.{unlinked-change}
 use Rattle.blk_kept.proofs.Keeping.{kept-found}
-use Rattle.blk_kept_calls.proofs.NewEntries.{new-node_sealed}
+use Rattle.blk_object.proofs.KeptNewEntries.{new-node_sealed}
 use Rattle.blk_object.specs.Making.{long_word, words_of_places}
 use Rattle.blk_object.proofs.MakingStored.{changed-stored, counters-then, of-all}
 use Rattle.blk_object.proofs.MakingTaken.{session-then}

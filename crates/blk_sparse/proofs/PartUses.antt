@@ -36,8 +36,8 @@ use Rattle.blk_kept.specs.ListLaws.{IsTouchDone, with_used}
 use Rattle.blk_kept.proofs.Free.{standing-at}
 use Rattle.blk_kept.proofs.Touched.{leaves, touch-counts, touch-keeps}
 use Rattle.blk_kept.proofs.Touching.{touches-find}
-use Rattle.blk_kept_calls.specs.Lists.{IsAmidList}
-use Rattle.blk_kept_calls.proofs.Lists.{listed-amid, touches-done, touches-partly}
+use Rattle.blk_object.specs.KeptLists.{IsAmidList}
+use Rattle.blk_object.proofs.KeptLists.{listed-amid, touches-done, touches-partly}
 use Rattle.blk_sparse.specs.Parts.{FindsBeforeOrAfter, IsListedAt, IsUsed}
 use Rattle.blk_kept.proofs.Keeping.{kept-found}
 

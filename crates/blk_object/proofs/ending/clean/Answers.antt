@@ -1,5 +1,5 @@
 use Rattle.blk_lru.proofs.NodeWords.{node_kind}
-use Rattle.blk_kept_calls.proofs.Marks.{check-as-records}
+use Rattle.blk_object.proofs.KeptMarks.{check-as-records}
 use Rattle.blk_object.proofs.ending.clean.Goals as goal
 
 pub returns-then-object-clause-untold : goal.returns-then-object-clause-untold

@@ -5,7 +5,7 @@ use Rattle.blk_image.specs.Image.{Index}
 use Rattle.blk_format.specs.Address.{external_number}
 use Rattle.blk_format.specs.BlockFiles.{stands_in, IsWellFormed}
 use Rattle.blk_io.proofs.Carried.{silent_part}
-use Rattle.blk_kept_calls.proofs.ExternalFiles.{deletions-remove}
+use Rattle.blk_object.proofs.KeptExternalFiles.{deletions-remove}
 use Rattle.blk_stream.proofs.PlacesFreed.{agrees_deleted}
 use Rattle.blk_image.specs.Footprint.{whole}
 use Rattle.blk_external.specs.Changes.{ChangesExternal}

@@ -4,7 +4,7 @@ use Rattle.blk_image.specs.Image.{Index}
 use Rattle.blk_image.proofs.Runs.{passes_end, passes_weaker}
 use Rattle.blk_format.specs.Address.{external, kind_of}
 use Rattle.blk_entry.proofs.KeyPlaces.{of_other}
-use Rattle.blk_kept_calls.proofs.Freeing.{frees-remove, frees-stay}
+use Rattle.blk_object.proofs.KeptFreeing.{frees-remove, frees-stay}
 use Rattle.blk_alloc.specs.Owning.{FreesOrStops}
 use Rattle.blk_stream.proofs.PlacesFreed.{freed_only}
 use Rattle.blk_object.proofs.FreeingRuns.{still-open}

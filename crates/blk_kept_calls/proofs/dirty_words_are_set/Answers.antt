@@ -1,5 +1,0 @@
-use Rattle.blk_kept_calls.proofs.Marks.{being-set, check-as-records, marks-set, nodes-check}
-use Rattle.blk_kept_calls.proofs.dirty_words_are_set.Goals as goal
-
-pub returns : goal.returns
-returns c = record { kept = nodes-check; checks = check-as-records; each = being-set; set = marks-set }

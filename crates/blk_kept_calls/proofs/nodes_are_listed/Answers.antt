@@ -1,5 +1,0 @@
-use Rattle.blk_kept_calls.proofs.Lists.{inserts-done, inserts-partly, listed-amid, new-can-be, removals-done, removals-partly, touches-done, touches-partly}
-use Rattle.blk_kept_calls.proofs.nodes_are_listed.Goals as goal
-
-pub returns : goal.returns
-returns c = record { new = new-can-be; listed = listed-amid; inserting = inserts-partly; inserted = inserts-done; removing = removals-partly; removed = removals-done; touching = touches-partly; touched = touches-done }
