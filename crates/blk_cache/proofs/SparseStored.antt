@@ -36,7 +36,7 @@ use Rattle.blk_object.specs.Writing.{node_of_object}
 use Rattle.blk_object.proofs.WrittenObjects.{object-row}
 use Rattle.blk_sparse.specs.declared.storing.Target.{Target}
 use Rattle.blk_sparse.specs.SparseObjects.{missing_parts, with_signature}
-use Rattle.blk_sparse.specs.SparseWrites.{CanBeStored, ForEachToStore, IsStored, MayGetParts, object_written, signature_to, sparse_state}
+use Rattle.blk_sparse.specs.SparseWrites.{CanBeStored, ForEachToStore, IsKeptWithBytes, MayGetParts, object_written, signature_to, sparse_state}
 use Rattle.blk_sparse.proofs.PartCharges.{more-written}
 use Rattle.blk_cache.specs.declared.cache.Cache.{Cache}
 use Rattle.blk_cache.specs.CacheKeeping.{IsBoundAs, IsBoundTo, KeepsState, named_from, named_objects}
@@ -162,7 +162,7 @@ module _ (cache : Cache) (state : State) (from : Image) (k : KeepsState cache st
 
   -- ---- once it is stored
 
-  module _ (image : Image) (w : IsStored state k.layout can.number can.object (own_target b.node b.entry target) offset bytes from image) (new : Cache) (counts : CountedParts cache new target more_bytes more_items) (files : Agrees new.files image) where
+  module _ (image : Image) (w : IsKeptWithBytes state k.layout can.number can.object (own_target b.node b.entry target) offset bytes from image) (new : Cache) (counts : CountedParts cache new target more_bytes more_items) (files : Agrees new.files image) where
     one : IsOneChanged can.object other (named_objects state) (named_objects next)
     one = subst (IsOneChanged can.object other (named_objects state)) (sym (named-same state next (λ n. refl) 0 next.objects))
         (named-changed state can.number can.object other (its-named cache state from k handle can.number can.object can.names) 0 can.number (omega arith) state.objects can.names.here)
@@ -262,11 +262,11 @@ module _ (cache : Cache) (handle offset : ℕ) (bytes : List ℕ) (some : 1 ≤ 
       untold from here one_state.state one_state.kept.layout one_state.can.number one_state.can.object (subst (λ (t : Target). CanBeStored one_state.state one_state.kept.layout one_state.can.number one_state.can.object t offset bytes more_items more_bytes from) (sym is-own)
       (to-store cache one_state.state from one_state.kept handle offset bytes target more_bytes more_items one_state.can b bound some short)))
 
-  pub store-keeps : (new : Cache) → CountedParts cache new target more_bytes more_items → ForSome old.files (λ from. ForEachToStore its offset bytes more_items more_bytes from (λ state layout number object. ForSome now.files (IsStored state layout number object its offset bytes from)))
+  pub store-keeps : (new : Cache) → CountedParts cache new target more_bytes more_items → ForSome old.files (λ from. ForEachToStore its offset bytes more_items more_bytes from (λ state layout number object. ForSome now.files (IsKeptWithBytes state layout number object its offset bytes from)))
       → ((image : Image) → now.files ≡ Some image → Agrees new.files image)
       → ForSome old.files (λ from. (state : State) → KeepsState cache state from → (can : CanStore state handle offset bytes target more_bytes more_items) → ForSome now.files (KeepsState new (sparse_state state can.number can.object (signature_to target) offset bytes)))
   store-keeps new counts stored files from here state k can image there =
       stored-keeps cache state from k handle offset bytes target more_bytes more_items can b bound image
-      (subst (λ (t : Target). IsStored state k.layout can.number can.object t offset bytes from image) is-own
+      (subst (λ (t : Target). IsKeptWithBytes state k.layout can.number can.object t offset bytes from image) is-own
       (stored from here state k.layout can.number can.object (subst (λ (t : Target). CanBeStored state k.layout can.number can.object t offset bytes more_items more_bytes from) (sym is-own)
       (to-store cache state from k handle offset bytes target more_bytes more_items can b bound some short)) image there)) new counts (files image there)

@@ -48,11 +48,11 @@ work_of do_verify = folder_text verify_text
 work_of (do_generate seed turns) = no_input (gen_script seed turns)
 
 -- the work by its status, where it began with an image that is unfinished or well formed
-abbrev pub Plays : Work → Status → Bounds → Image → Readings → (source sink : Type 0) → Outside → Outside → Type 0
-Plays input_lines result limits from readings source sink old new = ForSome old.left (λ input. Session result limits budget from readings input source sink old new)
-Plays (whole_input script) result limits from readings source sink old new = ForSome old.left (λ input. Put result script limits from readings input sink old new)
-Plays (no_input script) result limits from readings source sink old new = FixedScript result script limits from readings sink old new
-Plays (folder_text text) result limits from readings source sink old new = ShowsText result (text from) old new
+abbrev pub DoesWork : Work → Status → Bounds → Image → Readings → (source sink : Type 0) → Outside → Outside → Type 0
+DoesWork input_lines result limits from readings source sink old new = ForSome old.left (λ input. Session result limits budget from readings input source sink old new)
+DoesWork (whole_input script) result limits from readings source sink old new = ForSome old.left (λ input. Put result script limits from readings input sink old new)
+DoesWork (no_input script) result limits from readings source sink old new = FixedScript result script limits from readings sink old new
+DoesWork (folder_text text) result limits from readings source sink old new = ShowsText result (text from) old new
 
 -- where nothing failed and the input is as long as it may be: the whole output was printed, or there was no memory
 abbrev pub Completes : Work → Status → Bounds → Image → Readings → Outside → Outside → Type 0
@@ -99,7 +99,7 @@ IsDamagedWork (folder_text text) before now old new = IsFailedInReading old.fold
 -- the work was done; device and source say that the count of each rose, before and now are the sink's counts of faults
 pub record Performs (work : Work) (result : Status) (limits : Bounds) (device source : Type 0) (before now : ℕ) (old new : Outside) : Type 0 where
   -- on a folder that is unfinished or well formed it is the run on the map model
-  pub plays : ForSome old.folder.files (λ from. IsUsable from → ForSome old.clock (λ readings. Plays work result limits from readings source (Rises before now) old new))
+  pub plays : ForSome old.folder.files (λ from. IsUsable from → ForSome old.clock (λ readings. DoesWork work result limits from readings source (Rises before now) old new))
   -- where nothing fails the whole output is printed, unless memory is wanting
   pub complete : ForSome old.folder.files (λ from. IsUsable from → ForSome old.clock (λ readings. (device → ⊥) → (source → ⊥) → (Rises before now → ⊥) → Completes work result limits from readings old new))
   -- on a finished folder of which a check fails that is printed, and no more is done

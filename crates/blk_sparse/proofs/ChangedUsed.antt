@@ -27,7 +27,7 @@ use Rattle.blk_object.proofs.MakingTaken.{session-then}
 use Rattle.blk_object.proofs.WrittenParts.{its-place}
 use Rattle.blk_ranges.specs.PartMaps.{index_of, SamePart, presence_of}
 use Rattle.blk_ranges.specs.declared.part_map.PartMap.{PartMap}
-use Rattle.blk_sparse.specs.Changing.{IsChangedUnused, IsDataBeforeMap, IsNoted, IsToBeChanged}
+use Rattle.blk_sparse.specs.Changing.{IsChangedUnused, IsDataBeforeMap, NotesWrite, IsToBeChanged}
 use Rattle.blk_sparse.specs.Parts.{FindsBeforeOrAfter, ForEachListedAt, IsListedAt, IsUsed}
 use Rattle.blk_sparse.specs.SparseObjects.{CanGetParts, HasPartAt, KeepsParentThen, with_piece, with_piece_written}
 use Rattle.blk_sparse.proofs.PartValid.{keeps-used, rest-whatever}
@@ -46,7 +46,7 @@ module _ (of_part place : ℕ) (piece bytes : List ℕ) (state : State) (layout 
   its = its-place state layout unlinked from g.parent.kept number object g.parent.here g.parent.live n at.value at.has at.was at.lies
 
   -- the map that was read is its
-  pub to-change : (m : PartMap) → ((loaded : Loaded) (name : Name) (index : PartIndex) → LoadsWith of_part loaded from → loaded.role ≡ IsPart name index → index_of m ≡ index) → IsNoted (index_of m) place (place + length piece) bytes
+  pub to-change : (m : PartMap) → ((loaded : Loaded) (name : Name) (index : PartIndex) → LoadsWith of_part loaded from → loaded.role ≡ IsPart name index → index_of m ≡ index) → NotesWrite (index_of m) place (place + length piece) bytes
       → IsToBeChanged state layout unlinked number object node entry signature n of_part place piece bytes from
   to-change m read noted = record {
     grows = g;
@@ -54,7 +54,7 @@ module _ (of_part place : ℕ) (piece bytes : List ℕ) (state : State) (layout 
     name = its.name;
     index = its.index;
     role = its.role;
-    noted = subst (λ (i : PartIndex). IsNoted i place (place + length piece) bytes) (read at.was its.name its.index (part-loads state layout unlinked number object node entry signature from g.parent n of_part at) its.role) noted;
+    noted = subst (λ (i : PartIndex). NotesWrite i place (place + length piece) bytes) (read at.was its.name its.index (part-loads state layout unlinked number object node entry signature from g.parent n of_part at) its.role) noted;
   }
 
   abbrev item : Item
@@ -121,7 +121,7 @@ module _ (of_part place : ℕ) (piece bytes : List ℕ) (state : State) (layout 
       change-untold {A} r untold = if_damaged_weaker r (λ _. m.files ≡ None) (λ _. a.files ≡ None) (λ damage none. absurd (let z : ◌≡◌ {A = Option Image} None (Some mid.image) = sym none ∙ mid.is in cc)) (untold mid.image mid.is (with_object state number (with_piece object n place piece)) now.now unlinked (part object.key n) listed)
 
 -- a map in which a write was noted, printed
-pub noted-map : (old new : PartMap) (place end : ℕ) (bytes : List ℕ) → SamePart old new → presence_of new ≡ presence_after (presence_of old) place end → read_part_index bytes ≡ Some (index_of new) → IsNoted (index_of old) place end bytes
+pub noted-map : (old new : PartMap) (place end : ℕ) (bytes : List ℕ) → SamePart old new → presence_of new ≡ presence_after (presence_of old) place end → read_part_index bytes ≡ Some (index_of new) → NotesWrite (index_of old) place end bytes
 unfolding index_of
 noted-map old new place end bytes same present is = record {
   index = index_of new;

@@ -39,7 +39,7 @@ use Rattle.blk_stream.proofs.StreamLists.{stored_there}
 use Rattle.blk_stream.proofs.StreamPlaces.{IsStream, may_parts, stream_facts}
 use Rattle.blk_kept.proofs.Free.{standing-loaded}
 use Rattle.blk_object.proofs.WrittenRoles.{part-of}
-use Rattle.blk_sparse.specs.NewParts.{HasBitNow, HasIndexPlace, IsNoted, index_with_bit, place_of_bit, with_noted}
+use Rattle.blk_sparse.specs.NewParts.{HasBitNow, HasIndexPlace, IsBitNoted, index_with_bit, place_of_bit, with_noted}
 use Rattle.blk_sparse.proofs.NewSeen.{load-noted}
 
 -- ---- an index with one bit more
@@ -216,7 +216,7 @@ module _ (files : BlockFiles) (layout : Layout) (node : ℕ) (was : Loaded) (ind
       same-fields : (e : RecordFields) → (store_of image).entry was.contents ≡ Some e → fields_of (entry_at image was.contents) ≡ e
       same-fields e there = some_inj (sym its.entry ∙ there)
 
-      module _ (noted : IsNoted was.contents n image last) where
+      module _ (noted : IsBitNoted was.contents n image last) where
         byte-is : slice_index (stream 2 was.streams) (place_of_bit n) ≡ noted.was
         byte-is = byte-was noted.was noted.before
 

@@ -39,7 +39,7 @@ use Rattle.blk_stream.proofs.StreamPlaces.{keeps_inside, may_both}
 use Rattle.blk_object.specs.FailedChecks.{IsFailedCheck, WrongStream}
 use Rattle.blk_object.proofs.DamageChecks.{within-checked}
 use Rattle.blk_object.proofs.FreeingRuns.{still-open}
-use Rattle.blk_sparse.specs.NewParts.{HasBitNow, IsBeingNoted, IsFirstIndex, IsNoted, place_of_bit}
+use Rattle.blk_sparse.specs.NewParts.{HasBitNow, IsBeingNoted, IsFirstIndex, IsBitNoted, place_of_bit}
 use Rattle.blk_sparse.proofs.NewKept.{byte-lengths, no-file}
 
 -- an index that doesn't lie where one does
@@ -141,7 +141,7 @@ being-noted files entry n w a b is word outside from there = passes_weaker (outs
   being image same = let at : w ≡ address_word from entry 2 = word from there in inr (ap (λ (v : ℕ). stores files 8256 v) (sym at) ∙ is, subst (λ (v : ℕ). SameOutside (data_range v (place_of_bit n) 1) from image) at same)
 
 -- where the byte has the bit already
-pub noted-before : (files : BlockFiles) (entry n w was : ℕ) (a b : Told) → b ≡ a → ForSome a.files (λ image. w ≡ address_word image entry 2) → ForSome a.files (λ image. was ∷ [] ≡ data_at image w (place_of_bit n) 1) → has_part_bit was n ≡ true → ForSome a.files (λ from. ForSome b.files (IsNoted entry n from))
+pub noted-before : (files : BlockFiles) (entry n w was : ℕ) (a b : Told) → b ≡ a → ForSome a.files (λ image. w ≡ address_word image entry 2) → ForSome a.files (λ image. was ∷ [] ≡ data_at image w (place_of_bit n) 1) → has_part_bit was n ≡ true → ForSome a.files (λ from. ForSome b.files (IsBitNoted entry n from))
 noted-before files entry n w was a b same word byte has from there image now = record {
   was = was;
   before = ap (λ (v : ℕ). data_at from v (place_of_bit n) 1) (sym (word from there)) ∙ sym (byte from there);
@@ -154,7 +154,7 @@ unfolding range_at
 byte-there w p x from has = ap (λ (b : ℕ). b ∷ []) (data_there w p (x ∷ []) from p (omega arith) (omega arith) (⊎_elim (λ (there : data_start w + p + 1 ≤ length_of from (data_file w)). omega (arith, there)) (λ (none : 1 ≡ 0). absurd (omega (arith, none))) has) ∙ ap (λ (j : ℕ). content (x ∷ []) j) (let z : p - p ≡ 0 = omega arith in z))
 
 pub noted-after : (files : BlockFiles) (entry n w was : ℕ) (a b : Told) → ForSome a.files (λ image. w ≡ address_word image entry 2) → ForSome a.files (λ image. was ∷ [] ≡ data_at image w (place_of_bit n) 1) → has_part_bit was n ≡ false → ForSome a.files (HasData w (place_of_bit n) 1)
-    → ForSome a.files (λ from. Passes a b (SameOutside (data_range w (place_of_bit n) 1) from)) → Applies a b (data_steps w (place_of_bit n) (with_part_bit was n ∷ [])) → ForSome a.files (λ from. ForSome b.files (IsNoted entry n from))
+    → ForSome a.files (λ from. Passes a b (SameOutside (data_range w (place_of_bit n) 1) from)) → Applies a b (data_steps w (place_of_bit n) (with_part_bit was n ∷ [])) → ForSome a.files (λ from. ForSome b.files (IsBitNoted entry n from))
 noted-after files entry n w was a b word byte lacks has outside steps from there image now =
     let at : w ≡ address_word from entry 2 = word from there in
     let made : image ≡ after (data_steps w (place_of_bit n) (with_part_bit was n ∷ [])) from = some_inj (sym now ∙ steps.files ∙ ap (option_map (after (data_steps w (place_of_bit n) (with_part_bit was n ∷ [])))) there) in

@@ -53,7 +53,7 @@ use Rattle.blk_kept.proofs.Writes.{block-writes}
 use Rattle.blk_object.proofs.MakingStored.{counters-then, index-counters}
 use Rattle.blk_object.proofs.MakingTaken.{session-then}
 use Rattle.blk_ranges.specs.ParentMaps.{has_part_bit}
-use Rattle.blk_sparse.specs.NewParts.{HasBitNow, IsBeingNoted, IsNoted, IsPartListed, IsPartToBeListed, place_of_bit, with_noted}
+use Rattle.blk_sparse.specs.NewParts.{HasBitNow, IsBeingNoted, IsBitNoted, IsPartListed, IsPartToBeListed, place_of_bit, with_noted}
 use Rattle.blk_sparse.proofs.NewBits.{address-is, parent-place, sees}
 use Rattle.blk_sparse.proofs.NewSeen.{clear-at}
 
@@ -310,7 +310,7 @@ module _ (state : State) (objects : List (Option Object)) (layout : Layout) (unl
     noting-finds image (inr changed) = change-finds image (noted-change image changed.0 changed.1)
 
     -- and in the end the state with the part is kept
-    module _ (image : Image) (agrees_end : Agrees files image) (noted : IsNoted was.contents n mid image) (seen_is : seen ≡ with_noted was index n) (loose : KeepsUnsettled state objects) where
+    module _ (image : Image) (agrees_end : Agrees files image) (noted : IsBitNoted was.contents n mid image) (seen_is : seen ≡ with_noted was index n) (loose : KeepsUnsettled state objects) where
       same-but : SameOutside (data_range (address_word mid was.contents 2) (place_of_bit n) 1) mid image
       same-but = go noted.done where
         go : ((has_part_bit noted.was n ≡ true) × (image ≡ mid)) ⊎ HasBitNow (address_word mid was.contents 2) n noted.was mid image → SameOutside (data_range (address_word mid was.contents 2) (place_of_bit n) 1) mid image

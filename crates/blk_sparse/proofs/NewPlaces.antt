@@ -25,7 +25,7 @@ use Rattle.blk_object.proofs.MakingRoom.{counted-with-room, free-with-room}
 use Rattle.blk_object.proofs.MakingStored.{counters-then, stored-then}
 use Rattle.blk_object.proofs.MakingTaken.{none-before, session-then, then-finds, told-before, told-mid}
 use Rattle.blk_object.proofs.WritingPlaces.{filled-unlinked, filling-finds}
-use Rattle.blk_sparse.specs.NewParts.{IsStored}
+use Rattle.blk_sparse.specs.NewParts.{AreStoredAt}
 
 -- ---- bytes written over none
 
@@ -132,7 +132,7 @@ module _ (a b : Told) (n m : ℕ) (ws : List ℕ) (short : length ws ≤ n) (fir
             }
 
         -- what was stored in the first place is stored there still
-        pub first-stored : (w : ℕ) (bytes : List ℕ) → is_among ws w ≡ true → ForSome a.files (λ from. LeavesRoom n from → ForSome b.files (IsStored w bytes)) → ForSome a.files (λ from. LeavesRoom (n + m) from → ForSome d.files (IsStored w bytes))
+        pub first-stored : (w : ℕ) (bytes : List ℕ) → is_among ws w ≡ true → ForSome a.files (λ from. LeavesRoom n from → ForSome b.files (AreStoredAt w bytes)) → ForSome a.files (λ from. LeavesRoom (n + m) from → ForSome d.files (AreStoredAt w bytes))
         first-stored w bytes among stored from there room late now =
             let mid = told-mid a b from there (first from there (fewer n m from room)) in
             let taken = first_taken from there (fewer n m from room) mid.0 mid.1 in
@@ -141,7 +141,7 @@ module _ (a b : Told) (n m : ℕ) (ws : List ℕ) (short : length ws ≤ n) (fir
             (is_among-append ws room.unlinked w ∙ or_left (is_among ws w) (is_among room.unlinked w) among)
             (stored from there (fewer n m from room) mid.0 mid.1)
 
-        pub second-stored : (w : ℕ) (bytes : List ℕ) → ForSome b.files (λ mid. LeavesRoom m mid → ForSome d.files (IsStored w bytes)) → ForSome a.files (λ from. LeavesRoom (n + m) from → ForSome d.files (IsStored w bytes))
+        pub second-stored : (w : ℕ) (bytes : List ℕ) → ForSome b.files (λ mid. LeavesRoom m mid → ForSome d.files (AreStoredAt w bytes)) → ForSome a.files (λ from. LeavesRoom (n + m) from → ForSome d.files (AreStoredAt w bytes))
         second-stored w bytes stored from there room late now =
             let mid = told-mid a b from there (first from there (fewer n m from room)) in
             let taken = first_taken from there (fewer n m from room) mid.0 mid.1 in

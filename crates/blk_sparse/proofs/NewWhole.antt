@@ -39,7 +39,7 @@ use Rattle.blk_object.specs.Making.{LeavesRoom}
 use Rattle.blk_object.proofs.MakingRoom.{uses-few}
 use Rattle.blk_object.proofs.MakingStored.{counters-then}
 use Rattle.blk_object.proofs.MakingTaken.{session-then, told-mid}
-use Rattle.blk_sparse.specs.NewParts.{ArePartStreams, CanHavePart, ForEachPartToBeListed, HasIndexPlace, IsBeingNoted, IsFirstIndex, IsNoted, IsPartListed, IsPartToBeListed, IsStored, IsWholeBeforeItsBit, KeepsPart, TakesPart, WritesPart, words_of_part}
+use Rattle.blk_sparse.specs.NewParts.{ArePartStreams, CanHavePart, ForEachPartToBeListed, HasIndexPlace, IsBeingNoted, IsFirstIndex, IsBitNoted, IsPartListed, IsPartToBeListed, AreStoredAt, IsWholeBeforeItsBit, KeepsPart, TakesPart, WritesPart, words_of_part}
 use Rattle.blk_sparse.specs.SparseObjects.{KeepsParentThen, missing_parts, with_piece, with_piece_written}
 use Rattle.blk_sparse.specs.declared.new_part.PartPlaces.{PartPlaces}
 use Rattle.blk_sparse.proofs.NewBits.{index-place, parent-kind, parent-shown}
@@ -124,7 +124,7 @@ module _ (a b : Told) (parent : ℕ) (child : ChildName) (name : List ℕ) (plac
 
         streams : ArePartStreams places name (part_after empty_part place piece).bytes map (made.role state layout unlinked number object node parent child name place piece from can small below are most places map first) (mid1).0
         streams = record {
-          stored = subst (λ (bs : List ℕ). IsStored places.stored bs mid1.0) (sym (value-bytes place piece)) takes.stored;
+          stored = subst (λ (bs : List ℕ). AreStoredAt places.stored bs mid1.0) (sym (value-bytes place piece)) takes.stored;
           index_stored = takes.index_stored;
           few = made.few-bytes state layout unlinked number object node parent child name place piece from can small below are most places map first;
           long = long;
@@ -212,9 +212,9 @@ module _ (a b : Told) (parent : ℕ) (child : ChildName) (name : List ℕ) (plac
                 behind = note_stops mid3.0 mid3.1;
               }
 
-              module _ (noted : ForSome e.files (λ m. ForSome f.files (IsNoted parent child.part m))) (open_last : ForSome f.files (IsOpen files)) (image : Image) (now : f.files ≡ Some image) where
-                it-noted : IsNoted was.contents child.part (mid3).0 image
-                it-noted = subst (λ (w : ℕ). IsNoted w child.part mid3.0 image) (sym can.grows.parent.record_is) (noted mid3.0 mid3.1 image now)
+              module _ (noted : ForSome e.files (λ m. ForSome f.files (IsBitNoted parent child.part m))) (open_last : ForSome f.files (IsOpen files)) (image : Image) (now : f.files ≡ Some image) where
+                it-noted : IsBitNoted was.contents child.part (mid3).0 image
+                it-noted = subst (λ (w : ℕ). IsBitNoted w child.part mid3.0 image) (sym can.grows.parent.record_is) (noted mid3.0 mid3.1 image now)
 
                 abbrev after : Layout
                 after = with_new_part layout object.key child.part seen l

@@ -43,7 +43,7 @@ use Rattle.blk_object.specs.Making.{long_word, words_of_places}
 use Rattle.blk_object.proofs.MakingStored.{changed-stored, counters-then, of-all}
 use Rattle.blk_object.proofs.MakingTaken.{session-then}
 use Rattle.blk_object.proofs.MakingWritten.{some-address, stored-address, words-are}
-use Rattle.blk_sparse.specs.NewParts.{ArePartStreams, HasStreamsNow, IsChildWritten, IsPartThere, IsStored, WritesPart, child_entry, new_part, streams_of_part, words_of_part}
+use Rattle.blk_sparse.specs.NewParts.{ArePartStreams, HasStreamsNow, IsChildWritten, IsPartThere, AreStoredAt, WritesPart, child_entry, new_part, streams_of_part, words_of_part}
 use Rattle.blk_sparse.specs.declared.new_part.PartPlaces.{PartPlaces}
 use Rattle.blk_sparse.proofs.NewIndex.{changes_are}
 
@@ -186,7 +186,7 @@ module _ (files : BlockFiles) (places : PartPlaces) (name : List ℕ) (moment : 
     second_among : is_among ((places.stored ∷ places.index ∷ []) ++ unlinked) places.index ≡ true
     second_among = or_right (places.stored == places.index) _ (or_left (places.index == places.index) _ (eq-eqb places.index places.index refl))
 
-    still-stored : (a : ℕ) (bs : List ℕ) → is_among ((places.stored ∷ places.index ∷ []) ++ unlinked) a ≡ true → IsStored a bs from → IsStored a bs mid
+    still-stored : (a : ℕ) (bs : List ℕ) → is_among ((places.stored ∷ places.index ∷ []) ++ unlinked) a ≡ true → AreStoredAt a bs from → AreStoredAt a bs mid
     still-stored a bs among is = changed-stored (has_claim (all_claims (loaded_new its name))) its-words from mid (of_child files places name moment from mid fits w) w.change state layout rest (begun files places name moment from mid fits w state layout unlinked k) (length bs) a bs among is
 
     stored_beside : IsStoredBeside places.places.entry bytes places.stored mid

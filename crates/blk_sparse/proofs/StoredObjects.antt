@@ -35,7 +35,7 @@ use Rattle.blk_object.proofs.MakingRoom.{uses-few}
 use Rattle.blk_object.proofs.MakingTaken.{session-then}
 use Rattle.blk_sparse.specs.Parts.{FindsBeforeOrAfter, ForEachListedAt, IsListedAt, IsUsed}
 use Rattle.blk_sparse.specs.SparseObjects.{CanBecomeSparse, CanGetParts, ForEachGrowing, ForEachPlain, KeepsParent, KeepsParentThen, OthersLieAsBefore, missing_parts, parts_of, with_bytes, with_bytes_written, with_signature}
-use Rattle.blk_sparse.specs.SparseWrites.{CanBeStored, CountsAfter, ForEachTarget, IsCountedThen, IsStored, IsTarget, object_written, signature_to, sparse_state, with_parent_used}
+use Rattle.blk_sparse.specs.SparseWrites.{CanBeStored, CountsAfter, ForEachTarget, IsCountedThen, IsKeptWithBytes, IsTarget, object_written, signature_to, sparse_state, with_parent_used}
 use Rattle.blk_sparse.specs.declared.storing.Target.{Target}
 use Rattle.blk_sparse.proofs.Begun.{set-twice}
 use Rattle.blk_sparse.proofs.MoreItems.{more-listed}
@@ -223,7 +223,7 @@ module _ (state : State) (layout : Layout) (number : ℕ) (object : Object) (tar
       few = λ now unlinked end l. subst (λ (s : State). length s.uses < 2 ^ 32) (sym state-is) (few-uses now unlinked end (subst (λ (s : State). KeepsUncounted s now unlinked end) state-is l));
     }
 
-    pub all-stored : (image : Image) → IsCountedThen written_state k.now [] number (with_bytes (with_signature object (signature_to target)) offset bytes) target.parent.node target.parent.entry (signature_to target) mid image → IsStored state layout number object target offset bytes from image
+    pub all-stored : (image : Image) → IsCountedThen written_state k.now [] number (with_bytes (with_signature object (signature_to target)) offset bytes) target.parent.node target.parent.entry (signature_to target) mid image → IsKeptWithBytes state layout number object target offset bytes from image
     all-stored image m = record {
       now = m.now;
       kept = subst (λ (s : State). Keeps s m.now [] image) state-is (record { entries = m.parent.kept; counters = m.counts });
@@ -327,7 +327,7 @@ module _ (target : Target) (offset : ℕ) (bytes : List ℕ) (entries charge : �
 
   pub all-ends : ForSome m.files (λ i. ForEachGrowing (covered_parts offset (length bytes)) target.parent.node target.parent.entry (signature_to target) i (λ state layout unlinked number object. (counted : State) (laid : Layout) → CountsAfter counted laid (with_bytes_written state number object offset bytes) entries charge i
       → ForSome b.files (IsCountedThen (with_bytes_written state number object offset bytes) layout unlinked number (with_bytes object offset bytes) target.parent.node target.parent.entry (signature_to target) i)))
-      → ForSome b.files (IsStored state layout number object target offset bytes from)
+      → ForSome b.files (IsKeptWithBytes state layout number object target offset bytes from)
   all-ends ends image is =
       all-stored state layout number object target offset bytes entries charge from c at_mid.image k image
       (ends at_mid.image at_mid.is (with_parent_used state number object (signature_to target)) k.now [] number (with_signature object (signature_to target)) grows state layout (counts-after state layout number object target offset bytes entries charge from c at_mid.image k) image is)

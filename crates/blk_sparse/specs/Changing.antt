@@ -21,7 +21,7 @@ use Rattle.blk_ranges.specs.PartMaps.{presence_in}
 use Rattle.blk_sparse.specs.SparseObjects.{CanGetParts, HasPartAt, KeepsParent, OthersLieAsBefore, with_piece}
 
 -- some bytes are an index of a part, in which, after an old one, what is written between two places is present
-pub record IsNoted (old : PartIndex) (from to : ℕ) (bytes : List ℕ) : Type 0 where
+pub record NotesWrite (old : PartIndex) (from to : ℕ) (bytes : List ℕ) : Type 0 where
   pub index : PartIndex
   pub is : read_part_index bytes ≡ Some index
   pub signature : index.signature ≡ old.signature
@@ -43,7 +43,7 @@ pub record IsToBeChanged (state : State) (layout : Layout) (unlinked : List ℕ)
   pub name : Name
   pub index : PartIndex
   pub role : at.was.role ≡ IsPart name index
-  pub noted : IsNoted index place (place + length piece) bytes
+  pub noted : NotesWrite index place (place + length piece) bytes
 
 -- what holds of each such part
 abbrev pub ForEachToBeChanged : (of_part place : ℕ) (piece bytes : List ℕ) → Image → (State → Layout → List ℕ → ℕ → Object → (node entry signature n : ℕ) → Type 0) → Type 0

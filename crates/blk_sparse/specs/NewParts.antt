@@ -52,8 +52,8 @@ use Rattle.blk_sparse.specs.SparseObjects.{CanGetParts}
 -- Its streams.
 
 -- bytes are stored at a word, and no others
-abbrev pub IsStored : ℕ → List ℕ → Image → Type 0
-IsStored w bytes image = (store_of image).stored (length bytes) w ≡ Some bytes
+abbrev pub AreStoredAt : ℕ → List ℕ → Image → Type 0
+AreStoredAt w bytes image = (store_of image).stored (length bytes) w ≡ Some bytes
 
 -- Its places.
 
@@ -64,8 +64,8 @@ words_of_part places = words_of_places places.places ++ (places.stored ∷ place
 -- they were taken, and the bytes of its data and of its index are stored there
 pub record TakesPart (places : PartPlaces) (bytes index : List ℕ) (from image : Image) : Type 0 where
   pub taken : Takes (words_of_part places) from image
-  pub stored : IsStored places.stored bytes image
-  pub index_stored : IsStored places.index index image
+  pub stored : AreStoredAt places.stored bytes image
+  pub index_stored : AreStoredAt places.index index image
 
 -- Its record.
 
@@ -111,8 +111,8 @@ pub record IsPartThere (loaded : Loaded) (image : Image) : Type 0 where
 
 -- these are the bytes of the two streams of a part with a name, which are stored at its places, and what it is by them
 pub record ArePartStreams (places : PartPlaces) (name bytes index : List ℕ) (role : Role) (image : Image) : Type 0 where
-  pub stored : IsStored places.stored bytes image
-  pub index_stored : IsStored places.index index image
+  pub stored : AreStoredAt places.stored bytes image
+  pub index_stored : AreStoredAt places.index index image
   pub few : length bytes ≤ part_size
   pub long : length index ≡ part_index_length
   pub role_is : part_role name ([] ∷ bytes ∷ index ∷ []) ≡ Some role
@@ -176,7 +176,7 @@ pub record HasBitNow (w n was : ℕ) (from image : Image) : Type 0 where
   pub byte_is : data_at image w (place_of_bit n) 1 ≡ with_part_bit was n ∷ []
 
 -- the byte has the bit, and nothing has changed; or it is written with it
-pub record IsNoted (entry n : ℕ) (from image : Image) : Type 0 where
+pub record IsBitNoted (entry n : ℕ) (from image : Image) : Type 0 where
   pub was : ℕ
   pub before : data_at from (address_word from entry 2) (place_of_bit n) 1 ≡ was ∷ []
   pub done : ((has_part_bit was n ≡ true) × (image ≡ from)) ⊎ HasBitNow (address_word from entry 2) n was from image

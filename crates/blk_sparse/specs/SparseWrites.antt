@@ -98,7 +98,7 @@ ForEachToStore target offset bytes entries charge from P =
     (state : State) (layout : Layout) (number : ℕ) (object : Object) → CanBeStored state layout number object target offset bytes entries charge from → P state layout number object
 
 -- the state with the bytes is kept and counted, in the same session; the main item lies at its node with its record, and each other object lies where it lay
-pub record IsStored (state : State) (layout : Layout) (number : ℕ) (object : Object) (target : Target) (offset : ℕ) (bytes : List ℕ) (from image : Image) : Type 0 where
+pub record IsKeptWithBytes (state : State) (layout : Layout) (number : ℕ) (object : Object) (target : Target) (offset : ℕ) (bytes : List ℕ) (from image : Image) : Type 0 where
   pub now : Layout
   pub kept : Keeps (sparse_state state number object (signature_to target) offset bytes) now [] image
   pub node_is : now.place (main object.key) ≡ target.parent.node

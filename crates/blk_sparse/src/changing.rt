@@ -17,7 +17,7 @@ ghost use Rattle.blk_kept.specs.Changes.{Finds};
 ghost use Rattle.blk_object.specs.FailedChecks.{IsFailedCheck};
 ghost use Rattle.blk_object.specs.Owning.{LoadsWith};
 ghost use Rattle.blk_ranges.specs.PartMaps.{IsPartMap, index_of};
-ghost use Rattle.blk_sparse.specs.Changing.{ForEachToBeChanged, IsChangedUnused, IsDataBeforeMap, IsNoted, LoadsAsPart};
+ghost use Rattle.blk_sparse.specs.Changing.{ForEachToBeChanged, IsChangedUnused, IsDataBeforeMap, NotesWrite, LoadsAsPart};
 ghost use Rattle.blk_sparse.specs.SparseObjects.{ForEachPartThere, KeepsParentThen, with_piece, with_piece_written};
 
 use crate::parts::use_entry;
@@ -112,7 +112,7 @@ fn print_noted(map: PartMap, place: u32, len: u32, out: &mut [u8; 192])
     requires valid { IsPartMap map }
     requires some { 1 ≤ len }
     requires inside { place + len ≤ part_size }
-    ensures noted { IsNoted (index_of map) place (place + len) out.new }
+    ensures noted { NotesWrite (index_of map) place (place + len) out.new }
 {
     let mut noted = map;
     noted.note_write(place, place + len);

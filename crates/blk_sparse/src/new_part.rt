@@ -23,7 +23,7 @@ ghost use Rattle.blk_stream.specs.Streams.{address_word};
 ghost use Rattle.blk_kept.specs.Changes.{Finds, StillFinds};
 ghost use Rattle.blk_object.specs.FailedChecks.{IsFailedCheck};
 ghost use Rattle.blk_object.specs.Making.{LeavesRoom, Takes, words_of_places};
-ghost use Rattle.blk_sparse.specs.NewParts.{ArePartStreams, ForEachLacking, ForEachPartToBeListed, HasIndexPlace, HasStreamsNow, IsBeingNoted, IsChildWritten, IsFirstIndex, IsNoted, IsPartListed, IsStored, IsWholeBeforeItsBit, TakesPart, WritesPart, child_entry, words_of_part};
+ghost use Rattle.blk_sparse.specs.NewParts.{ArePartStreams, ForEachLacking, ForEachPartToBeListed, HasIndexPlace, HasStreamsNow, IsBeingNoted, IsChildWritten, IsFirstIndex, IsBitNoted, IsPartListed, AreStoredAt, IsWholeBeforeItsBit, TakesPart, WritesPart, child_entry, words_of_part};
 ghost use Rattle.blk_sparse.specs.SparseObjects.{KeepsParentThen, with_piece, with_piece_written};
 
 use blk_addr::Addr;
@@ -61,7 +61,7 @@ fn take_stream<F: Folder>(
     requires is_open { ForSome (F.told f.old).files (IsOpen files.old) }
     ensures address { IfOk result (λ addr. IsTrue (is_address addr)) }
     ensures taken { IfOk result (λ addr. ForSome (F.told f.old).files (λ from. LeavesRoom 1 from → ForSome (F.told f.new).files (Takes (addr ∷ []) from))) }
-    ensures stored { IfOk result (λ addr. ForSome (F.told f.old).files (λ from. LeavesRoom 1 from → ForSome (F.told f.new).files (IsStored addr (overwritten [] offset bytes.now)))) }
+    ensures stored { IfOk result (λ addr. ForSome (F.told f.old).files (λ from. LeavesRoom 1 from → ForSome (F.told f.new).files (AreStoredAt addr (overwritten [] offset bytes.now)))) }
     ensures keeps { KeepsStanding files.old files.new }
     ensures is_open { OnOk result (ForSome (F.told f.new).files (IsOpen files.new)) }
     ensures stops { ForSome (F.told f.old).files (λ from. LeavesRoom 1 from → Passes (F.told f.old) (F.told f.new) (StillFinds [] from)) }
@@ -275,7 +275,7 @@ fn note_part<F: Folder>(f: &mut F, files: &BlockFiles, parent: Addr, part: u32) 
     requires stands { IsTrue (stands_among files.now parent) }
     requires part { part < part_count }
     requires is_open { ForSome (F.told f.old).files (IsOpen files.now) }
-    ensures noted { OnOk result (ForSome (F.told f.old).files (λ from. ForSome (F.told f.new).files (IsNoted parent part from))) }
+    ensures noted { OnOk result (ForSome (F.told f.old).files (λ from. ForSome (F.told f.new).files (IsBitNoted parent part from))) }
     ensures stops { ForSome (F.told f.old).files (λ from. Passes (F.told f.old) (F.told f.new) (IsBeingNoted files.now parent part from)) }
     ensures is_open { ForSome (F.told f.new).files (IsOpen files.now) }
     ensures damaged { IfDamaged result (IsFailedCheck files.now (F.told f.new)) }

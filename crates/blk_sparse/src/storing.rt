@@ -17,7 +17,7 @@ ghost use Rattle.blk_alloc.specs.Extending.{KeepsStanding};
 ghost use Rattle.blk_kept.specs.Changes.{Finds};
 ghost use Rattle.blk_object.specs.FailedChecks.{IsFailedCheck};
 ghost use Rattle.blk_sparse.specs.SparseObjects.{ForEachGrowing, KeepsParentThen, with_bytes, with_bytes_written, with_signature};
-ghost use Rattle.blk_sparse.specs.SparseWrites.{CountsAfter, ForEachTarget, ForEachToStore, IsCountedThen, IsStored, signature_to, with_parent_used};
+ghost use Rattle.blk_sparse.specs.SparseWrites.{CountsAfter, ForEachTarget, ForEachToStore, IsCountedThen, IsKeptWithBytes, signature_to, with_parent_used};
 
 use crate::beginning::begin;
 use crate::children::Parent;
@@ -59,7 +59,7 @@ pub fn store_sparse<F: Folder>(
     requires is_open { ForSome (F.told f.old).files (IsOpen files.old) }
 
     // Each state that was kept, with such an object, is kept with the bytes, and with its items in front.
-    ensures stored { OnOk result (ForSome (F.told f.old).files (λ from. ForEachToStore target.now offset bytes.now entries charge from (λ state layout number object. ForSome (F.told f.new).files (IsStored state layout number object target.now offset bytes.now from)))) }
+    ensures stored { OnOk result (ForSome (F.told f.old).files (λ from. ForEachToStore target.now offset bytes.now entries charge from (λ state layout number object. ForSome (F.told f.new).files (IsKeptWithBytes state layout number object target.now offset bytes.now from)))) }
 
     // At each word what was at rest is found: an object that isn't settled isn't.
     ensures stops { ForSome (F.told f.old).files (λ from. ForEachToStore target.now offset bytes.now entries charge from (λ state layout number object. Passes (F.told f.old) (F.told f.new) (Finds (rest state)))) }

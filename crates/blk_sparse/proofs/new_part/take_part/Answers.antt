@@ -6,7 +6,7 @@ use Rattle.blk_io.proofs.Carried.{carried, if_damaged_weaker}
 use Rattle.blk_model.specs.Bytes.{overwritten}
 use Rattle.blk_kept.specs.Changes.{StillFinds}
 use Rattle.blk_object.specs.Making.{LeavesRoom, Takes, words_of_places}
-use Rattle.blk_sparse.specs.NewParts.{IsStored}
+use Rattle.blk_sparse.specs.NewParts.{AreStoredAt}
 use Rattle.blk_sparse.proofs.NewPlaces.{among-second, both-find, both-taken, fewer, first-stored, none-before-them, room-left, second-stored, tells-first}
 use Rattle.blk_sparse.proofs.new_part.take_part.Goals as goal
 
@@ -88,7 +88,7 @@ returns-clause-taken g c from there room image now =
       taken = both-taken a d 2 3 (s ∷ i ∷ []) (two-words s i) two taken e c.take_places.ensures.stops words c.in_ok-places.ensures.taken from there room image now;
       stored = first-stored a d 2 3 (s ∷ i ∷ []) (two-words s i) two taken e c.take_places.ensures.stops words c.in_ok-places.ensures.taken s (overwritten [] c.args.place c.args.piece.now) (or_left _ _ (eq-eqb s s refl))
           (second-stored a b 1 1 (i ∷ []) (one-word i) c.take_stream.ensures.stops c.in_ok-index.ensures.taken d c.take_stream-2.ensures.stops (s ∷ []) c.in_ok-stored.ensures.taken s (overwritten [] c.args.place c.args.piece.now) c.in_ok-stored.ensures.stored) from there room image now;
-      index_stored = subst (λ (bytes : List ℕ). IsStored i bytes image) (none-before-them c.args.map.now)
+      index_stored = subst (λ (bytes : List ℕ). AreStoredAt i bytes image) (none-before-them c.args.map.now)
           (first-stored a d 2 3 (s ∷ i ∷ []) (two-words s i) two taken e c.take_places.ensures.stops words c.in_ok-places.ensures.taken i (overwritten [] 0 c.args.map.now) (among-second s i)
           (first-stored a b 1 1 (i ∷ []) (one-word i) c.take_stream.ensures.stops c.in_ok-index.ensures.taken d c.take_stream-2.ensures.stops (s ∷ []) c.in_ok-stored.ensures.taken i (overwritten [] 0 c.args.map.now) (or_left _ _ (eq-eqb i i refl)) c.in_ok-index.ensures.stored) from there room image now);
     }
