@@ -19,7 +19,7 @@ mod walking;
 
 pub use fault::ScanFault;
 pub use laws::{chains_are_reached_apart, what_checks_is_sealed};
-pub use list_walk::{MOST_NODES, Walked};
+pub use list_walk::Walked;
 pub use named::WalkedNode;
 pub use reaching::{Reached, chains};
 pub use record_words::{RecordWords, read_words};

@@ -14,11 +14,8 @@ ghost use Rattle.blk_audit.specs.Walking.{AreMet, IsAdded, IsNodeWord, IsStandin
 use crate::changes::{head_after, next_after, prev_after};
 use crate::nodes::{Node, Nodes};
 use blk_addr::{Addr, Claims, NoMemory};
-use blk_lru::Write;
+use blk_lru::{MOST_NODES, Write};
 use std::alloc::Global;
-
-/// The most nodes that are walked.
-pub const MOST_NODES: u32 = 131_072;
 
 /// The walked nodes of a use list, in its order: no node stands twice, and there are at most 131072.
 #[derive(Drop)]

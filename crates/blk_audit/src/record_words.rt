@@ -17,7 +17,7 @@ use blk_io::{Fault, Folder};
 use blk_record::{EntryView, Record};
 
 // The place of the state in a record.
-const STATE: usize = 20;
+const STATE: usize = EntryView::STATE as usize;
 
 /// The words of a record that say what it is, where its chain goes on, and whether it checks.
 #[derive(Clone, Copy, Debug)]

@@ -19,7 +19,8 @@ use crate::covered::Covered;
 use blk_addr::Addr;
 use blk_io::{Fault, Folder};
 use blk_items::{Unpinned, in_front};
-use blk_object::{MOST_NODES, end_walk, entry_named};
+use blk_lru::MOST_NODES;
+use blk_object::{end_walk, entry_named};
 use blk_record::NodeView;
 
 impl Cache {

@@ -26,7 +26,7 @@ use std::alloc::Global;
 const FIELDS: usize = 80;
 
 // The places of words of a record.
-const STATE: usize = 20;
+const STATE: usize = EntryView::STATE as usize;
 
 /// Reads the words of the index, by one folder call.
 pub(crate) fn read_index<F: Folder>(alloc: Global, f: &mut F) -> Result<Findings, ScanFault>

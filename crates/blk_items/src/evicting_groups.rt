@@ -33,15 +33,9 @@ use blk_disk::BlockFiles;
 use blk_entry::record_damage;
 use blk_io::{Fault, Folder, Sink};
 use blk_object::{Owned, remove_read};
-use blk_ranges::{ChildName, LONGEST_KEY, read_child_name};
-use blk_record::EntryView;
+use blk_ranges::{ChildName, KEY_OF_NAME, LONGEST_KEY, read_child_name};
+use blk_record::{CHILD, EntryView};
 use blk_sparse::{Gone, remove_parent_with};
-
-// The flags of the record of a part.
-const CHILD: u32 = 2;
-
-// Where the parent's key begins in the name of a part.
-const KEY_OF_NAME: usize = 6;
 
 /// Evicts the group of an item that isn't pinned, and prints its items: a main item with its parts, or a part alone. How
 /// many items went is given, and what they were charged.

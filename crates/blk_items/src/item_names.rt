@@ -17,12 +17,7 @@ use blk_disk::BlockFiles;
 use blk_entry::key_piece;
 use blk_io::{Fault, Folder};
 use blk_object::{Owned, read_owned};
-
-// The flags of the record of an entry with an index of parts.
-const PARENT: u32 = 1;
-
-// The flags of the record of a part.
-const CHILD: u32 = 2;
+use blk_record::{CHILD, PARENT};
 
 /// What kind of entry an item is.
 #[derive(Clone, Copy, Debug, PartialEq, Eq)]

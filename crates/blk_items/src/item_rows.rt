@@ -26,13 +26,10 @@ use blk_addr::Addr;
 use blk_disk::BlockFiles;
 use blk_entry::{Head, key_piece, read_head, record_damage};
 use blk_io::{Fault, Folder, Sink};
-use blk_lru::{after, first};
-use blk_object::{MOST_NODES, end_walk, entry_named};
+use blk_lru::{MOST_NODES, after, first};
+use blk_object::{end_walk, entry_named};
 use blk_ranges::read_child_name;
-use blk_record::{EntryView, NodeView};
-
-// The flags of the record of a part.
-const CHILD: u32 = 2;
+use blk_record::{CHILD, EntryView, NodeView};
 
 /// Prints the rows of the items of the use list, a line each, from its front on: of an object its key and the lengths of
 /// its streams, and of a part its number and how many bytes it has. Keys and names are read into `name`.

@@ -20,11 +20,8 @@ use crate::range_printing::{StreamRange, print_range, print_ranges};
 use blk_addr::Addr;
 use blk_disk::BlockFiles;
 use blk_io::{Fault, Folder, Sink};
-use blk_ranges::{PART_SIZE, child_of};
+use blk_ranges::{DATA, PART_SIZE, child_of};
 use blk_sparse::{Parent, PartRecords, find_parts, read_signature};
-
-// The stream of a part that has its data.
-const DATA: u8 = 1;
 
 /// Bytes of an object with parts, a parent: so many from an offset on.
 #[derive(Clone, Copy, Debug)]

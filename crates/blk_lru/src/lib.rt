@@ -15,5 +15,5 @@ pub use changing::{insert_front, remove, touch};
 pub use completing::{complete, pending};
 pub use ending::end_at;
 pub use plans::Plan;
-pub use reading::{after, before, first, last};
+pub use reading::{MOST_NODES, after, before, first, last};
 pub use writes::Write;

@@ -23,6 +23,9 @@ use blk_index::word;
 use blk_io::{Damage, Fault, FileId, Folder};
 use blk_record::{IndexHead, NodeView};
 
+/// The most nodes of a use list. A walk over one passes one more, so that it ends on any folder.
+pub const MOST_NODES: u32 = 131_072;
+
 // The places of the first and the last node in the index.
 pub(crate) const HEAD: u64 = IndexHead::HEADS;
 

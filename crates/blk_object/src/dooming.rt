@@ -21,9 +21,7 @@ use blk_addr::Addr;
 use blk_chain::Found;
 use blk_disk::BlockFiles;
 use blk_io::{Fault, Folder};
-
-// The place of the state in a record, in bytes.
-const STATE: u32 = 20;
+use blk_record::EntryView;
 
 // The state of the record of a doomed object.
 const DOOMED: u32 = 2;
@@ -55,7 +53,7 @@ pub fn doom_record<F: Folder>(f: &mut F, files: &BlockFiles, entry: Addr) -> Res
     ensures later { F.faults f.old ≤ F.faults f.new }
     ensures device { IfDevice result (Rises (F.faults f.old) (F.faults f.new)) }
 {
-    files.update_sealed(f, entry, &[(STATE, DOOMED)])
+    files.update_sealed(f, entry, &[(EntryView::STATE, DOOMED)])
 }
 
 /// Dooms a live object without parts that a handle names: its main item is taken out of the use list and of its chain,

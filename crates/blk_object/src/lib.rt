@@ -39,7 +39,7 @@ pub use ending::end_object;
 pub use finding_laws::left_items_are_found;
 pub use freeing::free_places;
 pub use freeing_laws::freed_words_are_gone;
-pub use list_walks::{MOST_NODES, end_walk, node_damage};
+pub use list_walks::{end_walk, node_damage};
 pub use listed_parts::{ListedPart, entry_named, next_part};
 pub use making::{Made, creates_can_have_new, make_entry};
 pub use making_places::{Places, check_index, take_places};

@@ -10,9 +10,6 @@ use blk_disk::file_of;
 use blk_io::{Damage, Fault};
 use blk_record::{BlockHead, NodeView, Record};
 
-/// The most nodes of a use list. A walk over one passes one more, so that it ends on any folder.
-pub const MOST_NODES: u32 = 131_072;
-
 /// The end of a walk over the use list that has passed one node more than a list has: none may lie behind the last one.
 ///
 /// One that does is a damage, of the word by which it would be followed: the word at `at`, its next or its prev, of the

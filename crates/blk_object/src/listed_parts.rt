@@ -16,20 +16,14 @@ ghost use Rattle.blk_object.specs.ListedParts.{ForEachSearch, IsFoundPart, IsPar
 ghost use Rattle.blk_object.specs.ListWalks.{GoesTo, WalkEnds};
 ghost use Rattle.blk_object.specs.Owning.{LoadsWith};
 
-use crate::list_walks::{MOST_NODES, end_walk, node_damage};
+use crate::list_walks::{end_walk, node_damage};
 use blk_addr::Addr;
 use blk_disk::BlockFiles;
 use blk_entry::{key_piece, read_head};
 use blk_io::{Fault, Folder};
-use blk_lru::{after, first};
-use blk_ranges::read_child_name;
-use blk_record::NodeView;
-
-// The flags of the record of a part.
-const CHILD: u32 = 2;
-
-// Where the parent's key begins in the name of a part.
-const KEY_OF_NAME: usize = 6;
+use blk_lru::{MOST_NODES, after, first};
+use blk_ranges::{KEY_OF_NAME, read_child_name};
+use blk_record::{CHILD, NodeView};
 
 /// A part in the use list: its node, its record, and its number.
 #[derive(Clone, Copy, Debug, PartialEq, Eq)]

@@ -30,6 +30,9 @@ impl<'a> EntryView<'a> {
     /// The place of the address of the rankings node.
     pub const NODE: u32 = 8;
 
+    /// The place of the state.
+    pub const STATE: u32 = 20;
+
     /// The place of the creation time.
     pub const CREATION_TIME: u32 = 24;
 

@@ -3,6 +3,12 @@ ghost use Rattle.std.specs.Prelude.{⊤, [], ◌∷◌, codes};
 
 use bitflags::{Flag, Flags, bitflag_items};
 
+/// The word of flags of a sparse entry, whose data is in parts.
+pub const PARENT: u32 = 1;
+
+/// The word of flags of a part.
+pub const CHILD: u32 = 2;
+
 /// The flags of an entry record. A clause speaks of their word.
 ///
 /// A `PARENT` is the record of a sparse entry, whose data is in parts; a `CHILD` is the record of such a part.

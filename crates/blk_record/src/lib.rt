@@ -17,7 +17,7 @@ mod words;
 
 pub use block_head::BlockHead;
 pub use entry::{EntryMut, EntryView};
-pub use flags::EntryFlags;
+pub use flags::{CHILD, EntryFlags, PARENT};
 pub use hash::super_fast_hash;
 pub use index_head::IndexHead;
 pub use node::{NodeMut, NodeView};

@@ -4,7 +4,8 @@ ghost use Rattle.blk_volume.specs.ListView.{most_nodes};
 ghost use Rattle.blk_audit.specs.Walking.{nodes_walked};
 
 use blk_addr::{Addr, NoMemory};
-use blk_audit::{MOST_NODES, Walked};
+use blk_audit::Walked;
+use blk_lru::MOST_NODES;
 use std::alloc::Global;
 
 // The walked nodes, in the order of the walk.

@@ -23,16 +23,8 @@ use blk_disk::BlockFiles;
 use blk_entry::{read_head, record_damage};
 use blk_io::{Fault, Folder};
 use blk_object::write_object;
-use blk_ranges::{LONGEST_KEY, ParentHead, ParentMap};
-use blk_record::EntryView;
-
-// The stream of a record that has its index.
-const INDEX: u8 = 2;
-
-// The place of the flags in a record, and those of a parent.
-const FLAGS: u32 = 72;
-
-const PARENT: u32 = 1;
+use blk_ranges::{INDEX, LONGEST_KEY, ParentHead, ParentMap};
+use blk_record::{EntryView, PARENT};
 
 /// Makes a plain object, that isn't settled and has nothing in its second and its third stream, a sparse one with a
 /// signature: its third stream gets the index of a parent without parts, and then its record the flags of a parent.
@@ -152,5 +144,5 @@ fn set_parent<F: Folder>(f: &mut F, files: &BlockFiles, entry: Addr) -> Result<(
     ensures later { F.faults f.old ≤ F.faults f.new }
     ensures device { IfDevice result (Rises (F.faults f.old) (F.faults f.new)) }
 {
-    files.update_sealed(f, entry, &[(FLAGS, PARENT)])
+    files.update_sealed(f, entry, &[(EntryView::FLAGS, PARENT)])
 }

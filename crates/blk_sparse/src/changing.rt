@@ -26,17 +26,9 @@ use blk_disk::BlockFiles;
 use blk_entry::record_damage;
 use blk_io::{Fault, Folder};
 use blk_object::write_object;
-use blk_ranges::PartMap;
-use blk_record::EntryView;
+use blk_ranges::{DATA, INDEX, PartMap};
+use blk_record::{CHILD, EntryView};
 use blk_stream::read;
-
-// The streams of a part that have its data and its index.
-const DATA: u8 = 1;
-
-const INDEX: u8 = 2;
-
-// The flags of the record of a part.
-const CHILD: u32 = 2;
 
 // Writes a piece to a part that there is, from a place in it on: first its data, then its map; and then the part is used.
 pub(crate) fn change_part<F: Folder>(

@@ -26,8 +26,8 @@ use blk_chain::find;
 use blk_disk::BlockFiles;
 use blk_entry::record_damage;
 use blk_io::{Fault, Folder};
-use blk_lru::before;
-use blk_object::{ListedPart, MOST_NODES, next_part, remove_part};
+use blk_lru::{MOST_NODES, before};
+use blk_object::{ListedPart, next_part, remove_part};
 use blk_ranges::child_name;
 use blk_record::EntryView;
 

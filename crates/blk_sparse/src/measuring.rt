@@ -29,7 +29,7 @@ use blk_ranges::{LONGEST_KEY, PART_SIZE, child_name, child_of};
 const BLOCKS_INDEX: u64 = 192;
 
 // The stream of a part that has its data.
-const DATA: usize = 1;
+const DATA: usize = blk_ranges::DATA as usize;
 
 /// What a write adds to an object with parts, and which of the parts that it covers there are.
 #[derive(Clone, Copy, Debug)]

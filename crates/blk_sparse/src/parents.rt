@@ -32,15 +32,9 @@ use blk_disk::BlockFiles;
 use blk_entry::record_damage;
 use blk_io::{Fault, Folder};
 use blk_object::{Owned, doom_record, free_owned, take_main};
-use blk_ranges::{ParentHead, ParentMap};
-use blk_record::{EntryView, SparseHead};
+use blk_ranges::{INDEX, ParentHead, ParentMap};
+use blk_record::{EntryView, PARENT, SparseHead};
 use blk_stream::read;
-
-// The stream in which an index is.
-const INDEX: u8 = 2;
-
-// The flags of the record of a parent.
-const PARENT: u32 = 1;
 
 /// Removes an object with an index, a parent, which no handle names, with its parts: its main item is taken out and
 /// counted no longer, then each part goes, as `drop_parts_with` says, and the main item's own places are freed last.

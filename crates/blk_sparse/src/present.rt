@@ -22,11 +22,8 @@ use crate::parts::find_part;
 use blk_addr::Addr;
 use blk_disk::BlockFiles;
 use blk_io::{Fault, Folder};
-use blk_ranges::{LONGEST_KEY, PART_SIZE, child_of};
+use blk_ranges::{DATA, LONGEST_KEY, PART_SIZE, child_of};
 use blk_stream::read;
-
-// The stream of a part that has its data.
-const DATA: u8 = 1;
 
 /// Reads the bytes of an object from an offset on up to the first that is not present, at most as many as `out` has. How
 /// many were read is given.

@@ -31,12 +31,9 @@ use blk_audit::ScanFault;
 use blk_disk::BlockFiles;
 use blk_entry::LONGEST_NAME;
 use blk_io::{Fault, Folder};
-use blk_ranges::read_child_name;
+use blk_ranges::{KEY_OF_NAME, read_child_name};
 use blk_record::super_fast_hash;
 use std::alloc::Global;
-
-// Where in a name the key begins.
-const KEY_OF_NAME: usize = 6;
 
 /// The records that are kept so far, in the order in which they were tried, with what they own.
 #[derive(Drop)]

@@ -26,7 +26,7 @@ ghost use Rattle.blk_verdict.specs.Verdicts.{IsVerdict, loaded_with};
 
 use crate::keys::{has_key, read_key};
 use crate::reason::Reason;
-use crate::roles::{CHILD, Role, read_role};
+use crate::roles::{Role, read_role};
 use crate::streams::has_streams;
 use crate::words::reason_by_words;
 use blk_addr::Addr;
@@ -34,7 +34,7 @@ use blk_audit::{ReadRecord, RecordWords, WalkedNode, read_words};
 use blk_disk::BlockFiles;
 use blk_entry::LONGEST_NAME;
 use blk_io::{Fault, Folder};
-use blk_record::super_fast_hash;
+use blk_record::{CHILD, super_fast_hash};
 
 /// What is known of a node for which none of the reasons up to `Sparse` holds, and of the record that it names.
 #[derive(Clone, Copy, Debug)]

@@ -25,12 +25,7 @@ use blk_disk::BlockFiles;
 use blk_entry::read_data;
 use blk_io::{Fault, Folder};
 use blk_ranges::{ChildName, PART_SIZE, ParentHead, ParentMap, PartMap, read_child_name};
-use blk_record::SparseHead;
-
-// The flags of a parent and of a part.
-const PARENT: u32 = 1;
-
-pub(crate) const CHILD: u32 = 2;
+use blk_record::{CHILD, PARENT, SparseHead};
 
 // The bytes of the indexes of a parent and of a part.
 const PARENT_INDEX: u32 = ParentMap::LEN as u32;

@@ -19,10 +19,10 @@ ghost use Rattle.blk_verdict.specs.Verdicts.{IsVerdict};
 
 use crate::loading::{Verdict, load_words};
 use crate::reason::Reason;
-use crate::roles::CHILD;
 use blk_audit::{Lists, RecordWords, WalkedNode};
 use blk_disk::BlockFiles;
 use blk_io::{Fault, Folder};
+use blk_record::CHILD;
 
 /// The verdict on a walked node by itself.
 ///

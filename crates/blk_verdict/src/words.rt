@@ -10,11 +10,11 @@ ghost use Rattle.blk_audit.specs.Records.{fields_said};
 ghost use Rattle.blk_verdict.specs.Loading as loading;
 
 use crate::reason::Reason;
-use crate::roles::CHILD;
 use blk_addr::{Addr, entry_blocks};
 use blk_audit::RecordWords;
 use blk_entry::LONGEST_NAME;
 use blk_ranges::LONGEST_KEY;
+use blk_record::CHILD;
 
 // The state of a live entry.
 const LIVE: u32 = 0;
