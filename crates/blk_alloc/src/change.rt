@@ -10,12 +10,11 @@ ghost use Rattle.blk_alloc.specs.Changes.{CanChangeMarks, IsMapInProgress, IsCha
 ghost use Rattle.blk_alloc.specs.Fitting.{IsMapWord};
 ghost use Rattle.blk_alloc.specs.Owning.{IsCause};
 
+use crate::layout::BITS_OF_WORD;
 use crate::map::word_of;
 use crate::plan::Plan;
 use blk_io::{Fault, FileId, Folder, read_exact};
 use blk_record::BlockHead;
-
-const BITS_OF_WORD: u32 = 32;
 
 // Marks so many blocks from one on, which lie in one group, or frees them, in a word of the map that was read.
 pub(crate) fn change<F: Folder>(

@@ -15,6 +15,7 @@ ghost use Rattle.blk_alloc.specs.Allocating.{AreCounted, HaveNoRoom, most_words}
 
 use crate::blocks::{Blocks, Found};
 use crate::counters::Counters;
+use crate::layout::BITS_OF_WORD;
 use crate::searching::{first_met, least_of_group};
 use blk_addr::{GROUP, Kind};
 use blk_disk::{BlockFiles, Steps};
@@ -24,8 +25,6 @@ use std::sync::ledger::Ledger;
 
 // The place of the first hint.
 pub(crate) const HINTS: u64 = BlockHead::EMPTY + 16;
-
-const BITS_OF_WORD: u32 = 32;
 
 // The number of blocks of a file, which a map has room for.
 pub(crate) fn blocks_in(files: &BlockFiles, file: u8) -> u32

@@ -10,3 +10,6 @@ pub(crate) const ALLOCATIONS: usize = BlockHead::ALLOCATIONS as usize;
 pub(crate) const EMPTY: usize = BlockHead::EMPTY as usize;
 
 pub(crate) const UPDATING: usize = BlockHead::UPDATING as usize;
+
+// The bits of a word of the map.
+pub(crate) const BITS_OF_WORD: u32 = 32;

@@ -9,12 +9,11 @@ ghost use Rattle.blk_io.specs.Faults.{IfDamaged, IfDevice};
 
 use crate::counters::Counters;
 use crate::finishing::finish;
+use crate::layout::BITS_OF_WORD;
 use crate::map::{longest_run, set_marks, word_of};
 use blk_addr::GROUP;
 use blk_io::{Failed, Fault, FileId, Folder, write_words};
 use blk_record::BlockHead;
-
-const BITS_OF_WORD: u32 = 32;
 
 // A word of a map with its place, and the counters of the header.
 #[derive(Clone, Copy)]

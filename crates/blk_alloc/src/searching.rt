@@ -11,6 +11,7 @@ ghost use Rattle.blk_io.specs.Faults.{IfDamaged, IfDevice};
 ghost use Rattle.blk_disk.specs.Tables.{Agrees, all_files, blocks_of};
 ghost use Rattle.blk_alloc.specs.Fitting.{IsFirstMet, IsLeastOfGroup, IsMapWord, IsShortSearch};
 
+use crate::layout::BITS_OF_WORD;
 use crate::map::{is_place, longest_run};
 use blk_addr::GROUP;
 use blk_disk::{BlockFiles, Steps};
@@ -19,8 +20,6 @@ use std::sync::ledger::Ledger;
 
 // The groups of a word of a map.
 const GROUPS_OF_WORD: u32 = 8;
-
-const BITS_OF_WORD: u32 = 32;
 
 // A group of a file, by the number of its word in the map and its own in it, with the word.
 #[derive(Clone, Copy)]
