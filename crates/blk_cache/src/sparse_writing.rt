@@ -277,6 +277,7 @@ impl Cache {
         ensures sink_later { K.faults out.old ≤ K.faults out.new }
         ensures device { IfDevice result (Rises (F.faults f.old) (F.faults f.new)) }
     {
+        // That what is kept is within the limits of its types is known once it is read.
         let _bytes = self.kept_bytes();
         self.evict_for(f, out, failed, rise.bytes, rise.items, &rise.parts)?;
         self.end_sparse_write(

@@ -152,6 +152,7 @@ fn set_bytes<F: Folder>(f: &mut F, files: &BlockFiles, bytes: u32) -> Result<(),
     ensures later { F.faults f.old ≤ F.faults f.new }
     ensures failed { OnErr result (Rises (F.faults f.old) (F.faults f.new)) }
 {
+    // The block files are asked for by the contract alone: what they say of the folder is known once they are named.
     let _files = files;
     write_words(f, FileId::Index, &[(IndexHead::NUM_BYTES, bytes)])
 }
@@ -173,6 +174,7 @@ fn set_counters<F: Folder>(
     ensures later { F.faults f.old ≤ F.faults f.new }
     ensures failed { OnErr result (Rises (F.faults f.old) (F.faults f.new)) }
 {
+    // The block files are asked for by the contract alone: what they say of the folder is known once they are named.
     let _files = files;
     write_words(
         f,

@@ -175,6 +175,7 @@ fn take_file<F: Folder>(f: &mut F, files: &BlockFiles, size: u32) -> Result<Addr
     ensures device { IfDevice result (Rises (F.faults f.old) (F.faults f.new)) }
 {
     let addr = create(f)?;
+    // That the word is one of an address is known once it is read.
     let _word = addr.word();
     resize(f, addr, u64::from(size))?;
     Ok(addr)

@@ -72,6 +72,7 @@ fn take_stream<F: Folder>(
     ensures device { IfDevice result (Rises (F.faults f.old) (F.faults f.new)) }
 {
     let addr = store_new(f, files, offset, bytes)?;
+    // That the word is one of an address is known once it is read.
     let _word = addr.word();
     check_index(f)?;
     Ok(addr)

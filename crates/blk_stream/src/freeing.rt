@@ -52,6 +52,7 @@ fn delete_file<F: Folder>(f: &mut F, files: &BlockFiles, addr: Addr) -> Result<(
     ensures later { F.faults f.old ≤ F.faults f.new }
     ensures failed { OnErr result (Rises (F.faults f.old) (F.faults f.new)) }
 {
+    // The block files are asked for by the contract alone: what they say of the folder is known once they are named.
     let _files = files;
     blk_external::delete(f, addr)
 }

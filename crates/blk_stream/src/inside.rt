@@ -146,6 +146,7 @@ fn set_size<F: Folder>(
     ensures later { F.faults f.old ≤ F.faults f.new }
     ensures failed { OnErr result (Rises (F.faults f.old) (F.faults f.new)) }
 {
+    // The block files are asked for by the contract alone: what they say of the folder is known once they are named.
     let _files = files;
     if size == old {
         return Ok(());

@@ -43,6 +43,7 @@ pub(crate) fn new_place<F: Folder>(
     let kind = kind_for(size);
     if is_external(kind) {
         let addr = blk_external::create(f)?;
+        // That the word is one of an address is known once it is read.
         let _word = addr.word();
         return Ok(addr);
     }

@@ -119,6 +119,7 @@ pub(crate) fn load_words<F: Folder>(
     ensures later { F.faults f.old ≤ F.faults f.new }
     ensures device { IfDevice result (Rises (F.faults f.old) (F.faults f.new)) }
 {
+    // That the word is one of an address is known once it is read.
     let _word = entry.word();
     match reason_by_words(node.addr, entry, node.dirty, &said.words) {
         Some(reason) => Ok(Verdict::Dropped(reason)),
