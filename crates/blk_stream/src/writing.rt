@@ -32,6 +32,9 @@ use blk_record::{EntryView, Record};
 /// the length. Else a new place is filled, then the record gets its address and the length by one sealed update, and
 /// then the old place is freed.
 ///
+/// A folder that erases what goes out of use gets zeros too, where the stream gets shorter within its blocks: from the
+/// new end to the end of the blocks, before the record gets the length.
+///
 /// A damage is a read of the record that gave too few bytes, a record that doesn't check, or words of the stream that
 /// don't give it its storage, and nothing is written then; or a cause of `allocate`, `free` or `create`, or old bytes
 /// that are not in their file.
