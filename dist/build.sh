@@ -1,85 +1,29 @@
-# Proves and builds the program, for ./blkcache, which reads this file where it has to. Crates that do not stand on each other are proved
-# side by side. One rt at a time works in a crate and in all below it, so each crate is proved in a tree of its own, a lane: there the
-# sources, and what is proved of the crates below, are hard links, and the crate has its own out/, which goes back when rt has ended.
+# Proves and builds the program, for ./blkcache, which reads this file where it has to. What proves is the kit's `rt ci`, in a copy of what
+# the program's proof reads: the crates that it stands on, without tests and must-fail edits. rt proves them side by side, and keeps each
+# that is proved, for later builds and for the gate.
+
+# How many bytes of the crates' folders one processor proves in a second: by it a first build is judged.
+bytes_a_second=3000
 
 # Lists the crates that the program stands on, each after those that it stands on, and last the program.
-declare -A below=() line_of=() all_below=()
+declare -A below=() line_of=() seen=()
 order=()
 add() {
-    local crate it all=
-    [ -n "${below[$1]+there}" ] && [ -z "${all_below[$1]+there}" ] || return 0
-    for crate in ${below[$1]}; do
-        [ -n "${below[$crate]+there}" ] || continue
-        add "$crate"
-        for it in ${all_below[$crate]} "$crate"; do
-            [[ " $all " == *" $it "* ]] || all+=" $it"
-        done
+    local it
+    [ -n "${below[$1]+there}" ] && [ -z "${seen[$1]-}" ] || return 0
+    seen[$1]=yes
+    for it in ${below[$1]}; do
+        add "$it"
     done
-    all_below[$1]=$all
     order+=("$1")
 }
 list_crates() {
     local line name
-    while IFS= read -r line; do
+    while IFS= read -r line || [ -n "$line" ]; do
         name=${line%%[ :]*}
         [[ $name == '#'* || -z $name ]] || below[$name]=${line#*:} line_of[$name]=$line
     done <"$here/crates.txt"
     add blkcache
-}
-
-# How many checks run at once: as many as processors, and as gigabytes and a half of memory that is free.
-count_lanes() {
-    local key value group=/sys/fs/cgroup/memory.max
-    lanes=$(nproc)
-    if [ -r /proc/meminfo ]; then
-        while read -r key value _; do
-            [ "$key" != MemAvailable: ] || fit_lanes $((value / 1500000))
-        done </proc/meminfo
-    fi
-    if [ -r "$group" ]; then
-        read -r value <"$group" || value=max
-        [[ $value != +([0-9]) ]] || fit_lanes $((value / 1500000000))
-    fi
-    [ "$lanes" -ge 1 ] || lanes=1
-}
-fit_lanes() {
-    [ "$1" -ge "$lanes" ] || lanes=$1
-}
-
-# How many seconds each crate takes: as many as it took here the last time, or so many by the size of its sources.
-bytes_per_second=3000
-declare -A seconds=()
-weigh() {
-    local bytes path name took
-    while read -r bytes path; do
-        seconds[${path##*/}]=$((bytes / bytes_per_second + 5))
-    done < <(cd "$here/crates" && du -sb --exclude=out -- "${order[@]}")
-    last_total=
-    [ -r "$out/build.times" ] || return 0
-    while read -r name took; do
-        [[ $took == +([0-9]) ]] || continue
-        [ "$name" != all ] || last_total=$took
-        [ -z "${seconds[$name]+there}" ] || seconds[$name]=$took
-    done <"$out/build.times"
-}
-
-# Sorts the crates by the longest way that goes from them to the program, the longest first.
-rank() {
-    local number crate it longest=0 total=0
-    local -A way=()
-    for ((number = ${#order[@]} - 1; number >= 0; number--)); do
-        crate=${order[number]}
-        way[$crate]=$((${way[$crate]:-0} + seconds[$crate]))
-        total=$((total + seconds[$crate]))
-        [ "$longest" -ge "${way[$crate]}" ] || longest=${way[$crate]}
-        for it in ${below[$crate]}; do
-            [ "${way[$it]:-0}" -ge "${way[$crate]}" ] || way[$it]=${way[$crate]}
-        done
-    done
-    mapfile -t ranked < <(for it in "${order[@]}"; do echo "${way[$it]} $it"; done | sort -rns)
-    ranked=("${ranked[@]#* }")
-    estimate=$((total / lanes))
-    [ "$estimate" -ge "$longest" ] || estimate=$longest
 }
 
 # A number of seconds as minutes with a tenth.
@@ -88,7 +32,25 @@ minutes() {
     printf -v "$2" '%d.%d' $((tenths / 10)) $((tenths % 10))
 }
 
-# Lets no other build into this repository, and waits for one that goes on. What a killed one left is put back.
+# Says what comes, and about how long it takes.
+announce() {
+    local took='' anew='' time bytes at_once
+    at_once=$(nproc)
+    { read -r took anew <"$out/build.times"; } 2>/dev/null || :
+    if [[ $took == +([0-9]) && $anew == +([0-9]) ]]; then
+        minutes "$took" time
+        time="the last time here took $time minutes, and proved $anew anew"
+    else
+        bytes=$({ CDPATH= cd -- "$here/crates" && du -scb --exclude=out -- "${order[@]}"; } 2>/dev/null) || :
+        bytes=${bytes##*$'\n'}
+        # (More than four at once gain little, as crates stand on one another.)
+        time=$((10#0${bytes%%[!0-9]*} / bytes_a_second / (at_once < 4 ? at_once : 4) / 60 + 1))
+        time="the first time takes about $time min, judged by the size of the sources, and less where rt has proved some before"
+    fi
+    say "proving and building ${#order[@]} crates${why:+, since $why}, up to $at_once at once where memory holds them; $time"
+}
+
+# Lets no other build into this repository, and waits for one that goes on. What a killed one left is removed.
 hold() {
     local other words tries=0 it
     waited=
@@ -116,111 +78,93 @@ hold() {
         sleep 1
     done
     held=yes
-    for it in "$out"/lanes.*; do
-        [ ! -d "$it" ] || empty "$it"
+    for it in "$out"/proving.*; do
+        [ ! -d "$it" ] || sweep "$it"
     done
 }
 
-# Puts back what the lanes have of the crates' out/, and removes the lanes.
-empty() {
-    local lane
-    for lane in "$1"/*/; do
-        [ ! -d "$lane" ] || put_back "${lane%/}"
-    done
-    rm -rf "$1"
+# Removes what a killed build left, and ends its rt where that still runs: it is the process that was noted, if it works in the copy.
+sweep() {
+    local process=
+    { read -r process <"$1/process"; } 2>/dev/null || :
+    [ -z "$process" ] || [ ! "/proc/$process/cwd" -ef "$1/top" ] || kill -TERM "$process" 2>/dev/null || :
+    remove "$1"
 }
-put_back() {
-    local crate=${1##*/}
-    if [ -d "$1/crates/$crate/out" ]; then
-        [ ! -e "$here/crates/$crate/out" ] || rm -rf "$here/crates/$crate/out"
-        mv "$1/crates/$crate/out" "$here/crates/$crate/out"
+
+# Removes a build's folder. What rt started ends just behind it, and may still write there.
+remove() {
+    local tries=0
+    until rm -rf -- "$1" 2>/dev/null || [ $((tries += 1)) -ge 50 ]; do
+        sleep 0.1
+    done
+}
+
+# Copies what is proved into a repository of its own. (Links would change times of the sources, by which an rt that runs beside knows that
+# nobody touches them.)
+copy() {
+    local it lines='' files=() parts=(HANDLES crates/blkcache/{stdin,stdout,args,status,data})
+    for it in "${order[@]}"; do
+        lines+=${line_of[$it]}$'\n'
+        parts+=("crates/$it"/{src,specs,proofs})
+    done
+    for it in "${parts[@]}"; do
+        [ ! -e "$here/$it" ] || files+=("$it")
+    done
+    mkdir -p "$top/.git" || fail "$top cannot be made"
+    (
+        printf %s "$lines" >"$top/crates.txt" && CDPATH= cd -- "$here" && cp -r --parents -t "$top" -- "${files[@]}"
+    ) 2>"$stage/log" || fail "$top cannot be made"
+}
+
+# Tells of each crate that is proved, and ends rt at the first that isn't.
+hear() {
+    local name time
+    [ -z "$failed" ] || return 0
+    if [[ $1 =~ ^rt:\ ([a-z0-9_]+)(:\ its\ tests\ are)?\ NOT\ PROVED ]]; then
+        failed="${BASH_REMATCH[1]} is not proved"
+        kill -TERM "$!" 2>/dev/null || :
+    elif [[ $1 =~ ^rt:\ ([a-z0-9_]+)\ (proved$|is\ kept:) ]]; then
+        name=${BASH_REMATCH[1]} told=$((told + 1))
+        minutes "$SECONDS" time
+        if [ "${BASH_REMATCH[2]}" = proved ]; then
+            anew=$((anew + 1))
+            say "$name proved, $told of ${#order[@]}, after $time minutes"
+        else
+            say "$name was proved before, $told of ${#order[@]}"
+        fi
+    elif [[ $1 == 'rt: note: '* || $1 == 'rt: '*'; waiting for it' ]]; then
+        say "${1#rt: }"
     fi
-    rm -rf "$1"
 }
 
-# Makes the lane of a crate.
-make_lane() {
-    local lane=$1 crate=$2 it part files=()
-    mkdir -p "$lane"
-    for it in ${all_below[$crate]} "$crate"; do
-        echo "${line_of[$it]}"
-        for part in src specs proofs out/rlib; do
-            [ "$it/$part" = "$crate/out/rlib" ] || [ ! -d "$here/crates/$it/$part" ] || files+=("crates/$it/$part")
-        done
-    done >"$lane/crates.txt"
-    if ! (cd "$here" && cp -al --parents -t "$lane" -- "${files[@]}") 2>/dev/null; then
-        rm -rf "$lane/crates"
-        (cd "$here" && cp -a --parents -t "$lane" -- "${files[@]}") || fail "$lane cannot be made"
-    fi
-    [ ! -d "$here/crates/$crate/out" ] || mv "$here/crates/$crate/out" "$lane/crates/$crate/out"
-}
-
-# Starts rt for a crate, by so many jobs. The program is built in place, over what is proved: rt runs it once with no words, and it
-# prints its usage and touches no folder.
-declare -A running=() jobs_of=() began=()
-begin() {
-    local crate=$1 at=$here/crates/$1 words=(run)
-    if [ "$crate" != blkcache ]; then
-        at=$lanes_at/$crate/crates/$crate words=(lib --jobs "$2")
-        make_lane "$lanes_at/$crate" "$crate"
-    fi
-    (cd "$at" && exec "${rt[@]}" "${words[@]}") </dev/null >"$lanes_at/$crate.log" 2>&1 &
-    running[$!]=$crate
-    jobs_of[$crate]=$2
-    began[$crate]=$SECONDS
-}
-
-# Starts what may start: the crates of which all below are proved, those with the longest way first.
-declare -A is_proved=() is_begun=()
-begin_more() {
-    local crate it free left jobs busy=0 ready=()
-    for it in "${running[@]}"; do
-        busy=$((busy + jobs_of[$it]))
+# Has rt prove the copy, and hears what it says.
+run_rt() {
+    local line lines status=0
+    earlier=${!-}
+    exec {lines}< <({ CDPATH= cd -- "$top" && exec rt ci; } </dev/null 2>&1)
+    echo "$!" 2>/dev/null >"$stage/process" || :
+    while IFS= read -r line <&"$lines" || [ -n "$line" ]; do
+        printf '%s\n' "$line" 2>/dev/null >>"$stage/log" || :
+        hear "$line"
     done
-    for crate in "${ranked[@]}"; do
-        [ -z "${is_begun[$crate]-}" ] || continue
-        for it in ${all_below[$crate]}; do
-            [ -n "${is_proved[$it]-}" ] || continue 2
-        done
-        ready+=("$crate")
-    done
-    for ((it = 0; it < ${#ready[@]} && busy < lanes; it++)); do
-        free=$((lanes - busy)) left=$((${#ready[@]} - it))
-        jobs=$((free > left ? free / left : 1))
-        is_begun[${ready[it]}]=yes
-        busy=$((busy + jobs))
-        begin "${ready[it]}" "$jobs"
-    done
+    exec {lines}<&-
+    wait "$!" || status=$?
+    earlier=$!
+    [ -z "$failed" ] || fail "$failed"
+    [ "$status" = 0 ] || fail "rt ci ended with status $status"
+    [ -x "$made" ] || fail 'rt ci made no program'
 }
 
-# Waits until one rt has ended, and tells how.
-end_one() {
-    local ended='' status=0 crate took line last=
-    wait -n -p ended "${!running[@]}" || status=$?
-    crate=${running[$ended]}
-    unset "running[$ended]"
-    took=$((SECONDS - began[$crate]))
-    while IFS= read -r line; do last=$line; done <"$lanes_at/$crate.log"
-    if [ "$crate" = blkcache ]; then
-        [ "$last" = usage ] || failed="$crate did not build"
-    else
-        [ "$status" = 0 ] || failed="$crate is not proved"
-        put_back "$lanes_at/$crate"
-    fi
-    [ -z "$failed" ] || fail "$failed" "$lanes_at/$crate.log"
-    # rt is silent about a crate that was proved before.
-    [ -z "$last" ] || seconds[$crate]=$took
-    is_proved[$crate]=yes
-    minutes "$took" took
-    say "$crate proved, ${#is_proved[@]} of ${#order[@]}, $took minutes"
-}
-
-# Ends each rt that runs, puts back what the lanes have, and leaves no other file of the build.
+# Ends rt, which ends what it started, and leaves no other file of the build. It goes by the process that was started last, since a signal
+# may come before a number is noted.
 end_all() {
     trap '' INT TERM HUP
-    [ ${#running[@]} = 0 ] || kill -TERM "${!running[@]}" 2>/dev/null || :
-    wait 2>/dev/null || :
-    [ -z "$lanes_at" ] || empty "$lanes_at"
+    if [ "${!-}" != "$earlier" ]; then
+        kill -TERM "$!" 2>/dev/null || :
+        wait "$!" 2>/dev/null || :
+        earlier=$!
+    fi
+    [ -z "$stage" ] || remove "$stage"
     [ -z "$held" ] || rm -f "$out/building"
     held=
 }
@@ -233,33 +177,15 @@ stop() {
 # Says why the program did not build, and where rt's words are.
 fail() {
     local log=
-    if [ -n "${2-}" ]; then
-        mv -f "$2" "$out/build.log"
-        log="; the log is $out/build.log"
-    fi
+    [ -z "$stage" ] || ! mv -f "$stage/log" "$out/build.log" 2>/dev/null || log="; the log is $out/build.log"
     end_all
     say "$1$log"
     exit 70
 }
 
-# Says what comes, and about how long it takes.
-announce() {
-    local time
-    if [ -n "$last_total" ]; then
-        minutes "$last_total" time
-        time="the last time here took $time minutes"
-    else
-        time="the first time takes about $((estimate / 60 + 1)) min, judged by the size of the sources"
-    fi
-    say "proving and building ${#order[@]} crates${why:+, since $why}, up to $lanes at once; $time"
-}
-
 # Proves and builds all.
 build() {
-    local it
-    lanes_at= held= failed= rt=(rt)
-    # (rt takes minutes of the upper crates to sum up what is below)
-    ! type -P python3 >/dev/null || rt=(python3 -B "$(CDPATH= cd -- "$here/dist" && pwd)/rt.py")
+    local earlier=${!-} held='' stage='' top made failed='' told=0 anew=0 waited
     type -P rt >/dev/null || fail "${why:-there is no program}, and there is no rt here to build it"
     [ $((BASH_VERSINFO[0] * 100 + BASH_VERSINFO[1])) -ge 501 ] || fail 'to build, bash 5.1 is needed'
     trap 'stop 129' HUP
@@ -268,32 +194,28 @@ build() {
     hold
     if [ -n "$waited" ] && [ -z "${proving-}" ]; then
         ask_git
+        earlier=$!
         if is_built; then
             end_all
             trap - HUP INT TERM
             return
         fi
     fi
-    list_crates
-    count_lanes
-    weigh
-    rank
-    announce
-    lanes_at=$out/lanes.$$
-    mkdir "$lanes_at" || fail "$lanes_at cannot be made"
     SECONDS=0
-    while [ ${#is_proved[@]} -lt ${#order[@]} ]; do
-        begin_more
-        end_one
-    done
-    {
-        echo "all $SECONDS"
-        for it in "${order[@]}"; do echo "$it ${seconds[$it]}"; done
-    } >"$out/build.times"
+    stage=$(CDPATH= cd -- "$out" && pwd)/proving.$$
+    top=$stage/top made=$stage/top/crates/blkcache/out/blkcache
+    list_crates
+    announce
+    copy
+    # The program is of the commit's crates where the copy is, whatever is changed from now on.
+    name_crates
+    is_committed || crates=
+    run_rt
+    # It has the time of the start, so that a source that was changed meanwhile is newer.
+    touch -r "$out/building" "$made" && mv -f "$made" "$built" || fail "$built cannot be written"
+    echo "$SECONDS $anew" 2>/dev/null >"$out/build.times" || :
     end_all
     trap - HUP INT TERM
-    touch "$built"
     program=$built
-    name_crates
     note
 }

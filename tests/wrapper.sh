@@ -34,32 +34,46 @@ commit() {
     : >"$room/commit"
     [ -z "$1" ] || printf '%040x\n%040x\n' "$1" "$1" >"$room/commit"
 }
-# An rt that proves nothing: it fails in the crate that the file fails names, and hangs in the one that hangs names. It tells where a crate
-# lacks what is proved of those below, and leaves in order when each began and ended.
+# An rt that proves nothing, and answers `rt ci` alone: a line for each crate of the repository that it is in, which it keeps, and at the end
+# the program. It fails at the crate that the file fails names, and then goes on until it is ended, or it fails behind all; it hangs at
+# the crate that hangs names. It says what the file notes has, does what meanwhile has, and leaves what it was given.
 cat >"$stubs/rt" <<'END'
 [ "$1" != version ] || { echo 'some kit'; exit 0; }
-crate=${PWD##*/}
-echo "rt $1 $crate" >>"$calls"
-echo "begin $crate" >>"$room/order"
-echo "rt says much of $crate"
-[ "$crate" != "$(<"$room/fails")" ] || exit 1
-if [ "$crate" = "$(<"$room/hangs")" ]; then
+echo "rt $*" >>"$calls"
+hang() {
     echo "$$" >"$room/hanging"
     while :; do read -r -t 1 _ <>"$room/never" || :; done
+}
+shopt -s globstar dotglob
+for it in **; do [ ! -f "$it" ] || echo "$it"; done >"$room/given"
+echo "$(<crates.txt)" >"$room/listed.txt"
+fails=$(<"$room/fails")
+hangs=$(<"$room/hangs")
+[ ! -e "$room/meanwhile" ] || . "$room/meanwhile"
+[ ! -e "$room/notes" ] || echo "$(<"$room/notes")"
+while IFS=: read -r name _; do
+    crate=${name%% *}
+    [ "$crate" != "$hangs" ] || hang
+    if [ -e "$room/kept/$crate" ]; then
+        echo "rt: $crate is kept: an earlier run on this machine proved the same files over the same libraries"
+        continue
+    fi
+    printf '== %s\nmuch is said of %s\n' "$crate" "$crate"
+    if [ "$crate" = "$fails" ]; then
+        echo "rt: $crate NOT PROVED"
+        hang
+    fi
+    : >"$room/kept/$crate"
+    echo "rt: $crate proved"
+done <crates.txt
+mkdir -p crates/blkcache/out
+[ "$fails" = 'to link' ] || cp "$room/program" crates/blkcache/out/blkcache
+[ "$fails" != 'to stay' ] || kill -KILL $$
+if [ "$fails" = 'to run' ]; then
+    printf 'rt: FAILED: blkcache (run)\n3 passed, 1 failed\n'
+    exit 1
 fi
-sleep 0.02
-if [ "$1" = lib ]; then
-    for it in ../*; do
-        [ "${it##*/}" = "$crate" ] || [ -f "$it/out/rlib/made" ] || echo "$crate lacks $it" >>"$room/lacks"
-    done
-    mkdir -p out/rlib
-    echo "$crate" >out/rlib/made
-    echo "end $crate" >>"$room/order"
-    exit 0
-fi
-cp "$room/program" out/blkcache
-[ "$(<"$room/fails")" = 'to link' ] || echo usage
-exit 2
+echo '4 passed, 0 failed'
 END
 # A program that says what it was given, and notes that it ran.
 cat >"$room/program" <<'END'
@@ -75,10 +89,11 @@ for it in "$stubs/git" "$stubs/rt" "$room/program"; do
     printf '%s\n' "#!$BASH" "$(<"$it")" >"$it"
     chmod +x "$it"
 done
-for it in bash cp du ln mkdir mv nproc readlink rm sha256sum sleep sort touch; do
+for it in bash cp du mkdir mv nproc readlink rm sha256sum sleep touch; do
     ln -s "$(type -P "$it")" "$stubs/$it"
 done
 mkfifo "$room/never"
+mkdir "$room/kept"
 commit 1
 : >"$room/changes"
 : >"$room/new"
@@ -86,17 +101,17 @@ commit 1
 : >"$room/fails"
 : >"$room/hangs"
 
-# Runs the wrapper on words, with nothing on its path but the stand-ins and what it is said to need. Leaves its status, what it said, and what
-# it called, with the three calls of git at its start, which are made at once, as one line.
+# Runs the wrapper on words, with nothing on its path but the stand-ins and what it is said to need. Leaves its status, what it said, how often
+# it built, and what it called, with the three calls of git at its start, which are made at once, as one line.
 wrap() {
     : >"$calls"
-    : >"$room/order"
     rm -f "$room/ran"
     PATH=$stubs "$BASH" "$repository/blkcache" "$@" <"$room/line" >"$room/said" 2>"$room/complained"
     status=$?
     said=$(cat "$room/said")
     complained=$(cat "$room/complained")
     called=$(cat "$calls")
+    builds=$(count_like 'rt ci' <"$calls")
     if [ "$(head -n 3 "$calls" | sort)" = $'git diff-index\ngit ls-files\ngit rev-parse' ]; then
         called=$(echo 'git is asked' && tail -n +4 "$calls")
     fi
@@ -108,6 +123,13 @@ said_why() {
     local why=${complained%%$'\n'*}
     why=${why#*' crates, since '}
     echo "${why%', up to '*}"
+}
+
+# Whether the rt that hung still runs. (What has ended may still be there as a process, and has no program then.)
+does_rt_hang() {
+    local process=
+    [ ! -e "$room/hanging" ] || process=$(cat "$room/hanging")
+    [ -n "$process" ] && [ -e "/proc/$process/exe" ] && echo yes || echo no
 }
 
 # What the build may leave: the program and the note of its commit, and nothing among the temporary files.
@@ -165,7 +187,7 @@ wrap "$folder" count 'two words'
 is 'after the build the program runs' "4 words: $(printf '%q ' "$folder" count)two\\ words input: caller" "$status $said"
 order=()
 while IFS= read -r line; do
-    [[ $line =~ ^blkcache:\ ([a-z_0-9]+)\ proved,\ ([0-9]+)\ of\ ([0-9]+),\ [0-9]+\.[0-9]\ minutes$ ]] || continue
+    [[ $line =~ ^blkcache:\ ([a-z_0-9]+)\ proved,\ ([0-9]+)\ of\ ([0-9]+),\ after\ [0-9]+\.[0-9]\ minutes$ ]] || continue
     order+=("${BASH_REMATCH[1]}")
     is "the number of ${BASH_REMATCH[1]}" "${#order[@]}" "${BASH_REMATCH[2]}"
     total=${BASH_REMATCH[3]}
@@ -173,40 +195,36 @@ done <<<"$complained"
 is 'the number of crates' "$total" "${#order[@]}"
 is 'one line before them, and none besides' "$((total + 1))" "$(wc -l <"$room/complained")"
 is 'the last crate is the program' blkcache "${order[-1]}"
-first='^blkcache: proving and building ([0-9]+) crates, since .*/blkcache is missing, up to ([0-9]+) at once; the first time takes about [0-9]+ min, judged by the size of the sources$'
+first='^blkcache: proving and building ([0-9]+) crates, since .*/blkcache is missing, up to ([0-9]+) at once where memory holds them; the first time takes about [0-9]+ min, judged by the size of the sources, and less where rt has proved some before$'
 [[ ${complained%%$'\n'*} =~ $first ]]
-is 'the first line tells how many crates, and how long' "0 $total" "$? ${BASH_REMATCH[1]}"
-lanes=${BASH_REMATCH[2]}
+is 'the first line tells how many crates, and how long' "0 $total $(nproc)" "$? ${BASH_REMATCH[1]} ${BASH_REMATCH[2]}"
 
-# Each crate begins when those below have ended, and as many run at once as it was said, where so many can.
-declare -A below=() ended=()
+# rt is given the crates that the program stands on, each after those that it stands on, and no others.
+declare -A below=() listed=() wanted=()
 while IFS=: read -r name crates; do
     [[ $name == '#'* || -z $name ]] || below[${name%% *}]=$crates
 done <"$top/crates.txt"
-now=0 most=0
-while read -r what name; do
-    if [ "$what" = end ]; then
-        ended[$name]=yes now=$((now - 1))
-        continue
-    fi
-    now=$((now + 1))
-    [ "$now" -le "$most" ] || most=$now
+want() {
+    local it
+    [ -n "${below[$1]+there}" ] && [ -z "${wanted[$1]-}" ] || return 0
+    wanted[$1]=yes
+    for it in ${below[$1]}; do want "$it"; done
+}
+want blkcache
+for name in "${order[@]}"; do
     for it in ${below[$name]}; do
-        [ -z "${below[$it]+there}" ] || [ -n "${ended[$it]-}" ]
-        is "$it has ended before $name begins" 0 $?
+        [ -z "${below[$it]+there}" ] || [ -n "${listed[$it]-}" ]
+        is "$it is listed before $name" 0 $?
     done
-done <"$room/order"
-[ "$most" -le "$lanes" ] && { [ "$lanes" = 1 ] || [ "$most" -ge 2 ]; }
-is "side by side: at most $lanes, and more than one where so many may be ($most)" 0 $?
-is 'each has what is proved of those below' '' "$(cat "$room/lacks" 2>/dev/null)"
-is 'what is proved of each goes back to its own place' "$((total - 1))" "$(cat "$repository/crates"/*/out/rlib/made | wc -l)"
-wanted=$(for it in "${order[@]:0:total-1}"; do echo "rt lib $it"; done | sort)
-is 'rt is called once a crate' $'git is asked\ngit rev-parse\ngit status\n'"$wanted"$'\nrt run blkcache' "$(sort <<<"$called")"
-is 'the program is built last' $'rt run blkcache\ngit rev-parse\ngit status' "$(tail -n 3 <<<"$called")"
+    listed[$name]=yes
+done
+is 'the crates are those that the program stands on' "$(printf '%s\n' "${!wanted[@]}" | sort)" "$(printf '%s\n' "${order[@]}" | sort)"
+is 'each with its line of crates.txt' "$total" "$(while IFS= read -r line; do [[ $'\n'$(<"$top/crates.txt")$'\n' != *$'\n'"$line"$'\n'* ]] || echo "$line"; done <"$room/listed.txt" | wc -l)"
+is 'rt is called once' $'git is asked\ngit rev-parse\ngit status\nrt ci\ngit status' "$called"
 is 'nothing else is left' $'blkcache blkcache.commit build.times\n' "$(left)"$'\n'
 
 # From here on there are four crates.
-printf '%s\n' '# NAME: DEP DEP ..' 'blk_image:' 'blk_io: blk_image hex' 'blk_run: blk_image' 'blkcache: blk_run blk_io' >"$repository/crates.txt"
+printf '%s\n' '# NAME: DEP DEP ..' 'blkcache may_wait=0: blk_run blk_io' 'blk_image:' 'blk_io: blk_image hex' 'blk_io_tests staticlib: blk_io' 'blk_run: blk_image' >"$repository/crates.txt"
 touch -d '1 hour ago' "$repository/crates.txt"
 total=4
 
@@ -220,7 +238,8 @@ wrap "$folder" count
 is 'the times of the sources are not asked' 'git is asked' "$called"
 echo ' M crates/blk_io/src/mem.rt' >"$room/changes"
 wrap "$folder" count
-is 'unless one was changed' "$((total + 6))" "$(wc -l <"$calls")"
+is 'unless one was changed' 1 "$builds"
+is 'what was proved before is said to be' "$((total + 1)) $total" "$(wc -l <"$room/complained") $(count_like 'blkcache: * was proved before, [1-4] of 4' <"$room/complained")"
 : >"$room/changes"
 touch -d '1 hour ago' "$repository/crates/blk_io/src"
 wrap "$folder" count
@@ -238,7 +257,7 @@ is 'a new file that is no newer than the program' $'4 git is asked\ngit status\n
 sleep 0.05
 touch "$repository/crates/blk_io/src"
 wrap "$folder" count
-is 'a new file in a folder that is newer is built' "$((total + 6))" "$(wc -l <"$calls")"
+is 'a new file in a folder that is newer is built' 1 "$builds"
 : >"$room/new"
 touch -d '1 hour ago' "$repository/crates/blk_io/src"
 wrap "$folder" count
@@ -248,9 +267,9 @@ touch "$repository/crates/blk_io/src"
 # With other crates it builds again; where no source is newer than the program it notes the commit alone.
 commit 2
 wrap "$folder" count
-is 'other crates are built' "$((total + 5))" "$(wc -l <"$calls")"
+is 'other crates are built' 1 "$builds"
 is 'and it is said' "$((total + 1))" "$(wc -l <"$room/complained")"
-[[ ${complained%%$'\n'*} == *'; the last time here took '*' minutes' ]]
+[[ ${complained%%$'\n'*} == *'; the last time here took 0.'[0-9]' minutes, and proved 0 anew' ]]
 is 'with how long it took the last time' 0 $?
 touch -d '1 hour ago' "$repository/crates/blk_io/src"
 commit 3
@@ -267,7 +286,7 @@ done
 sleep 0.05
 touch "$repository/crates/blk_io/src"
 wrap "$folder" count
-is 'what is not committed is built' "$((total + 5))" "$(wc -l <"$calls")"
+is 'what is not committed is built' 1 "$builds"
 touch -d '1 hour ago' "$repository/crates/blk_io/src"
 : >"$room/changes"
 wrap "$folder" count
@@ -275,8 +294,50 @@ cp "$room/program" "$out/blkcache"
 sleep 0.05
 touch "$repository/crates/blk_io/src"
 wrap "$folder" count
-is 'a program that was built apart is compared with its sources' "$((total + 5))" "$(wc -l <"$calls")"
+is 'a program that was built apart is compared with its sources' 1 "$builds"
 touch -d '1 hour ago' "$repository/crates/blk_io/src"
+
+# rt is given what is proved of these crates, with what the program is run on, and nothing else.
+echo 'Handles allowed: none.' >"$repository/HANDLES"
+mkdir -p "$repository/crates/blk_io"/{proofs/deep,must-fail,out/rlib} "$repository/crates/blkcache/data/deep"
+for it in src/lib.rt specs/Io.antt proofs/deep/turns.antt must-fail/wrong.edit out/rlib/made README.md stdin; do echo "$it" >"$repository/crates/blk_io/$it"; done
+for it in src/main.rt stdin stdout args status data/deep/one; do echo "$it" >"$repository/crates/blkcache/$it"; done
+mkdir -p "$repository/crates/blk_io_tests/src"
+echo tests >"$repository/crates/blk_io_tests/src/lib.rt"
+rm -r "$out" "$room/kept"/*
+wrap "$folder" count
+is 'what rt is given' "HANDLES crates.txt crates/blk_io/proofs/deep/turns.antt crates/blk_io/specs/Io.antt crates/blk_io/src/lib.rt $(echo crates/blkcache/{args,data/deep/one,src/main.rt,status,stdin,stdout})" "$(echo $(sort <"$room/given"))"
+is 'the lines of crates.txt that it is given' $'blk_image:\nblk_run: blk_image\nblk_io: blk_image hex\nblkcache may_wait=0: blk_run blk_io' "$(cat "$room/listed.txt")"
+is 'each is proved anew' 4 "$(count_like 'blkcache: * proved, [1-4] of 4, after *' <"$room/complained")"
+rm -r "$repository/HANDLES" "$repository/crates/blk_io"/{must-fail,out,README.md,stdin} "$repository/crates/blkcache"/{stdin,stdout,args,status,data}
+touch -d '1 hour ago' "$repository/crates"/{blk_io/{src,specs,proofs,proofs/deep},blkcache/src,blk_io_tests/src}{,/*}
+
+# What is changed while rt proves is built by the next run, also where it was committed; the program is of what was copied.
+rm -r "$out"
+echo 'read -r -t 0.05 _ <>"$room/never" || :; : >"$room/repository/crates/blk_io/src/lib.rt"' >"$room/meanwhile"
+wrap "$folder" count
+is 'a source is changed while rt proves' '4 1' "$status $builds"
+rm "$room/meanwhile"
+commit 2
+wrap "$folder" count
+is 'and committed behind it: it is built' '4 1' "$status $builds"
+wrap "$folder" count
+is 'and then no more' '4 git is asked' "$status $called"
+commit 1
+touch -d '1 hour ago' "$repository/crates/blk_io/src"{,/*}
+wrap "$folder" count
+
+# What rt notes, and that it waits, is passed on.
+printf 'rt: note: %s\nrt: %s; waiting for it\n' 'the disk is nearly full' 'blk_io: another run on this machine is proving the same' >"$room/notes"
+rm -r "$out"
+wrap "$folder" count
+is 'what rt notes' $'blkcache: note: the disk is nearly full\nblkcache: blk_io: another run on this machine is proving the same; waiting for it' "$(head -n 3 "$room/complained" | tail -n 2)"
+rm "$room/notes"
+
+# It builds too where it is called by a path that begins in another folder.
+rm -r "$out"
+(cd "$room" && : >"$calls" && CDPATH=$repository PATH=$stubs "$BASH" repository/blkcache folder count <line >said 2>complained)
+is 'by a relative path' "4 words: folder count input: caller 1" "$? $(cat "$room/said") $(count_like 'rt ci' <"$calls")"
 
 # Where git knows no commit, the sources are looked at.
 : >"$room/commit"
@@ -284,32 +345,37 @@ wrap "$folder" count
 is 'no commit' "4 words: $folder count input: caller git is asked" "$status $said$complained $called"
 commit 1
 
-# A build that fails says where the log is, and what is above is not tried.
+# A build that fails says where the log is, and what is above is not tried: rt is ended.
 rm -r "$out"/*
-for it in blk_io blkcache 'to link'; do
-    echo "$it" >"$room/fails"
+while read -r fails why; do
+    rm -rf "$room/kept"/* "$room/hanging"
+    echo "${fails/to_/to }" >"$room/fails"
     wrap "$folder" count
-    [ "$it" = blk_io ] && why='blk_io is not proved' || why='blkcache did not build'
     last=$(tail -n 1 "$room/complained")
-    is "a build that fails ($it)" "70 blkcache: $why; the log is $out/build.log" "$status $said$last"
-    [[ $(<"$out/build.log") == *"rt says much of ${why%% *}"* ]]
-    is "the log has what rt said ($it)" 0 $?
-    rm -f "$out/build.log" "$out/blkcache"
-    is "nothing else is left where it fails ($it)" $'*\n' "$(left)"$'\n'
-    rm -rf "$repository"/crates/*/out/*
-done
+    is "a build that fails ($fails)" "70 blkcache: $why; the log is $out/build.log" "$status $said$last"
+    [ "${fails%%_*}" = to ] && named=blkcache || named=$fails
+    [[ $(<"$out/build.log") == $'== blk_image\nmuch is said of blk_image\n'*"much is said of $named"* ]]
+    is "the log has what rt said ($fails)" 0 $?
+    is "rt has ended ($fails)" no "$(does_rt_hang)"
+    rm -f "$out/build.log"
+    is "nothing else is left where it fails ($fails)" $'*\n' "$(left)"$'\n'
+done <<'END'
+blk_io blk_io is not proved
+blkcache blkcache is not proved
+to_link rt ci made no program
+to_run rt ci ended with status 1
+to_stay rt ci ended with status 137
+END
 : >"$room/fails"
 
-# An interrupt ends rt, puts what was proved back in its place, and leaves nothing else.
-echo blk_run >"$room/hangs"
+# An interrupt ends rt, leaves nothing, and what was proved is kept.
+echo blk_io >"$room/hangs"
 for it in INT:130 TERM:143 HUP:129; do
     if [[ $(trap -p "${it%:*}") == *"''"* ]]; then
         skip "${it%:*}" 'the tests themselves run where it is ignored'
         continue
     fi
-    rm -rf "$room/hanging" "$repository"/crates/*/out/*
-    mkdir -p "$repository/crates/blk_run/out"
-    echo kept >"$repository/crates/blk_run/out/work"
+    rm -rf "$room/hanging" "$room/kept"/*
     set -m
     PATH=$stubs "$BASH" "$repository/blkcache" "$folder" count <"$room/line" >"$room/said" 2>"$room/complained" &
     wrapper=$!
@@ -318,18 +384,42 @@ for it in INT:130 TERM:143 HUP:129; do
         [ ! -s "$room/hanging" ] || [ "$(wc -l <"$room/complained")" -lt 3 ] || break
         sleep 0.05
     done
+    is "${it%:*}: two crates are told while rt goes on" $'blk_image proved, 1 of 4\nblk_run proved, 2 of 4' "$(while read -r _ line; do [[ $line != *', after '* ]] || echo "${line%, after *}"; done <"$room/complained")"
     kill -s "${it%:*}" "$wrapper"
     wait "$wrapper" 2>/dev/null
     is "${it%:*}: the status" "${it#*:}" "$?"
     is "${it%:*}: the output" '' "$(cat "$room/said")"
     is "${it%:*}: the last line" 'blkcache: interrupted; what is proved so far is kept' "$(tail -n 1 "$room/complained")"
     is "${it%:*}: nothing is left" $'*\n' "$(left)"$'\n'
-    is "${it%:*}: what was proved is kept, and what was begun" 'blk_image blk_io kept' "$(echo $(cat "$repository"/crates/blk_*/out/{rlib/made,work} 2>/dev/null))"
-    kill -0 "$(cat "$room/hanging")" 2>/dev/null
-    is "${it%:*}: rt has ended" 1 $?
+    is "${it%:*}: what was proved is kept" 'blk_image blk_run' "$(echo $(ls "$room/kept"))"
+    is "${it%:*}: rt has ended" no "$(does_rt_hang)"
 done
 
-# What a build that was killed left is put back by the next, and two builds at once go one after another.
+# While the sources are copied an interrupt comes to the copying too; and where they can't be copied the log says why.
+mv "$stubs/cp" "$room/cp"
+printf '%s\n' "#!$BASH" ': >"$room/copying"' 'while :; do read -r -t 1 _ <>"$room/never" || :; done' >"$stubs/cp"
+chmod +x "$stubs/cp"
+set -m
+PATH=$stubs "$BASH" "$repository/blkcache" "$folder" count <"$room/line" >"$room/said" 2>"$room/complained" &
+wrapper=$!
+set +m
+for ((i = 0; i < 400; i++)); do
+    [ ! -e "$room/copying" ] || break
+    sleep 0.05
+done
+kill -s TERM -- "-$wrapper"
+wait "$wrapper" 2>/dev/null
+is 'while it copies: the status, the output and the last line' '143 blkcache: interrupted; what is proved so far is kept' "$? $(cat "$room/said")$(tail -n 1 "$room/complained")"
+is 'while it copies: nothing is left' $'*\n' "$(left)"$'\n'
+printf '%s\n' "#!$BASH" 'echo "cp: no room" >&2' 'exit 1' >"$stubs/cp"
+wrap "$folder" count
+[[ "$status $complained" == "70 "*$'\n'"blkcache: $out/proving."+([0-9])"/top cannot be made; the log is $out/build.log" ]]
+is 'where it cannot copy' "0 cp: no room" "$? $(cat "$out/build.log")"
+rm "$out/build.log"
+is 'where it cannot copy: nothing else is left' $'*\n' "$(left)"$'\n'
+mv "$room/cp" "$stubs/cp"
+
+# What a build that was killed left is removed by the next, and its rt ended, and two builds at once go one after another.
 rm -f "$room/hanging"
 set -m
 PATH=$stubs "$BASH" "$repository/blkcache" "$folder" count <"$room/line" >"$room/said" 2>"$room/complained" &
@@ -339,14 +429,16 @@ for ((i = 0; i < 400; i++)); do
     [ ! -s "$room/hanging" ] || break
     sleep 0.05
 done
-kill -KILL "$wrapper" "$(cat "$room/hanging")"
+kill -KILL "$wrapper"
 wait "$wrapper" 2>/dev/null
+is 'a build was killed, and its rt goes on' "yes $out/proving.$wrapper" "$(does_rt_hang) $(echo "$out"/proving.*)"
 : >"$room/hangs"
 (PATH=$stubs "$BASH" "$repository/blkcache" "$folder" count <"$room/line" >"$room/second" 2>&1) &
 wrap "$folder" count
 wait "$!"
 is 'behind a build that was killed' "4 words: $folder count input: caller" "$status $said"
-is 'its work is put back' kept "$(cat "$repository/crates/blk_run/out/work")"
+is 'the rt of the killed build has ended' no "$(does_rt_hang)"
+is 'what it proved is kept' 2 "$(cat "$room/second" "$room/complained" | count_like 'blkcache: * was proved before, [12] of 4')"
 is 'the second at once has the program too' "words: $folder count input: caller" "$(tail -n 1 "$room/second")"
 is 'one of the two waits' yes "$(cat "$room/second" "$room/complained" | while read -r line; do [[ $line != *'waiting for the build of process '* ]] || echo yes; done)"
 is 'one of the two builds' 1 "$(cat "$room/second" "$room/complained" | while read -r line; do [[ $line != *'proving and building '* ]] || echo 1; done)"
@@ -611,42 +703,4 @@ ln -s "$repository/blkcache" "$room/link"
 make finished "$room/last"
 wrapped=$(cd / && PATH=$stubs "$BASH" "$room/link" "$room/last" count 2>&1)
 is 'by a link' "0 $empty_line" "$? $wrapped"
-# The build runs rt by dist/rt.py, by which the kit's rt sums up each crate below once, and its own each time. Another rt is run as it is.
-if ! type -P python3 >/dev/null; then
-    skip 'how often rt sums up a crate' 'python3 is missing'
-    finish
-fi
-mkdir "$room/kit"
-cat >"$room/kit/rtlib.py" <<'END'
-class Crate:
-    sums = 0
-
-    def __init__(self, folder, deps):
-        self.folder, self.deps = folder, deps
-
-    def below(self):
-        return self.deps
-
-    def stamp(self):
-        Crate.sums += 1
-        return " ".join([self.folder, *[it.stamp() for it in self.deps]])
-END
-cat >"$room/kit/rt" <<'END'
-#!/usr/bin/env python3
-import importlib.machinery, importlib.util, os, sys
-loader = importlib.machinery.SourceFileLoader("rtlib", f"{os.path.dirname(os.path.realpath(__file__))}/rtlib.py")
-rtlib = importlib.util.module_from_spec(importlib.util.spec_from_loader("rtlib", loader))
-loader.exec_module(rtlib)
-low = rtlib.Crate("low", [])
-top = rtlib.Crate(os.getcwd(), [rtlib.Crate("one", [low]), rtlib.Crate("two", [low])])
-print(*sys.argv[1:], top.stamp() == top.stamp() == f"{os.getcwd()} one low two low", rtlib.Crate.sums)
-END
-printf '#!%s\necho "plain $*"\n' "$BASH" >"$room/rt"
-chmod +x "$room/kit/rt" "$room/rt"
-once() {
-    (cd "$room" && PATH=$1:$PATH python3 -B "$top/dist/rt.py" lib --jobs 2)
-}
-is 'the kit itself' 'lib --jobs 2 True 10' "$(cd "$room" && "$room/kit/rt" lib --jobs 2)"
-is 'by dist/rt.py' 'lib --jobs 2 True 5' "$(once "$room/kit")"
-is 'another rt' 'plain lib --jobs 2' "$(once "$room")"
 finish
