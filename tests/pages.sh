@@ -1,6 +1,7 @@
 # The pages say nothing that isn't there. Refused in README.md, CONTRIBUTING.md and docs/*.md: a link that leads nowhere, a path that no file
-# has, and a code word that names nothing; a crate that the picture or the table of docs/ARCHITECTURE.md lacks; and pages of docs/reference
-# that aren't what docs/make-reference makes of the sources. Each kind is shown to be refused. It needs awk, find, grep, sed and xargs.
+# has, a code word that names nothing, and one that isn't in the file in which it is said to stand; a crate that the picture or the table
+# of docs/ARCHITECTURE.md lacks; and pages of docs/reference that aren't what docs/make-reference makes of the sources. Each kind is shown to
+# be refused. It needs awk, find, grep, sed and xargs.
 . "$(dirname "${BASH_SOURCE[0]}")/common.sh"
 
 # Code words that name nothing of the repository: calls, flags, signals and errors of the system.
@@ -33,7 +34,8 @@ print_names() {
 look_at() (
     cd "$1" || exit
     shift
-    awk -v names="$room/names" -v files="$room/files" -v anchors="$room/anchors" '
+    : >"$room/pairs"
+    awk -v names="$room/names" -v files="$room/files" -v anchors="$room/anchors" -v pairs="$room/pairs" '
         function load(list, into,   line) { while ((getline line < list) > 0) { sub(/^-+/, "", line); into[line] } }
         function say(what) { print FILENAME ":" FNR ": " what }
         # A page of a link, from the folder of the page that has it on.
@@ -45,13 +47,13 @@ look_at() (
             sub(/\/$/, "", path)
             return path
         }
-        # A path names a file from the top, the folders crates and docs, the page or a crate on. NAME and * stand for anything; what is built
+        # A path names a file from the top, the folders crates and docs, the page or a crate on. NAME, CRATE, FILE and * stand for anything; what is built
         # into out/ may be there or not.
         function leads(path,   form, file) {
             sub(/^\.\//, "", path); sub(/\/$/, "", path)
             if (path ~ /^out(\/|$)/) return 1
             if (path in file_at || ("crates/" path) in file_at || ("docs/" path) in file_at || joined(path) in file_at) return 1
-            if (path ~ /NAME|\*/) { gsub(/NAME/, "*", path); gsub(/\./, "\\.", path); gsub(/\*/, "[^/]*", path) }
+            if (path ~ /NAME|CRATE|FILE|\*/) { gsub(/NAME|CRATE|FILE/, "*", path); gsub(/\./, "\\.", path); gsub(/\*/, "[^/]*", path) }
             form = "(^|/)" path "([.][a-z]+)?$"
             for (file in file_at) if (file ~ form) return 1
             return 0
@@ -65,7 +67,7 @@ look_at() (
         # Numbers, hexadecimal ones too, and words in capitals, which stand for others, name nothing.
         function is_wrong(word) {
             sub(/^[\047-]+/, "", word); sub(/[\047-]+$/, "", word)
-            if (length(word) < 2 || word ~ /^[0-9]/ || word ~ /^[A-Z][A-Z0-9]*$/ || word ~ /^[0-9a-f]+$/ || word ~ /^[a-z]+_[N0-9a-f]*$/) return 0
+            if (length(word) < 2 || word ~ /^[0-9]/ || word ~ /^[A-Z][A-Z0-9]*$/ || word ~ /^[0-9a-f]+$/ || word ~ /^[a-z]+_[NXx0-9a-f]*$/) return 0
             return !is_name(word)
         }
         # Of several words those are looked at that only code has.
@@ -75,6 +77,13 @@ look_at() (
             if (one && span ~ /^[A-Za-z0-9_.*-]+\/[A-Za-z0-9_.\/*-]*$/) { if (!leads(span)) say("no file " span); return }
             n = split(span, words, /[^A-Za-z0-9_\047-]+/)
             for (i = 1; i <= n; i++) if ((one || words[i] ~ /[a-z0-9]_[a-z0-9]|[a-z][A-Z]/) && is_wrong(words[i])) say("no " words[i])
+        }
+        # Words in a file that is named by its crate: the file has them, as the place from which they are told.
+        function find(text,   spans, n, i, file) {
+            n = split(text, spans, "`")
+            file = "crates/" spans[n - 1]
+            if (!(file in file_at)) return
+            for (i = 2; i < n - 1; i += 2) { sub(/.*::/, "", spans[i]); print FILENAME ":" FNR "\t" spans[i] "\t" file > pairs }
         }
         function follow(link,   page, anchor) {
             if (link ~ /:\/\//) return
@@ -89,6 +98,7 @@ look_at() (
         fenced { next }
         {
             for (rest = $0; match(rest, /`[^`]+`/); rest = substr(rest, RSTART + RLENGTH)) look(substr(rest, RSTART + 1, RLENGTH - 2))
+            for (rest = $0; match(rest, /(`[^` ]+`(, | and )?)+ in `[A-Za-z0-9_\/]+\.(rt|antt)`/); rest = substr(rest, RSTART + RLENGTH)) find(substr(rest, RSTART, RLENGTH))
             for (rest = $0; match(rest, /\]\([^) ]+\)/); rest = substr(rest, RSTART + RLENGTH)) follow(substr(rest, RSTART + 2, RLENGTH - 3))
             rest = $0
             gsub(/`[^`]*`|\]\([^)]*\)/, " ", rest)
@@ -99,6 +109,9 @@ look_at() (
                     if (!leads(words[i])) say("no file " words[i])
                 }
         }' "$@"
+    while IFS=$'\t' read -r at word file; do
+        grep -qwF -- "$word" "$top/$file" || echo "$at: no $word in $file"
+    done <"$room/pairs"
 )
 
 # Prints which crates of crates.txt have no place in the picture, between two marker lines, and which have no row in a table: look_for FOLDER
@@ -145,6 +158,7 @@ planted 'a path of no file' 'It is told in docs/NOWHERE.md too.' 'no file docs/N
 planted 'a source of no crate' 'It is in `blk_run/src/no_such.rt`.' 'no file blk_run/src/no_such.rt'
 planted 'a word that names nothing' 'It calls `no_such_function`.' 'no no_such_function'
 planted 'a word that names nothing, among others' 'It says `IsNoSuchThing from old`.' 'no IsNoSuchThing'
+planted 'a word that another file has' 'It is `walk` in `blk_run/src/top.rt`.' 'no walk in crates/blk_run/src/top.rt'
 planted 'an option that there is not' 'Call it with `--nosuchoption`.' 'no --nosuchoption'
 cp -r docs crates.txt "$room/copy"
 echo 'blk_nowhere: blk_io' >>"$room/copy/crates.txt"
