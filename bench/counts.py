@@ -36,7 +36,7 @@ LINES = [
     ("Close of an unchanged object", "close 0"),
     ("Open in the midst of the list", f"open 0 {KEY.format(500)}"),
     ("Read at the front of the list", "read 0 0 0 100"),
-    ("Write over 10 bytes of a settled object", f"write 0 0 0 {digits(10)}"),
+    ("Write over 10 bytes of a clean object", f"write 0 0 0 {digits(10)}"),
     ("Size", "size 0 0"),
     (None, "close 0"),
     ("Open at the end of the list", f"open 0 {KEY.format(0)}"),

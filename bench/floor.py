@@ -1,6 +1,6 @@
 """What the order of writes asks for the commands of a script: each write, change of length and file by its rule, and each read that can't be held.
 
-The rules are those of docs/ORDER_OF_WRITES.md. Words that lie side by side and follow one another in rising place are one write, since a write of more
+The rules are those of docs/WRITE_ORDER.md. Words that lie side by side and follow one another in rising place are one write, since a write of more
 bytes is its words in rising place; so the count is the least that keeps the order. A read can't be held where its page of 4096 bytes isn't among the 64
 that were used last. A floor knows no text, so a script's input and output are not in it.
 """
@@ -39,7 +39,7 @@ class Place:
 
 
 class Entry:
-    """An object or a part of one: its key, its places, the lengths of its streams, and its neighbours in the use list."""
+    """An object or a part of one: its key, its places, the lengths of its streams, and its neighbours in the LRU list."""
 
     def __init__(self, key, parent=None):
         self.key, self.parent = key, parent
@@ -177,17 +177,17 @@ class Floor:
         for place in (entry.node, entry.record, entry.long_key, *entry.places):
             self.free(place)
 
-    # The use list.
+    # The LRU list.
 
     def link(self, entry):
         self.read_node(entry)
-        self.sealed("use list", [1])
+        self.sealed("LRU list", [1])
 
     def begin(self):
         """The operation word, and then the transaction word."""
         self.read_head()
-        self.word("use list")
-        self.word("use list")
+        self.word("LRU list")
+        self.word("LRU list")
 
     def take_out(self, entry):
         self.read_node(entry)
@@ -195,7 +195,7 @@ class Floor:
             if other:
                 self.link(other)
             else:
-                self.word("use list")
+                self.word("LRU list")
         self.link(entry)
         if entry.prev:
             entry.prev.next = entry.next
@@ -214,20 +214,20 @@ class Floor:
             self.link(self.head)
             self.head.prev = entry
         else:
-            self.word("use list")
+            self.word("LRU list")
             self.tail = entry
-        self.word("use list")
+        self.word("LRU list")
         entry.next, self.head = self.head, entry
 
     def insert(self, entry):
         self.begin()
         self.put_front(entry)
-        self.word("use list")
+        self.word("LRU list")
 
     def remove_listed(self, entry):
         self.begin()
         self.take_out(entry)
-        self.word("use list")
+        self.word("LRU list")
 
     def touch(self, entry):
         if entry.is_doomed:
@@ -236,9 +236,9 @@ class Floor:
         if self.head is not entry:
             self.begin()
             self.take_out(entry)
-            self.word("use list")
+            self.word("LRU list")
             self.put_front(entry)
-            self.word("use list")
+            self.word("LRU list")
         self.read_node(entry)
         self.sealed("times", [4])
 
@@ -334,7 +334,7 @@ class Floor:
     # Streams.
 
     def store(self, entry, stream, offset, count, is_cut, rule="data"):
-        """Writes bytes over a stream of an entry that isn't settled. Gives by how much it rises."""
+        """Writes bytes over a stream of an entry that is dirty. Gives by how much it rises."""
         old, place = entry.sizes[stream], entry.places[stream]
         size = offset + count if is_cut else max(old, offset + count)
         if storage(size) != storage(old):

@@ -11,7 +11,7 @@ EXTERNAL = 0
 
 
 def hash_of(key):
-    """The hash of a key: docs/FORMATS.md, "The hash"."""
+    """The hash of a key: docs/FORMAT.md, "The hash"."""
     h = len(key)
     whole = len(key) & ~3
     for i in range(0, whole, 4):

@@ -25,7 +25,7 @@ ONLY = os.environ.get("BENCH_ONLY", "")
 HERE = os.path.dirname(os.path.abspath(__file__))
 PEERS = ("sqlite-wal", "sqlite-off", "files")
 
-# Those that keep what was written where their process is stopped.
+# Those that keep what was written where their process is killed.
 KEEPERS = ("sqlite-wal", "files")
 
 # What is wanted at the most: of the floor's calls and of its seconds, of the seconds of `cat` for an opening, and of those of the best peer for large entries.

@@ -97,7 +97,7 @@ class Table:
 
 
 class Files:
-    """A file for each entry, in 256 directories. One that is written is whole or absent after a stop: it is renamed into its place."""
+    """A file for each entry, in 256 directories. One that is written is whole or absent after a crash: it is renamed into its place."""
 
     def __init__(self, folder, limit):
         self.folder, self.limit = folder, limit
@@ -136,7 +136,7 @@ class Files:
         except FileNotFoundError:
             return None
         if self.limit:
-            # The order of use stays across a stop by the file's time.
+            # The order of use stays across a crash by the file's time.
             self.sizes.move_to_end(path)
             os.utime(path)
         return stream
