@@ -315,6 +315,32 @@ numbered_of_source() {
     done <"$1"
 }
 
+# Tells each text that a script says on standard error and that no item of the diagnostics has: MANUAL SCRIPT..
+untold_texts() {
+    local line items=() text item quote
+    while IFS= read -r line; do
+        case $line in
+            '.Sh DIAGNOSTICS') items=(-) ;;
+            .Sh*) [ "${#items[@]}" -lt 2 ] || break ;;
+            '.It '*) [ "${#items[@]}" = 0 ] || items+=("${line#.It }") ;;
+        esac
+    done <"$1"
+    shift
+    for quote in \' \"; do
+        cat "$@" | while IFS= read -r line; do
+            [[ $line =~ (say|fail)\ $quote([^$quote]+)$quote ]] || continue
+            text=${BASH_REMATCH[2]}
+            while [[ $text =~ ^(.*)(\$\{[^\}]*\}|\$[a-z_0-9]+)(.*)$ ]]; do text="${BASH_REMATCH[1]}*${BASH_REMATCH[3]}"; done
+            [ -n "${text//\*/}" ] || continue
+            for item in "${items[@]}"; do
+                # shellcheck disable=SC2053
+                [[ $item != $text ]] || continue 2
+            done
+            echo "$text"
+        done
+    done
+}
+
 # The program as it is installed, from a copy of the repository without its sources.
 repository=$room/repository
 hand=dist/${BASH_VERSINFO[5]%%-*}-linux
@@ -438,6 +464,11 @@ END_OF_LISTS
 plant "$manual" '.It 9 Li RangeEnd' '.It 9 Li EndOfRange'
 is 'planted: another name of a refusal' $'9 EndOfRange\n9 RangeEnd' \
     "$(differing "$(numbered_of_source "$top/crates/blk_model/src/lib.rt" BadHandle)" "$(numbered_of_manual Refusals "$room/planted")")"
+
+# What the script and its build say on standard error.
+is 'the manual page: diagnostics' '' "$(untold_texts "$manual" "$top/blkcache" "$top/dist/build.sh")"
+plant "$manual" '.It the folder cannot be locked' '.It the folder cannot be held'
+is 'planted: another diagnostic' 'the folder cannot be locked' "$(untold_texts "$room/planted" "$top/blkcache" "$top/dist/build.sh")"
 
 # The version stands in one place, and the newest changes are those of that version. README names the kit of the program at hand.
 newest_of() {
