@@ -139,19 +139,14 @@ run_examples() {
         (cd "$room/examples" && PATH=$room/installed/bin:$PATH exec "$BASH" -c "${line:2}" </dev/null 2>&1)
     done
 }
+# Tells the first line in which the examples of a page differ from those that were run.
 wrong_examples() {
-    local wanted got line
-    wanted=$(examples_of "$1")
-    got=$(run_examples "$1")
-    [ "$wanted" = "$got" ] || first_difference "$wanted" "$got"
-}
-# Tells the first line in which two texts differ, and what comes there.
-first_difference() {
     local wanted got number
-    mapfile -t wanted <<<"$1"
+    mapfile -t wanted < <(examples_of "$1")
     mapfile -t got <<<"$2"
-    for ((number = 0; ; number++)); do
-        [ "${wanted[number]-}" = "${got[number]-}" ] || break
+    [ "${wanted[*]}" != "${got[*]}" ] || return 0
+    for ((number = 0; number < ${#wanted[@]}; number++)); do
+        [ "${wanted[number]}" = "${got[number]-}" ] || break
     done
     echo "'${wanted[number]-}' on the page, '${got[number]-}' by the program"
 }
@@ -186,8 +181,8 @@ lists_of_help() {
     done <<<"$1"
 }
 
-# Prints the head of an item of the manual page as it is shown.
-shown_head() {
+# Leaves the head of an item of the manual page as it is shown.
+show_head() {
     local it text= dashes= closing=
     set -f
     for it in $1; do
@@ -203,7 +198,7 @@ shown_head() {
     done
     set +f
     text=${text# }
-    echo "${text//'  '/ }$closing"
+    head=${text//'  '/ }$closing
 }
 
 # The same of the manual page, and the parts that inspect prints.
@@ -215,7 +210,7 @@ lists_of_manual() {
             .Bl*) depth=$((depth + 1)) ;;
             .El*) depth=$((depth - 1)) ;;
             '.It '*)
-                head=$(shown_head "${line#.It }")
+                show_head "${line#.It }"
                 case $depth:$section in
                     1:COMMANDS) echo "command $head" ;;
                     2:COMMANDS) echo "part $head" ;;
@@ -262,7 +257,7 @@ lists_of_readme() {
     while IFS= read -r line; do
         case $line in
             '| Command |'*) kind=command ;;
-            '| Exit status |'*) kind=status ;;
+            '| Exit status'*) kind=status ;;
             '|--'*) ;;
             '| '*)
                 cell=${line#'| '}
@@ -298,11 +293,15 @@ missing_parts() {
 
 # Prints the items of a subsection of the manual page that have a number and a name, and those of an enumeration of the sources: FILE FIRST.
 numbered_of_manual() {
-    local line section=
+    local line section='' head
     while IFS= read -r line; do
         case $line in
             .S[hs]*) section=${line#.S? } ;;
-            .It\ +([0-9])\ Li\ *) [ "$section" != "$1" ] || shown_head "${line#.It }" ;;
+            .It\ +([0-9])\ Li\ *)
+                [ "$section" = "$1" ] || continue
+                show_head "${line#.It }"
+                echo "$head"
+                ;;
         esac
     done <"$2"
 }
@@ -389,18 +388,20 @@ is 'the manual page: the pages that it names' '' "$(dead_pages "$manual")"
 plant "$manual" '.Pa docs/FORMAT.md' '.Pa docs/FORMATION.md'
 is 'planted: a page that is not there' 1 "$(dead_pages "$room/planted" | count_like 'docs/FORMATION.md is not there')"
 
-is 'README: the examples' '' "$(wrong_examples "$readme")"
+came=$(run_examples "$readme")
+is 'README: the examples' '' "$(wrong_examples "$readme" "$came")"
 [ "$(examples_of "$readme" | count_like '$ *')" -ge 4 ]
 is 'README: there are examples' 0 $?
 plant "$readme" 'main greeting 6 0 0' 'main greeting 7 0 0'
-is 'planted: another output in README' "'main greeting 7 0 0' on the page, 'main greeting 6 0 0' by the program" "$(wrong_examples "$room/planted")"
-is 'the manual page: the examples' '' "$(wrong_examples "$manual")"
+is 'planted: another output in README' "'main greeting 7 0 0' on the page, 'main greeting 6 0 0' by the program" "$(wrong_examples "$room/planted" "$came")"
+came=$(run_examples "$manual")
+is 'the manual page: the examples' '' "$(wrong_examples "$manual" "$came")"
 [ "$(examples_of "$manual" | count_like '$ *')" -ge 10 ]
 is 'the manual page: there are examples' 0 $?
 plant "$manual" 'refused 5 BadStream' 'refused 6 BadStream'
-is 'planted: another output in the manual page' "'refused 6 BadStream' on the page, 'refused 5 BadStream' by the program" "$(wrong_examples "$room/planted")"
+is 'planted: another output in the manual page' "'refused 6 BadStream' on the page, 'refused 5 BadStream' by the program" "$(wrong_examples "$room/planted" "$came")"
 plant "$manual" 'evicted page' 'evicted page'$'\n''evicted page'
-is 'planted: a line too many in the manual page' "'evicted page' on the page, 'evicted s' by the program" "$(wrong_examples "$room/planted")"
+is 'planted: a line too many in the manual page' "'evicted page' on the page, 'evicted s' by the program" "$(wrong_examples "$room/planted" "$came")"
 
 # Each list stands in the manual page; the others have the same, or what they are to have of it.
 help=$("$repository/blkcache" --help)
