@@ -4,13 +4,15 @@
 # A copy of the repository without sources, with the program at hand.
 repository=$room/repository
 hand=$repository/dist/${BASH_VERSINFO[5]%%-*}-linux
-mkdir -p "$hand" "$repository/docs" "$repository/packaging"
-cp "$top/blkcache" "$top/install" "$repository"
-cp "$top/docs/blkcache.1" "$repository/docs"
+mkdir -p "$hand" "$repository/man" "$repository/packaging"
+cp "$top/blkcache" "$top/install" "$top/VERSION" "$repository"
+cp "$top/man/blkcache.1" "$repository/man"
 cp "$top/packaging/completion.bash" "$top/packaging/deb" "$repository/packaging"
 cp "$program" "$hand/blkcache"
 sum=$(sha256sum <"$program")
 printf '%s\n' "crates $(printf %040d 1)" "crates.txt $(printf %040d 1)" 'kit some kit' "sha256 ${sum%% *}" >"$hand/SOURCES"
+
+version=$(<"$top/VERSION") date='of no known commit'
 
 # Runs what was installed on a new folder, and with the words that name no folder.
 works() {
@@ -23,10 +25,9 @@ works() {
     said=$("$2" "$folder" list 2>&1)
     is "$1: list" $'0 main key 5 0 0\nend 1' "$? $said"
     said=$("$2" --help)
-    is "$1: --help" '0 blkcache FOLDER' "$? ${said%% WORDS*}"
+    is "$1: --help" '0 usage: blkcache' "$? ${said%% [*}"
     said=$("$2" --version)
-    is "$1: --version" 0 "$?"
-    is "$1: which names the program" blkcache "${said%% *}"
+    is "$1: --version" "0 blkcache $version ($date)" "$? $said"
 }
 number=0
 # Prints all names of files below a folder.
@@ -91,6 +92,17 @@ if ! type -P dpkg-deb >/dev/null; then
 fi
 package=$("$repository/packaging/deb" "$room" 2>&1)
 is 'the package is made' 0 $?
+# What is made of a version that is not out has its date, and is older than that version.
+debian=${version/-/'~'}
+is 'the name of the package' "blkcache_${debian}_amd64.deb" "${package##*/}"
+is 'the version of the package' "$debian" "$(dpkg-deb --field "$package" Version)"
+for it in '1.2.0-dev (2026-01-02)' '1.2.0 (2026-01-02)'; do
+    echo "$it" >"$repository/VERSION"
+    said=$("$repository/packaging/deb" "$room" 2>&1)
+    echo "${said##*/}"
+done >"$room/named"
+is 'the versions of packages' $'blkcache_1.2.0~dev.20260102_amd64.deb\nblkcache_1.2.0_amd64.deb' "$(cat "$room/named")"
+echo "$version" >"$repository/VERSION"
 dpkg-deb --extract "$package" "$room/extracted"
 is 'what is in it' "$wanted" "$(names_in "$room/extracted/usr" | sort)"
 works 'extracted' "$room/extracted/usr/bin/blkcache"

@@ -11,6 +11,7 @@ export TMPDIR=$room/temporary
 mkdir -p "$out" "$stubs" "$folder" "$TMPDIR"
 mkdir "$repository/dist"
 cp "$top/blkcache" "$top/crates.txt" "$repository"
+echo 1.2.0-dev >"$repository/VERSION"
 cp "$top/dist/build.sh" "$repository/dist"
 while IFS=: read -r name _; do
     [[ $name == '#'* || -z $name ]] || mkdir -p "$repository/crates/${name%% *}"/{src,specs,proofs}
@@ -162,15 +163,18 @@ for it in $'\xff' $'a\xe4b' $'\xe2\x82' $'\xc0\xaf' $'\xed\xa0\x80' $'\xf4\x90\x
     answers "the folder $(printf %q "$it")" 2 usage ''
 done
 wrap --help
-for it in 'blkcache FOLDER WORDS' '  session ' '  count ' '  list ' '  get KEY STREAM' '  put KEY STREAM' '  doom KEY ' '  trim BYTES ' '  inspect PART ' '  verify ' '  gen SEED N ' '  --max N ' '  --items N ' '  reset ' '  --wait SECONDS' 'another process has the folder' '  --help ' '  --version ' '  --program ' '  --prove ' \
-    '  0 ' '  1 ' '  2 ' '  3 ' '  4 ' '  5 ' '  6 ' '  7 ' '  8 ' '  70 ' 'mkdir cache' './blkcache cache count'; do
-    [[ $said == *"$it"* ]]
-    is "--help tells [$it]" 0 $?
-done
+# (what the page says is compared with the manual by tests/docs.sh)
+is '--help is a page' 'usage: blkcache [--wait SECONDS] FOLDER COMMAND [OPTIONS]' "${said%%$'\n'*}"
 said=
 answers '--help' 0 '' ''
 wrap --version
-is '--version' '0 blkcache 2026-01-02 git log' "$status $said$complained $called"
+is '--version' '0 blkcache 1.2.0-dev (2026-01-02) git log' "$status $said$complained $called"
+echo '1.2.0 (2026-03-04)' >"$repository/VERSION"
+wrap --version
+answers '--version of what is installed' 0 'blkcache 1.2.0 (2026-03-04)' ''
+rm "$repository/VERSION"
+wrap --version
+is '--version without the file of the version' '0 blkcache unknown (2026-01-02)' "$status $said$complained"
 for it in --help --version; do
     PATH=$stubs "$BASH" "$repository/blkcache" "$it" >&- 2>"$room/complained"
     is "$it with a closed output" '5 ' "$? $(cat "$room/complained")"
