@@ -332,8 +332,9 @@ untold_texts() {
             while [[ $text =~ ^(.*)(\$\{[^\}]*\}|\$[a-z_0-9]+)(.*)$ ]]; do text="${BASH_REMATCH[1]}*${BASH_REMATCH[3]}"; done
             [ -n "${text//\*/}" ] || continue
             for item in "${items[@]}"; do
+                # (a build that fails names its log behind its text)
                 # shellcheck disable=SC2053
-                [[ $item != $text ]] || continue 2
+                [[ $item != $text && $item != $text'; the log is PATH' ]] || continue 2
             done
             echo "$text"
         done
