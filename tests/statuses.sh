@@ -172,6 +172,18 @@ mkfifo "$room/pipe"
 exec 8<>"$room/pipe" 9>"$room/pipe" 8<&-
 timeout 60 "$program" "$room/finished" count >&9 2>"$room/complained"
 is 'an output that nobody reads' '5 ' "$? $(cat "$room/complained")"
+# An empty write does not tell of it, so what replies behind its work has done it, and put has made its entry.
+printf x >"$room/one"
+for words in 'put b 0' 'doom a' 'trim 0'; do
+    rm -rf "$room/unread"
+    make entries "$room/unread"
+    # shellcheck disable=SC2086
+    timeout 60 "$program" "$room/unread" $words <"$room/one" >&9 2>"$room/complained"
+    is "$words to an output that nobody reads" '5 ' "$? $(cat "$room/complained")"
+    run "$room/unread" list
+    [ "$words" = 'put b 0' ] && wanted=$'0 main b 0 0 0\nmain a 0 0 0\nend 2' || wanted='0 end 0'
+    is "$words to an output that nobody reads: what is done" "$wanted" "$status $said"
+done
 exec 9>&-
 timeout 60 "$program" "$room/finished" count <"$room/finished" >"$room/said" 2>&1
 is 'an input that cannot be read is not asked' "0 $empty_line" "$? $(cat "$room/said")"
