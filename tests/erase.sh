@@ -1,16 +1,16 @@
 # With BLKCACHE_ERASE=1 what is removed is gone: no byte of it stands in any file of the folder, also behind a kill and the next opening.
-# Without it the bytes are found. Of so many places of a kill one is tried, from a first one that is drawn, where ERASE_STEP says of how
-# many: all of them take hours, and one in five more than ten minutes. ERASE_SEED is
-# what the script is drawn from.
+# Without it the bytes are found. ERASE_KILLS says how many places of a kill are tried of each word, in even steps from the first to the
+# last, and always the same ones: 24; or all, those before each write, behind its first word, midway and before its last; or words, those
+# between any two words that are written. ERASE_SEED is what the script is drawn from.
 . "$(dirname "${BASH_SOURCE[0]}")/common.sh"
 
-for tool in awk grep; do
+for tool in awk grep basenc; do
     type -P "$tool" >/dev/null || {
         skip 'what is erased' "$tool is missing"
         finish
     }
 done
-step=${ERASE_STEP:-0}
+places_of_each=${ERASE_KILLS:-24}
 seed=${ERASE_SEED:-$RANDOM}
 
 # Letters and digits that are drawn, so that no 16 of them stand anywhere by chance. Each secret begins at a multiple of 16, and is found
@@ -19,8 +19,13 @@ pool=$(head -c 230000 /dev/urandom | base64 -w0 | tr -d '+/=')
 pool=${pool:0:280000}
 digits=$(printf %s "$pool" | od -An -v -tx1 | tr -d ' \n')
 drawn=0
-fold -w 16 <<<"$pool" >"$room/pieces"
-fold -w 32 <<<"$digits" >"$room/digits"
+fold -w 16 <<<"$pool" >"$room/all_pieces"
+cp "$room/all_pieces" "$room/pieces"
+
+# Of all pieces only those that were drawn are looked for from here on, since a search for many takes long.
+looks_for_drawn() {
+    head -n $((drawn / 16)) "$room/all_pieces" >"$room/pieces"
+}
 
 # Leaves a secret of so many bytes, and its digits.
 secret() {
@@ -48,11 +53,8 @@ given_of() {
         $1 == "main" || $1 == "sparse" { print "close 0" }' "$room/rows" >"$room/input"
     run "$1" session
     : >"$room/input"
-    {
-        grep -oFf "$room/pieces" "$room/rows"
-        grep -oFf "$room/digits" "$room/said" | awk 'of_pieces { piece[FNR] = $0; next } of_digits { of[$0] = piece[FNR]; next } { print of[$0] }' \
-            of_pieces=1 "$room/pieces" of_pieces=0 of_digits=1 "$room/digits" of_digits=0 -
-    } | sort
+    # The data of a reply are followed by a line end here, as rows are.
+    awk '$1 == "data" && $2 > 0 { print toupper($3) "0A" }' "$room/said" | basenc --base16 -d -i | cat - "$room/rows" | grep -aoFf "$room/pieces" | sort
 }
 
 # Prints how many pieces stand in the files of a folder that are none of what it holds, or stand there more often.
@@ -80,6 +82,41 @@ bytes_in() {
     tail -c +8193 "$1" | tr -d '\0' | wc -c
 }
 
+# Prints how many digits that are not 0 a folder has behind the ends of its streams, in the blocks or in the file of each.
+behind_ends_in() {
+    local sum=0 words word name value it at size place room_of file rest
+    local -A of
+    words=$("$program" "$1" inspect list | awk '$1 == "node" { print $4 }')
+    for word in $words; do
+        of=()
+        while read -r name value; do
+            of[$name]=$value
+        done < <("$program" "$1" inspect entry "$word")
+        for it in 0 1 2 3; do
+            at=$((16#${of[addr$it]})) size=$((16#${of[size$it]}))
+            case $((at >> 28 & 7)) in
+                0)
+                    [ "$at" != 0 ] || continue
+                    printf -v file 'f_%06x' $((at & 268435455))
+                    place=0 room_of=$(stat -c %s "$1/$file")
+                    ;;
+                2) room_of=256 ;;
+                3) room_of=1024 ;;
+                4) room_of=4096 ;;
+            esac
+            if [ $((at >> 28 & 7)) != 0 ]; then
+                file=data_$((at >> 16 & 255))
+                place=$((8192 + (at & 65535) * room_of)) room_of=$((((at >> 24 & 3) + 1) * room_of))
+            fi
+            [ "$room_of" -gt "$size" ] || continue
+            rest=$(od -An -v -tx1 -j$((place + size)) -N$((room_of - size)) "$1/$file")
+            rest=${rest//[ 0$'\n']/}
+            sum=$((sum + ${#rest}))
+        done
+    done
+    echo "$sum"
+}
+
 # Nothing is left: the block files hold zeros behind their headers, and there is no other.
 is_blank() {
     is "$1" '0 0 0 0 ' "$(bytes_in "$2/data_0") $(bytes_in "$2/data_1") $(bytes_in "$2/data_2") $(bytes_in "$2/data_3") $(cd "$2" && ls | grep -E '^(f_|data_[4-9])')"
@@ -89,6 +126,7 @@ is_blank() {
 is_gone() {
     is "$1: no piece is left" 0 "$(left_in "$2")"
     is "$1: no block that is free holds a byte" 0 "$(blocks_left_in "$2")"
+    is "$1: no byte is left behind the end of a stream" 0 "$(behind_ends_in "$2")"
 }
 
 # Runs a script, of which no line may be refused.
@@ -106,6 +144,7 @@ secret 2000
 hex=$data
 printf 'create 0 page\nwrite 0 0 0 %s\nclose 0\n' "$hex" >"$room/input"
 plays "$folder"
+looks_for_drawn
 before=$(both "$folder")
 is_no_value() {
     BLKCACHE_ERASE=$1 run "$folder" "${@:2}"
@@ -167,7 +206,8 @@ parts+="swrite 0 1047552 $data"$'\n'
 secret 20000
 parts+="swrite 0 2097152 $data"$'\n'
 secret 1600
-stays_text=$text stays=$data
+stays=$data
+looks_for_drawn
 
 # Makes a folder with all these, and one more entry, which stays.
 fill() {
@@ -239,7 +279,7 @@ done
 rm -rf "$room/gone" "$room/kept"
 
 # Streams that are cut: from one size to another, in the same storage and into another.
-cuts='1008:992 1008:512 1008:256 1008:16 1008:0 4080:4064 4080:2048 4080:1024 4080:1008 4080:96 4080:0 16384:16368 16384:8192 16384:4096
+cuts='1008:992 1008:784 1008:512 1008:256 1008:16 1008:0 4080:4064 4080:3088 4080:2048 4080:1024 4080:1008 4080:96 4080:0 16384:16368 16384:12304 16384:8192 16384:4096
 16384:4080 16384:160 16384:0 20000:19984 24000:16400 20000:16384 20000:4000 20000:96 20000:0'
 cut_all() {
     local it from to number=0
@@ -262,6 +302,7 @@ cut_all() {
         number=$((number + 1))
     done >"$room/input"
     plays "$1"
+    looks_for_drawn
     cp "$room/cutting" "$room/input"
     plays "$1"
 }
@@ -281,6 +322,7 @@ for how in cut data twice odd; do
     unset BLKCACHE_ERASE
     cut_all "$room/kept" "$how"
     is "cut ($how), without erasing: pieces are left" yes "$([ "$(left_in "$room/kept")" -gt 1000 ] && echo yes)"
+    is "cut ($how), without erasing: bytes behind the ends are left" yes "$([ "$(behind_ends_in "$room/kept")" -gt 5000 ] && echo yes)"
 done
 
 # Streams that grow into another storage, that are written anew by put, and an entry that is made anew under its key.
@@ -297,6 +339,7 @@ grown() {
         at=$((at + size))
     done >>"$room/input"
     printf 'close 0\n' >>"$room/input"
+    looks_for_drawn
     plays "$1"
 }
 replaced() {
@@ -310,6 +353,7 @@ replaced() {
         run "$1" put page 1
         is "put of $size" $'0 ok\nok '"$size"$'\nok' "$status $said"
     done
+    looks_for_drawn
     : >"$room/input"
 }
 anew() {
@@ -321,6 +365,7 @@ anew() {
         secret "$size"
         printf 'create 0 page\nwrite 0 0 0 %s\nclose 0\ndoomkey page\n' "$data"
     done >"$room/input"
+    looks_for_drawn
     plays "$1"
 }
 for way in grown replaced anew; do
@@ -384,17 +429,16 @@ for limits in '--max 400000 --items 12' '--max 9000000 --items 60'; do
 done
 unset BLKCACHE_ERASE
 
-# A kill at each place of what is written, and the next opening, which may be killed too.
-if [ "$step" = 0 ]; then
-    skip 'what a kill leaves' 'ERASE_STEP is not set'
-    finish
-fi
+# A kill at places of what is written, and the next opening, which is killed too behind each third of them.
 if ! command -v cc >/dev/null || ! cc -shared -fPIC -o "$room/stopped.so" "$top/tests/stopped.c" -ldl 2>/dev/null; then
     skip 'what a kill leaves' 'cc is missing'
     finish
 fi
+between=writes
+[ "$places_of_each" != words ] || between=words
+# Runs the program, with the input that is fed, until the place with a number: NUMBER BETWEEN FOLDER WORDS
 stopped() {
-    { STOPPED=$1 LD_PRELOAD=$room/stopped.so "$program" "${@:2}" <"$room/input" >"$room/said" 2>"$room/complained"; } 2>/dev/null
+    { STOPPED=$1 STOPPED_BETWEEN=$2 LD_PRELOAD=$room/stopped.so "$program" "${@:3}" <"$room/fed" >"$room/said" 2>"$room/complained"; } 2>/dev/null
     status=$?
 }
 export BLKCACHE_ERASE=1
@@ -409,43 +453,90 @@ secret 5008; third=$text
     secret 8192; printf 'write 0 2 0 %s\nclose 0\n' "$data"
     secret 20000; printf 'create 0 %s\nwrite 0 0 0 %s\nclose 0\n' "$second" "$data"
     secret 304; printf 'create 0 %s\nwrite 0 0 0 %s\nclose 0\n' "$third" "$data"
-    sparse_places=1047552
-    secret 3008; printf 'create 0 sparse\nswrite 0 1047552 %s\nclose 0\n' "$data"
+    sparse_places='1024 1048576'
+    secret 3008; printf 'create 0 sparse\nswrite 0 1024 %s\n' "$data"
+    secret 17008; printf 'swrite 0 1048576 %s\nclose 0\n' "$data"
 } >"$room/input"
 plays "$room/base"
 secret 1008; new=$text
 secret 4000; longer=$data
+looks_for_drawn
+
+# Prints what the program answers of entries.
+told_of() {
+    local key
+    for key in "${@:2}"; do
+        printf '%s\n' "open 0 $key" 'read 0 0 0 100000' 'read 0 1 0 100000' 'read 0 2 0 100000' 'sread 0 1024 4096' 'sread 0 1048576 32768' 'close 0'
+    done >"$room/input"
+    run "$1" session
+    : >"$room/input"
+    cat "$room/said"
+}
+# What was found of a folder, by its names and the sums of its files: stops at many places lead to the same ones.
+declare -A looked
 places=0
-# Kills the program at each place: NAME INPUT WORDS
+# Shows that nothing of what was removed is left in a folder, and that the entries that stay have their bytes: NAME FOLDER
+is_clean() {
+    local sum
+    sum=$(sha256sum -- "$2"/*)
+    [ -n "${looked[$sum]-}" ] ||
+        looked[$sum]="$(left_in "$2") $(blocks_left_in "$2") $(behind_ends_in "$2") $(told_of "$2" "${stay[@]}" | cksum)"
+    is "$1: pieces, bytes of free blocks, bytes behind ends, what stays" "0 0 0 $told" "${looked[$sum]}"
+}
+# Kills the program at places of what it writes: NAME INPUT WORDS. The entries that have to stay are those of the list stay.
 kills() {
-    local name=$1 input=$2 number=$((RANDOM % step + 1))
-    while :; do
+    local name=$1 number turn total stride told
+    printf %b "$2" >"$room/fed"
+    rm -rf "$room/try"
+    cp -a "$room/base" "$room/try"
+    told=$(told_of "$room/try" "${stay[@]}" | cksum)
+    # What was found before was of other entries.
+    looked=()
+    rm -rf "$room/try"
+    cp -a "$room/base" "$room/try"
+    stopped 0 "$between" "$room/try" "${@:3}"
+    is "$name, killed nowhere" 0 "$status"
+    total=$(cat "$room/complained")
+    is_clean "$name, killed nowhere" "$room/try"
+    case $places_of_each in all | words) stride=1 ;; *) stride=$((total / places_of_each)) ;; esac
+    [ "$stride" -gt 0 ] || stride=1
+    # In steps of a length each place of a step is met in its turn, so that not all are at the beginning of a write.
+    for ((turn = 0; turn * stride < total; turn++)); do
+        number=$((turn * stride + turn % stride + 1))
+        [ "$number" -le "$total" ] || break
         rm -rf "$room/try"
         cp -a "$room/base" "$room/try"
-        printf %b "$input" >"$room/input"
-        stopped "$number" "$room/try" "${@:3}"
-        : >"$room/input"
-        [ "$status" = 137 ] || break
+        stopped "$number" "$between" "$room/try" "${@:3}"
+        is "$name, it is killed at place $number" 137 "$status"
         places=$((places + 1))
-        [ $((RANDOM % 3)) != 0 ] || stopped $((RANDOM % 60 + 1)) "$room/try" count
-        run "$room/try" count
+        [ $((turn % 3)) != 0 ] || stopped $((turn / 3 % 60 + 1)) writes "$room/try" count
+        # (with no other program beside it, since this is done so often)
+        "$program" "$room/try" count </dev/null >"$room/said" 2>"$room/complained"
+        status=$?
+        said=
+        read -r said <"$room/said"
         is "$name, killed at place $number: the next opening" '0 items' "$status ${said%% *}"
-        is_gone "$name, killed at place $number" "$room/try"
-        number=$((number + step))
+        is_clean "$name, killed at place $number" "$room/try"
     done
-    is "$name, killed nowhere" 0 "$status"
-    is_gone "$name, killed nowhere" "$room/try"
+    echo "$name: $turn of $total places, which left ${#looked[@]} folders"
 }
+stay=("$second" "$third" sparse)
 kills 'doom of blocks' '' doom "$first"
-kills 'doom of a file' '' doom "$second"
-kills 'doom with a long key' '' doom "$third"
-kills 'doom of sparse data' '' doom sparse
-kills 'trim' '' trim 0
 kills 'put in the same blocks' "$new" put "$first" 1
-kills 'put in place of a file' "$new" put "$second" 0
-kills 'eviction' "$new" put more 0 --items 3
 kills 'cuts' "open 0 $first\ncut 0 0 64 -\ncut 0 1 1040 -\ncut 0 2 4096 -\ncut 0 2 512 -\nclose 0\n" session
+stay=("$first" "$third" sparse)
+kills 'doom of a file' '' doom "$second"
+kills 'put in place of a file' "$new" put "$second" 0
+stay=("$first" "$second" sparse)
+kills 'doom with a long key' '' doom "$third"
+stay=("$first" "$second" "$third")
+kills 'doom of sparse data' '' doom sparse
+stay=("$third" sparse)
 kills 'growth, and a file that is cut' "open 0 $first\nwrite 0 0 64 $longer\nclose 0\nopen 0 $second\ncut 0 0 16400 -\nclose 0\n" session
 kills 'doom of open entries' "open 0 $first\ndoom 0\nopen 1 $second\ndoom 1\nclose 1\nclose 0\n" session
+stay=(sparse)
+kills 'eviction' "$new" put more 0 --items 4
+stay=()
+kills 'trim' '' trim 0
 echo "$places places of a kill were tried"
 finish

@@ -108,6 +108,43 @@ for seconds in '' 0 3; do
     is "BLKCACHE_WAIT is [$seconds]" '0 items' "$status ${said%% *}"
 done
 
+# What the file system answers to the question for a lock, by strace: without locks the program goes on, and any other error is a failure of
+# the folder, before a name is read or a cache file is opened.
+lock_answers() {
+    strace -o "$room/calls" -e trace=flock,openat,open,getdents64 -e "inject=flock:$1" "$program" "$folder" "${@:2}" <"$room/input" >"$room/said" 2>"$room/complained"
+    status=$?
+    said=$(cat "$room/said" "$room/complained")
+}
+# How many calls opened a cache file, and how many read names.
+opened() {
+    echo "$(count_like 'open*"index"*' <"$room/calls") $(count_like 'open*"data_*' <"$room/calls") $(count_like 'getdents64(*' <"$room/calls")"
+}
+if ! command -v strace >/dev/null || ! strace -o /dev/null -e trace=flock -e inject=flock:error=ENOLCK true 2>/dev/null; then
+    skip 'what the file system answers to the question for a lock' 'strace is missing, or may not do so'
+else
+    before=$(held "$folder")
+    for words in count verify; do
+        for error in ENOSYS EOPNOTSUPP ENOLCK; do
+            lock_answers "error=$error" $words
+            is "no locks ($error), $words" '0 yes' "$status $([[ $said == *items* ]] && echo yes)"
+        done
+        for error in EIO EINVAL EBADF EPERM EACCES ENOMEM; do
+            lock_answers "error=$error" $words
+            is "a question for the lock that fails ($error), $words" "$([ "$error" = ENOMEM ] && echo 6 || echo 3)  0 0 0" "$status $said $(opened)"
+        done
+        lock_answers error=EINTR:when=1 $words
+        is "a question for the lock that is interrupted, $words" '0 yes 2' "$status $([[ $said == *items* ]] && echo yes) $(count_like 'flock(*' <"$room/calls")"
+    done
+    lock_answers error=EAGAIN count
+    is 'another process has the folder: no name is read and no cache file is opened' '3  0 0 0' "$status $said $(opened)"
+    is 'another process has the folder: it is asked once' 1 "$(count_like 'flock(*' <"$room/calls")"
+    BLKCACHE_WAIT=1 lock_answers error=EAGAIN:when=1..3 count
+    is 'another process has the folder at three tries' '0 yes 4' "$status $([[ $said == *items* ]] && echo yes) $(count_like 'flock(*' <"$room/calls")"
+    BLKCACHE_WAIT=1 strace -o "$room/calls" -e trace=flock,nanosleep,clock_nanosleep -e inject=flock:error=EAGAIN:when=1..3 "$program" "$folder" count >/dev/null 2>&1
+    is 'with 50 ms between them' 3 "$(count_like '*tv_sec=0, tv_nsec=50000000*' <"$room/calls")"
+    is 'the folder has what it had' "$before" "$(held "$folder")"
+fi
+
 if ! type -P flock >/dev/null; then
     skip 'a lock of another program' 'flock is missing'
     finish

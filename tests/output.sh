@@ -52,6 +52,44 @@ is 'an output that is closed midway' 5 "$(cat "$room/status")"
 is 'what was read of it is a front' "$front" "$(head -c 100000 "$room/said" | base64 -w0)"
 is 'the whole is longer' yes "$([ ${#whole} -gt ${#front} ] && echo yes)"
 
+# An input and an output that were made not to block are waited for: the input has a line now and then, and nobody reads the output at first.
+mkfifo "$room/into" "$room/out_of"
+exec 5<>"$room/into" 6<>"$room/out_of"
+exec 7<"$room/into" 8>"$room/out_of" 9<"$room/out_of"
+dd iflag=nonblock count=0 status=none <&7
+dd oflag=nonblock count=0 status=none >&8
+is_nonblocking() {
+    local name value
+    while read -r name value; do
+        [ "$name" != flags: ] || [ $((8#${value#0} & 2048)) = 0 ] || return 0
+    done 2>/dev/null <"/proc/$BASHPID/fdinfo/$1"
+    return 1
+}
+if is_nonblocking 7 && is_nonblocking 8; then
+    rm -rf "$room/waits" "$room/other"
+    cp -a "$folder" "$room/waits"
+    cp -a "$folder" "$room/other"
+    timeout 60 "$program" "$room/other" session <"$room/lines" >"$room/said" 2>"$room/complained"
+    {
+        sleep 0.2
+        head -n 1 "$room/lines"
+        sleep 0.2
+        tail -n +2 "$room/lines"
+    } 7<&- 8>&- 9<&- 6>&- >&5 &
+    (
+        timeout 60 "$program" "$room/waits" session <&7 5>&- 6>&- 9<&- >&8 2>"$room/complained"
+        echo $? >"$room/status"
+    ) 5>&- 6>&- 9<&- &
+    exec 5>&- 6>&- 7<&- 8>&-
+    sleep 1
+    cat <&9 >"$room/waited"
+    wait
+    is 'streams that do not block: the status, and all replies' '0 same' "$(cat "$room/status" "$room/complained") $(cmp "$room/said" "$room/waited" && echo same)"
+else
+    skip 'streams that do not block' 'dd or /proc cannot make and tell them'
+fi
+exec 5>&- 6>&- 7<&- 8>&- 9<&-
+
 if ! command -v strace >/dev/null || ! strace -o /dev/null true 2>/dev/null; then
     skip 'the calls of the program' 'strace is missing, or may not look at a program'
     finish

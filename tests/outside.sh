@@ -1,5 +1,8 @@
 # Nothing outside the folder is read or written: links and second names of cache files are refused, before a run and in the midst of one.
+# OUTSIDE_OPENINGS says how many openings of each name are made beside a program that swaps it. Without it there are ten thousand of an
+# external file, which sessions open again and again, and some hundreds of each other, which take a run each.
 . "$(dirname "${BASH_SOURCE[0]}")/common.sh"
+openings_of_each=${OUTSIDE_OPENINGS:-}
 
 # A folder with two entries, each with a stream in a file of its own.
 digits=$(printf '7a%.0s' {1..20000})
@@ -39,6 +42,38 @@ for name in index data_0 data_1 data_2 data_3 f_000001; do
         is "$what as $name: nothing is changed" "$before" "$(both "$room/try" && both "$elsewhere")"
     done
 done
+
+# A file of another device that stands under a name by a mount.
+mounted() {
+    unshare --mount "$BASH" -c 'mount --bind "$1" "$2" && exec "${@:3}"' -- "$device/file" "$room/try/$name" "$@" 2>/dev/null
+}
+device=
+name=index
+rm -rf "$room/try"
+cp -a "$room/two" "$room/try"
+for it in /dev/shm /run /tmp "$HOME"; do
+    [ -w "$it" ] && [ "$(stat -c %d "$it")" != "$(stat -c %d "$room")" ] || continue
+    device=$(mktemp -d "$it/outside.XXXXXX") && cp "$room/two/index" "$device/file" && break
+    device=
+done
+if [ -z "$device" ]; then
+    skip 'files of another device' 'no folder of another device can be written'
+elif ! type -P unshare mount >/dev/null || ! mounted true; then
+    skip 'files of another device' 'unshare or mount is missing, or not allowed'
+else
+    for name in index data_0 data_1 data_2 data_3 f_000001; do
+        cp "$room/two/$name" "$device/file"
+        before=$(both "$room/try" && both "$device")
+        for words in count 'get a 0' 'put a 0' verify; do
+            # shellcheck disable=SC2086
+            said=$(mounted "$program" "$room/try" $words <"$room/input")
+            is "a file of another device as $name, $words" '3 ' "$? $said"
+        done
+        is "a file of another device as $name: nothing is changed" "$before" "$(both "$room/try" && both "$device")"
+    done
+fi
+[ -z "$device" ] || rm -rf "$device"
+
 make finished "$room/unmade"
 rm "$room/unmade/index"
 place 'a hard link' "$room/unmade/data_1"
@@ -85,6 +120,45 @@ for what in 'a hard link' 'a link' 'a link to nothing' 'a FIFO'; do
     done
 done
 
+# The index and the block files are open from the beginning: the session goes on in its own, and what is put in their place is not touched.
+# The next word refuses it.
+for name in index data_0 data_1 data_2 data_3; do
+    for what in 'a hard link' 'a link' 'a link to nothing' 'a FIFO'; do
+        rm -rf "$room/try"
+        cp -a "$room/two" "$room/try"
+        talk
+        asked 'open 0 a'
+        place "$what" "$room/try/$name"
+        before=$(both "$elsewhere")
+        replies=
+        for line in 'write 0 1 0 6162' 'write 0 2 0 63' 'create 1 c' 'write 1 0 0 616263' "write 1 1 0 ${digits:0:4000}" "write 1 2 0 ${digits:0:20000}" 'close 1' 'doomkey b' 'close 0'; do
+            asked "$line"
+            replies+="$reply, "
+        done
+        ends
+        is "$what as $name in the midst of a session, which goes on" '0 ok 2, ok 1, ok, ok 3, ok 2000, ok 10000, ok, ok, ok, ' "$status $replies"
+        is "$what as $name in the midst of a session: what is outside" "$before" "$(both "$elsewhere")"
+        run "$room/try" count
+        is "$what as $name in the midst of a session, and the next word" '3 ' "$status $said$complained"
+        is "$what as $name, and the next word: what is outside" "$before" "$(both "$elsewhere")"
+    done
+done
+
+# What stands under the name of a file that a session is about to make is not taken over, and what it leads to is not made.
+for what in 'a hard link' 'a link' 'a link to nothing' 'a FIFO'; do
+    rm -rf "$room/try"
+    cp -a "$room/two" "$room/try"
+    talk
+    asked 'create 0 c'
+    cp "$room/two/f_000001" "$room/try/f_000003"
+    place "$what" "$room/try/f_000003"
+    before=$(both "$elsewhere")
+    asked "write 0 0 0 $digits"
+    ends
+    is "$what as a file that is to be made" '3 ' "$status $reply"
+    is "$what as a file that is to be made: what is outside" "$before" "$(both "$elsewhere")"
+done
+
 # A folder that is moved away under a session stays its folder, whatever is put in its place.
 rm -rf "$room/try" "$room/moved"
 cp -a "$room/two" "$room/try"
@@ -128,10 +202,10 @@ swaps() {
 }
 
 # Runs the program on words beside such a program until there are so many openings, or seconds are over: OPENINGS SECONDS RUNS STATUSES NAME
-# WHAT.. -- WORDS, so many runs on each new folder, with the lines as input. Each run is an opening, and each line that it prints. The runs
-# that are not refused end with one of the statuses, and nothing outside is written.
+# WHAT.. -- WORDS, so many runs on each new folder, with the lines as input. A run of a word opens the name once; one of a session opens it
+# again at every other line that it prints. The runs that are not refused end with one of the statuses, and nothing outside is written.
 beside_swaps() {
-    local most=$1 ends=$((SECONDS + $2)) runs=$3 allowed=$4 name=$5 what=() openings=0 others= before swapper status number
+    local most=$1 ends=$((SECONDS + $2)) runs=$3 allowed=$4 name=$5 what=() openings=0 others= before swapper status number of_name=0
     shift 5
     while [ "$1" != -- ]; do
         what+=("$1")
@@ -155,22 +229,23 @@ beside_swaps() {
             "$program" "$room/try" "$@" <"$room/lines" >"$room/said" 2>&1
             status=$?
             mapfile -t said <"$room/said"
-            openings=$((openings + 1 + ${#said[@]}))
+            [ "$1" = session ] && openings=$((openings + 1 + ${#said[@]} / 2)) || openings=$((openings + 1))
             case $status in
-                3) refused=$((refused + 1)) ;;
+                3) of_name=$((of_name + 1)) ;;
                 *) [[ " $allowed " == *" $status "* ]] || others+=" $status" ;;
             esac
         done
     done
     rm "$room/going"
     wait "$swapper"
-    echo "$openings openings beside a program that swaps $name with ${what[*]}"
+    refused=$((refused + of_name))
+    echo "$openings openings beside a program that swaps $name with ${what[*]}, $of_name runs refused"
     [ "$openings" -ge "$most" ] || skip "some of $most openings beside a program that swaps $name" 'the machine is too slow'
     is "$name swapped with ${what[*]}: no other status" '' "$others"
     is "$name swapped with ${what[*]}: what is outside" "$before" "$(both "$elsewhere")"
 }
 
-# Sessions that open an external file again and again, ten thousand times together or for half a minute.
+# Sessions that open an external file again and again.
 {
     printf '%s\n' 'open 0 a' 'open 1 b'
     for ((number = 0; number < 250; number++)); do
@@ -178,16 +253,16 @@ beside_swaps() {
     done
 } >"$room/lines"
 refused=0
-beside_swaps 10000 30 1 0 f_000001 'a link' 'a hard link' -- session
+beside_swaps "${openings_of_each:-10000}" $((openings_of_each == 0 ? 30 : 3600)) 1 0 f_000001 'a link' 'a hard link' -- session
 is 'sessions beside a program that swaps: some are refused' yes "$([ "$refused" -gt 0 ] && echo yes)"
 
 # Words that open the others once each. A folder is put in place where nothing was for a moment, so an index may be made anew beside old
 # block files, which is a damaged folder.
 : >"$room/lines"
 refused=0
-for name in index data_0 data_1; do
-    beside_swaps 800 6 20 0 "$name" 'a link' 'a hard link' 'a FIFO' -- count
-    beside_swaps 400 3 20 '0 7' "$name" 'a folder' -- count
+for name in index data_0 data_1 data_2 data_3; do
+    beside_swaps "${openings_of_each:-300}" $((openings_of_each == 0 ? 5 : 3600)) 20 0 "$name" 'a link' 'a hard link' 'a FIFO' -- count
+    beside_swaps 150 3 20 '0 7' "$name" 'a folder' -- count
 done
 is 'words beside a program that swaps: some are refused' yes "$([ "$refused" -gt 0 ] && echo yes)"
 finish

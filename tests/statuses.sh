@@ -140,11 +140,50 @@ if [ -w /dev/full ]; then
 else
     skip 'an output that is full' 'there is no /dev/full'
 fi
+# A socket whose other end is closed, and a terminal that is gone, are told by the same empty write.
+if perl -MSocket -e 'socketpair(my $one, my $other, AF_UNIX, SOCK_STREAM, 0) or exit 1' 2>/dev/null; then
+    make entries "$room/unsent"
+    before=$(both "$room/unsent")
+    for words in 'put b 0' 'put a 0' 'doom a' 'trim 0'; do
+        # shellcheck disable=SC2086
+        timeout 60 perl -MSocket -e 'socketpair(my $one, my $other, AF_UNIX, SOCK_STREAM, 0); close $other; open(STDOUT, ">&", $one); exec @ARGV' \
+            "$program" "$room/unsent" $words <"$room/input" >/dev/null 2>"$room/complained"
+        is "$words to a socket whose other end is closed" '5 ' "$? $(cat "$room/complained")"
+    done
+    is 'nothing is done then, to a socket' "$before" "$(both "$room/unsent")"
+else
+    skip 'an output that is a socket' 'perl is missing'
+fi
+if perl -MFcntl -e 'sysopen(my $it, "/dev/ptmx", O_RDWR | O_NOCTTY) or exit 1; ioctl($it, 0x40045431, my $no = pack("i", 0)) or exit 1; ioctl($it, 0x80045430, $no) or exit 1; sysopen(my $end, "/dev/pts/" . unpack("i", $no), O_RDWR | O_NOCTTY) or exit 1' 2>/dev/null; then
+    make entries "$room/hung"
+    before=$(both "$room/hung")
+    for words in 'put b 0' 'put a 0' 'doom a' 'trim 0'; do
+        # shellcheck disable=SC2086
+        timeout 60 perl -MFcntl -e 'sysopen(my $it, "/dev/ptmx", O_RDWR | O_NOCTTY); ioctl($it, 0x40045431, my $no = pack("i", 0)); ioctl($it, 0x80045430, $no); sysopen(my $end, "/dev/pts/" . unpack("i", $no), O_RDWR | O_NOCTTY); open(STDOUT, ">&", $end); close $it; exec @ARGV' \
+            "$program" "$room/hung" $words <"$room/input" >/dev/null 2>"$room/complained"
+        is "$words to a terminal that is gone" '5 ' "$? $(cat "$room/complained")"
+    done
+    is 'nothing is done then, to a terminal' "$before" "$(both "$room/hung")"
+else
+    skip 'an output that is a terminal' 'perl is missing, or no terminal can be made'
+fi
 mkfifo "$room/pipe"
 # Both ends are opened, and the reader's is closed before the program writes.
 exec 8<>"$room/pipe" 9>"$room/pipe" 8<&-
 timeout 60 "$program" "$room/finished" count >&9 2>"$room/complained"
 is 'an output that nobody reads' '5 ' "$? $(cat "$room/complained")"
+# An empty write does not tell of it, so what replies behind its work has done it, and put has made its entry.
+printf x >"$room/one"
+for words in 'put b 0' 'doom a' 'trim 0'; do
+    rm -rf "$room/unread"
+    make entries "$room/unread"
+    # shellcheck disable=SC2086
+    timeout 60 "$program" "$room/unread" $words <"$room/one" >&9 2>"$room/complained"
+    is "$words to an output that nobody reads" '5 ' "$? $(cat "$room/complained")"
+    run "$room/unread" list
+    [ "$words" = 'put b 0' ] && wanted=$'0 main b 0 0 0\nmain a 0 0 0\nend 2' || wanted='0 end 0'
+    is "$words to an output that nobody reads: what is done" "$wanted" "$status $said"
+done
 exec 9>&-
 timeout 60 "$program" "$room/finished" count <"$room/finished" >"$room/said" 2>&1
 is 'an input that cannot be read is not asked' "0 $empty_line" "$? $(cat "$room/said")"

@@ -1,23 +1,37 @@
 // Kills the program at one place of what it writes, the one with the number in the variable STOPPED: loaded before the C library. The
 // places are those before each write, new length, removal and file that is made; of a write of several words also those behind its first
-// word, midway, and before its last.
+// word, midway, and before its last, or between any two where STOPPED_BETWEEN is words. Where no place has the number, how many there are
+// is said on standard error at the end. The clock stands still, so that the same commands write the same bytes each time.
 #define _GNU_SOURCE
 #include <dlfcn.h>
 #include <fcntl.h>
 #include <signal.h>
 #include <stdarg.h>
+#include <stdio.h>
 #include <stdlib.h>
+#include <string.h>
+#include <time.h>
 #include <unistd.h>
 
 #define WORD 4
 
+static unsigned long passed, wanted;
+static int between_words;
+
+__attribute__((constructor)) static void begin(void) {
+    const char *number = getenv("STOPPED"), *between = getenv("STOPPED_BETWEEN");
+    wanted = number ? strtoul(number, NULL, 10) : 0;
+    between_words = between && strcmp(between, "words") == 0;
+}
+
+__attribute__((destructor)) static void end(void) {
+    char line[32];
+    int length = snprintf(line, sizeof line, "%lu\n", passed);
+    if (write(2, line, length) < 0) _exit(1);
+}
+
 static int is_stopped(void) {
-    static long left = -1;
-    if (left == -1) {
-        const char *number = getenv("STOPPED");
-        left = number ? atol(number) : 0;
-    }
-    return left != 0 && --left == 0;
+    return ++passed == wanted;
 }
 
 static void stop(void) {
@@ -27,11 +41,13 @@ static void stop(void) {
 ssize_t pwrite(int file, const void *bytes, size_t count, off_t place) {
     static ssize_t (*next)(int, const void *, size_t, off_t);
     size_t words = count / WORD, fronts[] = {0, 1, words / 2, words - 1};
+    size_t most = between_words ? words : words < 2 ? 1 : 4;
     if (!next) next = dlsym(RTLD_NEXT, "pwrite");
-    for (int n = 0; n < 4; n++) {
-        if (n > 0 && (words < 2 || fronts[n] <= fronts[n - 1])) continue;
+    for (size_t n = 0; n < most || n == 0; n++) {
+        size_t front = between_words ? n : fronts[n];
+        if (!between_words && n > 0 && front <= fronts[n - 1]) continue;
         if (!is_stopped()) continue;
-        if (fronts[n] > 0) next(file, bytes, fronts[n] * WORD, place);
+        if (front > 0) next(file, bytes, front * WORD, place);
         stop();
     }
     return next(file, bytes, count, place);
@@ -63,4 +79,13 @@ int open(const char *name, int how, ...) {
         if (is_stopped()) stop();
     }
     return next(name, how, mode);
+}
+
+int clock_gettime(clockid_t clock, struct timespec *now) {
+    static int (*next)(clockid_t, struct timespec *);
+    if (!next) next = dlsym(RTLD_NEXT, "clock_gettime");
+    if (clock != CLOCK_REALTIME) return next(clock, now);
+    now->tv_sec = 4102444800;
+    now->tv_nsec = 0;
+    return 0;
 }

@@ -79,6 +79,7 @@ END
 # A program that says what it was given, and notes that it ran.
 cat >"$room/program" <<'END'
 [ $# != 0 ] || { echo usage; exit 2; }
+[ "$2" != surroundings ] || { echo "[${BLKCACHE_WAIT-unset}] [${BLKCACHE_ERASE-unset}]" $(trap -p XFSZ TERM INT HUP PIPE); exit 0; }
 echo ran >>"$room/ran"
 printf 'words:'
 printf ' %q' "$@"
@@ -231,6 +232,22 @@ is 'nothing else is left' $'blkcache blkcache.commit build.times\n' "$(left)"$'\
 printf '%s\n' '# NAME: DEP DEP ..' 'blkcache may_wait=0: blk_run blk_io' 'blk_image:' 'blk_io: blk_image hex' 'blk_io_tests staticlib: blk_io' 'blk_run: blk_image' >"$repository/crates.txt"
 touch -d '1 hour ago' "$repository/crates.txt"
 total=4
+
+# What the program gets beside its words: how long it waits, what its caller set, and a limit of the size of files as a failed write.
+surrounded() {
+    wrap "${@:2}" "$folder" surroundings
+    is "what surrounds the program, ${*:2}" "0 $1 trap -- '' SIGXFSZ" "$status $said"
+}
+surrounded '[unset] [unset]'
+for it in 0 7 999999999; do
+    surrounded "[$it] [unset]" --wait "$it"
+    BLKCACHE_WAIT=3 BLKCACHE_ERASE=1 surrounded "[$it] [1]" --wait "$it"
+done
+BLKCACHE_WAIT=3 surrounded '[3] [unset]'
+for it in x -1 '' 01 1.5 1000000000; do
+    wrap --wait "$it" "$folder" count
+    is "--wait [$it]" '2 usage' "$status $said$complained"
+done
 
 # A run on a built program calls git alone, and builds nothing.
 wrap "$folder" count
