@@ -1,8 +1,8 @@
 //! The generator: commands that are drawn from a number, and what is counted of them.
 //!
 //! A turn draws a key, a stream and how many bytes are written; what it asks of a cache then is
-//! the script `gen_script` of `specs/Generator`. No call takes memory. `docs/FORMATS.md` tells the
-//! generator.
+//! the script `gen_script` of `specs/Generator`. What is drawn stands in `specs/Draws`.
+//! No call takes memory.
 #![tactic(auto)]
 
 ghost use Rattle.blk_gen.specs.Laws.{CommandsOfTurnsAreFew, TurnsSayTheirCounts};
