@@ -229,7 +229,7 @@ is 'rt is called once' $'git is asked\ngit rev-parse\ngit status\nrt ci\ngit sta
 is 'nothing else is left' $'blkcache blkcache.commit build.times\n' "$(left)"$'\n'
 
 # From here on there are four crates.
-printf '%s\n' '# NAME: DEP DEP ..' 'blkcache may_wait=0: blk_run blk_io' 'blk_image:' 'blk_io: blk_image hex' 'blk_io_tests staticlib: blk_io' 'blk_run: blk_image' >"$repository/crates.txt"
+printf '%s\n' '# NAME: DEP DEP ..' 'blkcache may_wait=0: blk_run blk_io' 'spec_image:' 'blk_io: spec_image hex' 'blk_io_tests staticlib: blk_io' 'blk_run: spec_image' >"$repository/crates.txt"
 touch -d '1 hour ago' "$repository/crates.txt"
 total=4
 
@@ -328,7 +328,7 @@ echo tests >"$repository/crates/blk_io_tests/src/lib.rt"
 rm -r "$out" "$room/kept"/*
 wrap "$folder" count
 is 'what rt is given' "HANDLES crates.txt crates/blk_io/proofs/deep/turns.antt crates/blk_io/specs/Io.antt crates/blk_io/src/lib.rt $(echo crates/blkcache/{args,data/deep/one,src/main.rt,status,stdin,stdout})" "$(echo $(sort <"$room/given"))"
-is 'the lines of crates.txt that it is given' $'blk_image:\nblk_run: blk_image\nblk_io: blk_image hex\nblkcache may_wait=0: blk_run blk_io' "$(cat "$room/listed.txt")"
+is 'the lines of crates.txt that it is given' $'spec_image:\nblk_run: spec_image\nblk_io: spec_image hex\nblkcache may_wait=0: blk_run blk_io' "$(cat "$room/listed.txt")"
 is 'each is proved anew' 4 "$(count_like 'blkcache: * proved, [1-4] of 4, after *' <"$room/complained")"
 rm -r "$repository/HANDLES" "$repository/crates/blk_io"/{must-fail,out,README.md,stdin} "$repository/crates/blkcache"/{stdin,stdout,args,status,data}
 touch -d '1 hour ago' "$repository/crates"/{blk_io/{src,specs,proofs,proofs/deep},blkcache/src,blk_io_tests/src}{,/*}
@@ -375,7 +375,7 @@ while read -r fails why; do
     last=$(tail -n 1 "$room/complained")
     is "a build that fails ($fails)" "70 blkcache: $why; the log is $out/build.log" "$status $said$last"
     [ "${fails%%_*}" = to ] && named=blkcache || named=$fails
-    [[ $(<"$out/build.log") == $'== blk_image\nmuch is said of blk_image\n'*"much is said of $named"* ]]
+    [[ $(<"$out/build.log") == $'== spec_image\nmuch is said of spec_image\n'*"much is said of $named"* ]]
     is "the log has what rt said ($fails)" 0 $?
     is "rt has ended ($fails)" no "$(does_rt_hang)"
     rm -f "$out/build.log"
@@ -405,14 +405,14 @@ for it in INT:130 TERM:143 HUP:129; do
         [ ! -s "$room/hanging" ] || [ "$(wc -l <"$room/complained")" -lt 3 ] || break
         sleep 0.05
     done
-    is "${it%:*}: two crates are told while rt goes on" $'blk_image proved, 1 of 4\nblk_run proved, 2 of 4' "$(while read -r _ line; do [[ $line != *', after '* ]] || echo "${line%, after *}"; done <"$room/complained")"
+    is "${it%:*}: two crates are told while rt goes on" $'spec_image proved, 1 of 4\nblk_run proved, 2 of 4' "$(while read -r _ line; do [[ $line != *', after '* ]] || echo "${line%, after *}"; done <"$room/complained")"
     kill -s "${it%:*}" "$wrapper"
     wait "$wrapper" 2>/dev/null
     is "${it%:*}: the status" "${it#*:}" "$?"
     is "${it%:*}: the output" '' "$(cat "$room/said")"
     is "${it%:*}: the last line" 'blkcache: interrupted; what is proved so far is kept' "$(tail -n 1 "$room/complained")"
     is "${it%:*}: nothing is left" $'*\n' "$(left)"$'\n'
-    is "${it%:*}: what was proved is kept" 'blk_image blk_run' "$(echo $(ls "$room/kept"))"
+    is "${it%:*}: what was proved is kept" 'spec_image blk_run' "$(echo $(ls "$room/kept"))"
     is "${it%:*}: rt has ended" no "$(does_rt_hang)"
 done
 

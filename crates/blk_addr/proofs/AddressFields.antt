@@ -1,7 +1,7 @@
 -- What is known of the fields of an address.
 use Rattle.std.proofs.Common.{◌≢◌, ℕ, ◌+◌, ◌%◌, ◌<◌, ◌≤◌, arith, IsTrue}
 use Rattle.std.proofs.lemmas.Grind.{common_steps}
-use Rattle.blk_format.specs.Address.{is_address, is_initialized, names_external, names_blocks, kind_of, first_block, block_count, file_selector, external}
+use Rattle.spec_format.specs.Address.{is_address, is_initialized, names_external, names_blocks, kind_of, first_block, block_count, file_selector, external}
 
 -- the type of an address is at most 4
 pub kind_of_address : (w : ℕ) → IsTrue (is_address w) → kind_of w ≤ 4

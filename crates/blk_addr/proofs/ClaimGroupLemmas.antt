@@ -7,8 +7,8 @@ use Rattle.std.specs.BTreeSet.{contains}
 use Rattle.std.proofs.lemmas.Bool.{eqb-true}
 use Rattle.std.proofs.lemmas.Grind.{common_steps, flat_map-append}
 use Rattle.std.proofs.lemmas.List.Folds.{list_any-append}
-use Rattle.blk_format.specs.Address.{is_address, kind_of, external_number, external}
-use Rattle.blk_format.specs.Claims.{Claim, BlockOf, ExternalOf, claims_of, claims_of_all, has_claim, overlap, repeats, is_in_file}
+use Rattle.spec_format.specs.Address.{is_address, kind_of, external_number, external}
+use Rattle.spec_format.specs.Claims.{Claim, BlockOf, ExternalOf, claims_of, claims_of_all, has_claim, overlap, repeats, is_in_file}
 use Rattle.blk_addr.specs.Bits.{has_bit}
 use Rattle.blk_addr.specs.Claims.{contains_claim, allocations_in, is_claimed, IsUnchanged, Adds, IsClaimsOf}
 use Rattle.blk_addr.specs.ClaimGroups.{AddsAll, are_free}

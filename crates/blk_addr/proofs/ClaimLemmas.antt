@@ -7,8 +7,8 @@ use Rattle.std.specs.List.{list_any, range_with_len}
 use Rattle.std.proofs.lemmas.Bool.Decides.{nat_tests, eqb_tells}
 use Rattle.std.proofs.lemmas.Grind.{common_steps, elements}
 use Rattle.std.proofs.lemmas.List.Folds.{list_any-append}
-use Rattle.blk_format.specs.Address.{kind_of, first_block, block_count, file_selector, external_number, external}
-use Rattle.blk_format.specs.Claims.{Claim, BlockOf, ExternalOf, same_claim, claims_of, has_claim, repeats, is_in_file}
+use Rattle.spec_format.specs.Address.{kind_of, first_block, block_count, file_selector, external_number, external}
+use Rattle.spec_format.specs.Claims.{Claim, BlockOf, ExternalOf, same_claim, claims_of, has_claim, repeats, is_in_file}
 use Rattle.blk_addr.specs.Bits.{has_bit, is_between}
 
 -- or false changes nothing

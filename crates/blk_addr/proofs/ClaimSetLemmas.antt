@@ -10,8 +10,8 @@ use Rattle.std.specs.BTreeMap.{is_at}
 use Rattle.std.specs.BTreeSet.{contains}
 use Rattle.std.proofs.lemmas.Grind.{flat_map-append}
 use Rattle.std.proofs.lemmas.List.{append-nil}
-use Rattle.blk_format.specs.Address.{is_address, kind_of, first_block, block_count, file_selector, external_number, external}
-use Rattle.blk_format.specs.Claims.{Claim, BlockOf, ExternalOf, claims_of, claims_of_all, has_claim, overlap, repeats, is_in_file}
+use Rattle.spec_format.specs.Address.{is_address, kind_of, first_block, block_count, file_selector, external_number, external}
+use Rattle.spec_format.specs.Claims.{Claim, BlockOf, ExternalOf, claims_of, claims_of_all, has_claim, overlap, repeats, is_in_file}
 use Rattle.blk_addr.specs.Bits.{has_bit, is_between}
 use Rattle.blk_addr.specs.Claims.{contains_claim, allocations_in, is_claimed, IsUnchanged, Adds, IsClaimsOf}
 use Rattle.blk_addr.specs.declared.claim_set.Claims.{Claims}

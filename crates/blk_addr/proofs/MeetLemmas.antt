@@ -5,8 +5,8 @@ use Rattle.std.specs.List.{list_any, range_with_len}
 use Rattle.std.proofs.lemmas.Bool.{eq-eqb, eqb-true}
 use Rattle.std.proofs.lemmas.Bool.Decides.{nat_tests}
 use Rattle.std.proofs.lemmas.List.{take_all}
-use Rattle.blk_format.specs.Address.{is_address, kind_of, file_selector, first_block, block_count, external_number, external}
-use Rattle.blk_format.specs.Claims.{Claim, BlockOf, ExternalOf, claims_of, claims_of_all, has_claim, overlap, repeats}
+use Rattle.spec_format.specs.Address.{is_address, kind_of, file_selector, first_block, block_count, external_number, external}
+use Rattle.spec_format.specs.Claims.{Claim, BlockOf, ExternalOf, claims_of, claims_of_all, has_claim, overlap, repeats}
 use Rattle.blk_addr.specs.Bits.{is_between}
 use Rattle.blk_addr.specs.FileId.{file_of_word}
 use Rattle.blk_addr.specs.declared.file_id.FileId.TheVariants.{Block, External, Index}

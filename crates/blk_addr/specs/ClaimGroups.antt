@@ -1,7 +1,7 @@
 -- Addresses that join the claims together.
 use Rattle.std.specs.Prelude.{◌≡◌, ℕ, ◌+◌, List, Bool, ◌||◌, not, count_by}
 use Rattle.std.specs.List.{list_any}
-use Rattle.blk_format.specs.Claims.{Claim, claims_of_all, has_claim, repeats, is_in_file}
+use Rattle.spec_format.specs.Claims.{Claim, claims_of_all, has_claim, repeats, is_in_file}
 use Rattle.blk_addr.specs.Claims.{contains_claim, allocations_in}
 use Rattle.blk_addr.specs.declared.claim_set.Claims.{Claims}
 

@@ -1,6 +1,6 @@
 -- The file that an address names.
 use Rattle.std.specs.Prelude.{ℕ, ◌==◌, if◌then◌else◌}
-use Rattle.blk_format.specs.Address.{kind_of, file_selector, external_number, external}
+use Rattle.spec_format.specs.Address.{kind_of, file_selector, external_number, external}
 use Rattle.blk_addr.specs.declared.file_id.FileId.{FileId}
 use Rattle.blk_addr.specs.declared.file_id.FileId.TheVariants.{Block, External}
 

@@ -1,6 +1,6 @@
 -- The kinds of addresses, by the numbers that address words have for them.
 use Rattle.std.specs.Prelude.{ℕ}
-use Rattle.blk_format.specs.Address.{external, rankings, blocks_256, blocks_1k, blocks_4k}
+use Rattle.spec_format.specs.Address.{external, rankings, blocks_256, blocks_1k, blocks_4k}
 use Rattle.blk_addr.specs.declared.kinds.Kind.{Kind}
 use Rattle.blk_addr.specs.declared.kinds.Kind.TheVariants.{External, Rankings, B256, B1K, B4K}
 

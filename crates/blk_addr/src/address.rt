@@ -1,6 +1,6 @@
 // Addresses as a type: a word that is an address.
 ghost use Rattle.std.specs.Prelude.{◌≡◌, ◌≢◌, ◌+◌, ◌*◌, ◌%◌, ◌^◌, ◌<◌, ◌≤◌, ◌==◌, Some, None, IsTrue, if◌then◌else◌};
-ghost use Rattle.blk_format.specs.Address.{is_address, kind_of, first_block, block_count, file_selector, external_number, external, rankings, block_word, external_word};
+ghost use Rattle.spec_format.specs.Address.{is_address, kind_of, first_block, block_count, file_selector, external_number, external, rankings, block_word, external_word};
 ghost use Rattle.blk_addr.specs.Kind.{kind_number};
 ghost use Rattle.blk_addr.specs.FileId.{file_of_word};
 
@@ -17,7 +17,7 @@ pub struct Addr {
 
 impl Model for Addr {
     ghost use Rattle.std.specs.Prelude.{ℕ, IsTrue};
-    ghost use Rattle.blk_format.specs.Address.{is_address};
+    ghost use Rattle.spec_format.specs.Address.{is_address};
 
     ghost Value = { ℕ };
 

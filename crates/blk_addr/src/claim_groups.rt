@@ -1,7 +1,7 @@
 // Addresses that join the claims together, all or none.
 ghost use Rattle.std.specs.Prelude.{◌≡◌, ℕ, ◌≤◌, ◌++◌, ◌||◌, List, [], true, false, not, vec_len, IfOk, OnOk, OnErr, if◌then◌else◌};
 ghost use Rattle.std.specs.List.{list_any};
-ghost use Rattle.blk_format.specs.Claims.{claims_of_all, overlap, repeats};
+ghost use Rattle.spec_format.specs.Claims.{claims_of_all, overlap, repeats};
 
 use crate::meeting::any_meet;
 use crate::no_memory::NoMemory;

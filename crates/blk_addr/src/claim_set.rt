@@ -2,8 +2,8 @@
 ghost use Rattle.std.specs.Prelude.{◌≡◌, ◌≢◌, ℕ, ◌+◌, ◌*◌, ◌≤◌, ◌++◌, ◌&&◌, ◌==◌, List, [], ◌∷◌, true, false, not, slice_index, vec_len, count_by, IsTrue, IfOk, OnOk, OnErr, if◌then◌else◌};
 ghost use Rattle.std.specs.BTreeSet.{contains};
 ghost use Rattle.std.specs.Ordering.{nat_cmp};
-ghost use Rattle.blk_format.specs.Address.{is_address, kind_of, external, external_number, file_selector};
-ghost use Rattle.blk_format.specs.Claims.{BlockOf, claims_of, claims_of_all, has_claim, overlap, is_in_file};
+ghost use Rattle.spec_format.specs.Address.{is_address, kind_of, external, external_number, file_selector};
+ghost use Rattle.spec_format.specs.Claims.{BlockOf, claims_of, claims_of_all, has_claim, overlap, is_in_file};
 ghost use Rattle.blk_addr.specs.Bits.{bits_of_files};
 
 use crate::bitmap::Bitmap;

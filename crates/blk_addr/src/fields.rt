@@ -1,6 +1,6 @@
 // The fields of an address word.
 ghost use Rattle.std.specs.Prelude.{◌≡◌, ◌≤◌, ◌<◌, ◌^◌};
-ghost use Rattle.blk_format.specs.Address as address;
+ghost use Rattle.spec_format.specs.Address as address;
 
 // The kind numbers of address words.
 pub const EXTERNAL: u32 = 0;
@@ -42,28 +42,28 @@ const START_MASK: u32 = 0xFFFF;
 /// The last number of an external file, and the bits of an address word that have it.
 pub const LAST_EXTERNAL: u32 = 0x0FFF_FFFF;
 
-#[tactic(auto, unfolding(blk_format::specs::Address::is_initialized))]
+#[tactic(auto, unfolding(spec_format::specs::Address::is_initialized))]
 pub fn is_initialized(word: u32) -> bool
     ensures { result ≡ address.is_initialized word }
 {
     word >= INITIALIZED
 }
 
-#[tactic(auto, unfolding(blk_format::specs::Address::kind_of))]
+#[tactic(auto, unfolding(spec_format::specs::Address::kind_of))]
 pub fn kind_number(word: u32) -> u32
     ensures { result ≡ address.kind_of word }
 {
     (word >> KIND_SHIFT) & KIND_MASK
 }
 
-#[tactic(auto, unfolding(blk_format::specs::Address::reserved_bits))]
+#[tactic(auto, unfolding(spec_format::specs::Address::reserved_bits))]
 pub fn reserved_bits(word: u32) -> u32
     ensures { result ≡ address.reserved_bits word }
 {
     (word >> RESERVED_SHIFT) & RESERVED_MASK
 }
 
-#[tactic(auto, unfolding(blk_format::specs::Address::block_count))]
+#[tactic(auto, unfolding(spec_format::specs::Address::block_count))]
 pub fn block_count(word: u32) -> u32
     ensures field { result ≡ address.block_count word }
     ensures most { result ≤ 4 }
@@ -71,35 +71,35 @@ pub fn block_count(word: u32) -> u32
     ((word >> COUNT_SHIFT) & COUNT_MASK) + 1
 }
 
-#[tactic(auto, unfolding(blk_format::specs::Address::file_selector))]
+#[tactic(auto, unfolding(spec_format::specs::Address::file_selector))]
 pub fn file_selector(word: u32) -> u8
     ensures { result ≡ address.file_selector word }
 {
     ((word >> FILE_SHIFT) & FILE_MASK) as u8
 }
 
-#[tactic(auto, unfolding(blk_format::specs::Address::first_block))]
+#[tactic(auto, unfolding(spec_format::specs::Address::first_block))]
 pub fn first_block(word: u32) -> u32
     ensures { result ≡ address.first_block word }
 {
     word & START_MASK
 }
 
-#[tactic(auto, unfolding(blk_format::specs::Address::external_number))]
+#[tactic(auto, unfolding(spec_format::specs::Address::external_number))]
 pub fn external_number(word: u32) -> u32
     ensures { result ≡ address.external_number word }
 {
     word & LAST_EXTERNAL
 }
 
-#[tactic(auto, unfolding(blk_format::specs::Address::names_external))]
+#[tactic(auto, unfolding(spec_format::specs::Address::names_external))]
 fn names_external(word: u32) -> bool
     ensures { result ≡ address.names_external word }
 {
     kind_number(word) == EXTERNAL && external_number(word) != 0
 }
 
-#[tactic(auto, unfolding(blk_format::specs::Address::names_blocks))]
+#[tactic(auto, unfolding(spec_format::specs::Address::names_blocks))]
 fn names_blocks(word: u32) -> bool
     ensures { result ≡ address.names_blocks word }
 {
@@ -112,7 +112,7 @@ fn names_blocks(word: u32) -> bool
         && (kind != RANKINGS || count == 1)
 }
 
-#[tactic(auto, unfolding(blk_format::specs::Address::is_address))]
+#[tactic(auto, unfolding(spec_format::specs::Address::is_address))]
 pub fn is_address(word: u32) -> bool
     ensures { result ≡ address.is_address word }
 {
@@ -120,7 +120,7 @@ pub fn is_address(word: u32) -> bool
 }
 
 // The word of so many blocks of a kind in a file, from a first one on.
-#[tactic(auto, unfolding(blk_format::specs::Address::block_word))]
+#[tactic(auto, unfolding(spec_format::specs::Address::block_word))]
 pub fn block_word(kind: u32, file: u8, start: u32, count: u32) -> u32
     requires kind { kind < 8 }
     requires some { 0 < count }
@@ -136,7 +136,7 @@ pub fn block_word(kind: u32, file: u8, start: u32, count: u32) -> u32
 }
 
 // The word of the external file of a number.
-#[tactic(auto, unfolding(blk_format::specs::Address::external_word))]
+#[tactic(auto, unfolding(spec_format::specs::Address::external_word))]
 pub fn external_word(number: u32) -> u32
     requires { number < 2 ^ 28 }
     ensures { result ≡ address.external_word number }

@@ -1,7 +1,7 @@
 // The kinds of addresses.
 ghost use Rattle.std.specs.Prelude.{◌≡◌, ◌==◌, ◌<◌, Some, None, IfSome, if◌then◌else◌};
-ghost use Rattle.blk_format.specs.Address as address;
-ghost use Rattle.blk_format.specs.Address.{external};
+ghost use Rattle.spec_format.specs.Address as address;
+ghost use Rattle.spec_format.specs.Address.{external};
 ghost use Rattle.blk_addr.specs.Kind.{kind_number};
 
 /// What an address names: an external file, or blocks of a size. Each has its number in address words.
@@ -28,7 +28,7 @@ impl Kind {
     }
 
     /// The bytes of one block, where addresses of the kind name blocks.
-    #[tactic(auto, unfolding(blk_format::specs::Address::block_size))]
+    #[tactic(auto, unfolding(spec_format::specs::Address::block_size))]
     pub fn block_size(self) -> Option<u32>
         ensures size { result ≡ (if kind_number self == external then None else Some (address.block_size (kind_number self))) }
         ensures some { IfSome result (λ size. 0 < size) }

@@ -1,8 +1,8 @@
 // Whether addresses share a block or an external number.
 ghost use Rattle.std.specs.Prelude.{◌≡◌, ◌≢◌, ◌+◌, ◌&&◌, IsTrue, nat_lt};
 ghost use Rattle.std.specs.List.{list_any};
-ghost use Rattle.blk_format.specs.Address.{block_count, external, first_block, is_address, kind_of};
-ghost use Rattle.blk_format.specs.Claims.{claims_of, claims_of_all, overlap, repeats};
+ghost use Rattle.spec_format.specs.Address.{block_count, external, first_block, is_address, kind_of};
+ghost use Rattle.spec_format.specs.Claims.{claims_of, claims_of_all, overlap, repeats};
 
 use crate::{Addr, FileId};
 
@@ -56,7 +56,7 @@ fn runs_meet(addr: Addr, other: Addr) -> bool
 }
 
 // The number behind the last block of an address.
-#[tactic(auto, using(std::proofs::lemmas::Bool::Decides::nat_tests), unfolding(blk_format::specs::Address::first_block, blk_format::specs::Address::block_count))]
+#[tactic(auto, using(std::proofs::lemmas::Bool::Decides::nat_tests), unfolding(spec_format::specs::Address::first_block, spec_format::specs::Address::block_count))]
 fn end_of(addr: Addr) -> u32
     requires { kind_of addr ≢ external }
     ensures { result ≡ first_block addr + block_count addr }

@@ -1,8 +1,8 @@
 // The storage of data by its size.
 ghost use Rattle.std.specs.Prelude.{◌≡◌, ◌≢◌, ◌<◌};
-ghost use Rattle.blk_format.specs.Address as address;
-ghost use Rattle.blk_format.specs.Address.{external};
-ghost use Rattle.blk_format.specs.Storage as storage;
+ghost use Rattle.spec_format.specs.Address as address;
+ghost use Rattle.spec_format.specs.Address.{external};
+ghost use Rattle.spec_format.specs.Storage as storage;
 ghost use Rattle.blk_addr.specs.Kind.{kind_number};
 
 use crate::kinds::Kind;
@@ -24,7 +24,7 @@ const SECOND_BLOCK_FROM: u32 = 160;
 pub const LONGEST_SHORT_KEY: u32 = 927;
 
 /// The kind of data of `size` bytes, above 0.
-#[tactic(auto, unfolding(blk_format::specs::Storage::kind_for))]
+#[tactic(auto, unfolding(spec_format::specs::Storage::kind_for))]
 pub fn kind_for(size: u32) -> Kind
     requires { 0 < size }
     ensures { kind_number result ≡ storage.kind_for size }
@@ -41,7 +41,7 @@ pub fn kind_for(size: u32) -> Kind
 }
 
 /// The number of blocks of data of `size` bytes, above 0; 0 where the data is external.
-#[tactic(auto, unfolding(blk_format::specs::Storage::blocks_for))]
+#[tactic(auto, unfolding(spec_format::specs::Storage::blocks_for))]
 pub fn blocks_for(size: u32) -> u32
     requires { 0 < size }
     ensures { result ≡ storage.blocks_for size }
@@ -53,7 +53,7 @@ pub fn blocks_for(size: u32) -> u32
 }
 
 /// The number of blocks of an entry record whose key has `key_len` bytes.
-#[tactic(auto, unfolding(blk_format::specs::Storage::entry_blocks))]
+#[tactic(auto, unfolding(spec_format::specs::Storage::entry_blocks))]
 pub fn entry_blocks(key_len: u32) -> u32
     ensures { result ≡ storage.entry_blocks key_len }
 {

@@ -5,28 +5,28 @@ use Rattle.std.specs.Int.{bit_at}
 use Rattle.std.proofs.lemmas.Bool.Decides.{nat_tests}
 use Rattle.std.proofs.lemmas.Nat.Bits.{bit_at-zero}
 use Rattle.std.proofs.lemmas.List.Elements.{All-nil}
-use Rattle.blk_image.specs.Bytes.{content, zeros, word_at}
-use Rattle.blk_image.specs.Image.{Image, Block, External, same_file, byte, bytes_of}
-use Rattle.blk_image.specs.Steps.{with_word}
-use Rattle.blk_image.specs.Footprint.{SameOutside, either, range, whole}
-use Rattle.blk_image.proofs.Splices.{content-zeros}
-use Rattle.blk_format.specs.Address.{block_size}
-use Rattle.blk_format.specs.Headers.{empty_of, allocations_of, max_entries_of, block_magic, version}
-use Rattle.blk_format.specs.Claims.{has_claim, is_in_file, repeats}
-use Rattle.blk_format.specs.BlockFiles.{is_among, max_entries_in, stands_in}
-use Rattle.blk_format.specs.Maps.{is_block_marked, groups_with, groups_of, AreAllocations, EmptyAgrees}
+use Rattle.spec_image.specs.Bytes.{content, zeros, word_at}
+use Rattle.spec_image.specs.Image.{Image, Block, External, same_file, byte, bytes_of}
+use Rattle.spec_image.specs.Steps.{with_word}
+use Rattle.spec_image.specs.Footprint.{SameOutside, either, range, whole}
+use Rattle.spec_image.proofs.Splices.{content-zeros}
+use Rattle.spec_format.specs.Address.{block_size}
+use Rattle.spec_format.specs.Headers.{empty_of, allocations_of, max_entries_of, block_magic, version}
+use Rattle.spec_format.specs.Claims.{has_claim, is_in_file, repeats}
+use Rattle.spec_format.specs.BlockFiles.{is_among, max_entries_in, stands_in}
+use Rattle.spec_format.specs.Maps.{is_block_marked, groups_with, groups_of, AreAllocations, EmptyAgrees}
 use Rattle.blk_disk.specs.declared.tables.BlockFiles.{BlockFiles}
 use Rattle.blk_disk.specs.Tables.{Agrees, Joins, files_of, all_files}
-use Rattle.blk_image.specs.Steps.{after}
-use Rattle.blk_image.proofs.Cuts.{after-append}
-use Rattle.blk_image.proofs.Images.{other-word, with_file-same}
+use Rattle.spec_image.specs.Steps.{after}
+use Rattle.spec_image.proofs.Cuts.{after-append}
+use Rattle.spec_image.proofs.Images.{other-word, with_file-same}
 use Rattle.blk_addr.specs.declared.kinds.Kind.{Kind}
 use Rattle.blk_addr.specs.Kind.{kind_number}
 use Rattle.blk_disk.specs.Growth.{IsLeastFileNumber, free_number, last_file, add_steps, file_steps, link_steps}
 use Rattle.blk_disk.proofs.Joined.{among_kinds, by_kind, last_apart}
 use Rattle.blk_disk.proofs.Additions.{new_header, made_is}
-use Rattle.blk_format.proofs.SpareHeaders.{other_file}
-use Rattle.blk_format.proofs.Among.{is_among_more}
+use Rattle.spec_format.proofs.SpareHeaders.{other_file}
+use Rattle.spec_format.proofs.Among.{is_among_more}
 use Rattle.blk_alloc.specs.Extending.{HasCounters, HasNoHints, KeepsFiles}
 use Rattle.blk_alloc.proofs.Changing.{byte_beside}
 use Rattle.blk_alloc.proofs.Kept.{apart, join_larger, kinds_kept}

@@ -2,7 +2,7 @@
 use Rattle.std.proofs.Common.{◌≡◌, ◌≢◌, ℕ, ◌+◌, ◌%◌, ◌≤◌, Bool, true, false, if◌then◌else◌, ◌∙◌, ap, arith}
 use Rattle.std.specs.Prelude.{◌==◌}
 use Rattle.std.proofs.lemmas.Bool.Decides.{nat_tests}
-use Rattle.blk_format.specs.Address.{kind_of, external, external_number, file_selector, first_block, block_count, is_address, names_blocks, names_external}
+use Rattle.spec_format.specs.Address.{kind_of, external, external_number, file_selector, first_block, block_count, is_address, names_blocks, names_external}
 use Rattle.blk_addr.specs.declared.file_id.FileId.TheVariants.{External, Block}
 use Rattle.blk_addr.specs.FileId.{file_of_word}
 

@@ -1,15 +1,15 @@
 -- A header whose map and counters are those of claims already.
 use Rattle.std.proofs.Common.{◌≡◌, ℕ, zero, suc, ◌+◌, ◌*◌, ◌<◌, ◌≤◌, List, [], ◌∷◌, refl, sym, ◌∙◌, ap, arith}
 use Rattle.std.specs.Prelude.{slice_index}
-use Rattle.blk_image.specs.Bytes.{content, range_at, word_at}
-use Rattle.blk_image.specs.Image.{Image, Block, byte}
+use Rattle.spec_image.specs.Bytes.{content, range_at, word_at}
+use Rattle.spec_image.specs.Image.{Image, Block, byte}
 use Rattle.blk_addr.specs.Bits.{has_bit}
 use Rattle.blk_addr.specs.Claims.{allocations_in}
 use Rattle.blk_addr.specs.declared.claim_set.Claims.{Claims}
-use Rattle.blk_format.specs.BlockFiles.{max_entries_in}
-use Rattle.blk_format.specs.Maps.{EmptyAgrees, groups_of, groups_with, is_block_marked}
+use Rattle.spec_format.specs.BlockFiles.{max_entries_in}
+use Rattle.spec_format.specs.Maps.{EmptyAgrees, groups_of, groups_with, is_block_marked}
 use Rattle.blk_alloc.specs.Rebuilding.{AreBitsOf, HasMarksOf, HasTheseCounters}
-use Rattle.blk_format.proofs.Groups.{groups_same}
+use Rattle.spec_format.proofs.Groups.{groups_same}
 use Rattle.blk_alloc.proofs.Headers.{bit_read, field_read}
 
 pub zeros_at : (i : ℕ) → i < 4 → slice_index (0 ∷ 0 ∷ 0 ∷ 0 ∷ []) i ≡ 0

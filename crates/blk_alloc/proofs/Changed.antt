@@ -5,24 +5,24 @@ use Rattle.std.specs.List.{count_by, range_with_len}
 use Rattle.std.specs.Int.{bit_at}
 use Rattle.std.proofs.lemmas.Bool.{cases_eq, cases_lt}
 use Rattle.std.proofs.lemmas.Bool.Decides.{nat_tests}
-use Rattle.blk_image.specs.Bytes.{content, word_bytes}
-use Rattle.blk_image.specs.Image.{length_of, Image, File, Block, byte, bytes_of}
-use Rattle.blk_image.specs.Steps.{after, word_steps, with_word, with_words}
-use Rattle.blk_image.specs.Footprint.{SameOutside}
-use Rattle.blk_image.proofs.Words.{word-beside, word-there, length-with_word}
-use Rattle.blk_image.proofs.Footprints.{same_word_outside}
+use Rattle.spec_image.specs.Bytes.{content, word_bytes}
+use Rattle.spec_image.specs.Image.{length_of, Image, File, Block, byte, bytes_of}
+use Rattle.spec_image.specs.Steps.{after, word_steps, with_word, with_words}
+use Rattle.spec_image.specs.Footprint.{SameOutside}
+use Rattle.spec_image.proofs.Words.{word-beside, word-there, length-with_word}
+use Rattle.spec_image.proofs.Footprints.{same_word_outside}
 use Rattle.std.specs.Option.{ForSome}
-use Rattle.blk_image.specs.Told.{Told, Applies, AppliesPrefix, PassesTo, Until}
-use Rattle.blk_image.proofs.Runs.{passes_part, some_inj, told_whole}
-use Rattle.blk_image.proofs.WordSteps.{quiet-word_steps}
-use Rattle.blk_format.specs.Headers.{allocations_of, empty_of, updating_of}
-use Rattle.blk_format.specs.Maps.{is_block_marked, longest_run, groups_with, groups_of, EmptyAgrees}
-use Rattle.blk_format.specs.BlockFiles.{max_entries_in, most_blocks}
+use Rattle.spec_image.specs.Told.{Told, Applies, AppliesPrefix, PassesTo, Until}
+use Rattle.spec_image.proofs.Runs.{passes_part, some_inj, told_whole}
+use Rattle.spec_image.proofs.WordSteps.{quiet-word_steps}
+use Rattle.spec_format.specs.Headers.{allocations_of, empty_of, updating_of}
+use Rattle.spec_format.specs.Maps.{is_block_marked, longest_run, groups_with, groups_of, EmptyAgrees}
+use Rattle.spec_format.specs.BlockFiles.{max_entries_in, most_blocks}
 use Rattle.blk_addr.specs.Bits.{has_bit, is_between}
 use Rattle.blk_alloc.specs.declared.plan.Plan.{Plan}
 use Rattle.blk_alloc.specs.Counting.{counted}
 use Rattle.blk_alloc.specs.Changes.{map_of, plan_words, with_marks, HasBlocks, IsPlan, IsMapInProgress, IsChanged}
-use Rattle.blk_format.proofs.Groups.{longest_run-same, count-changed, one}
+use Rattle.spec_format.proofs.Groups.{longest_run-same, count-changed, one}
 use Rattle.blk_alloc.proofs.Changing.{bytes_after, byte_beside, byte_there, ended, ended_is, ended_same, plan_until}
 
 -- blocks that are marked or freed lie in one word of the map

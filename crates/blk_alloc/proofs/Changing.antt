@@ -1,20 +1,20 @@
 -- What the words of a plan do to the files.
 use Rattle.std.proofs.Common.{◌≡◌, ℕ, ◌+◌, ◌<◌, ◌≤◌, ◌⊎◌, inl, inr, List, [], ◌∷◌, length, true, false, refl, sym, ◌∙◌, ap, subst, arith, lit<}
 use Rattle.std.specs.Prelude.{slice_index}
-use Rattle.blk_image.specs.Bytes.{content, word_at, word_bytes}
-use Rattle.blk_image.specs.Image.{Image, File, Block, bytes_of, length_of}
-use Rattle.blk_image.specs.Steps.{Word, applied, after, word_step, word_steps, with_word, with_words}
-use Rattle.blk_image.specs.Told.{Until}
-use Rattle.blk_image.specs.Footprint.{Footprint, SameOutside, IsWithin, either, nothing, one_word, range, touched_by_all}
-use Rattle.blk_image.proofs.Splices.{content-spliced_inside, content-spliced_outside}
-use Rattle.blk_image.proofs.Words.{word-beside, word-there}
-use Rattle.blk_image.proofs.Images.{bytes_of-written}
-use Rattle.blk_image.proofs.Footprints.{outside-refl, outside-trans, outside_wider, outside_steps, outside_write, within_left, within_right, within_both, range_within}
-use Rattle.blk_image.proofs.Runs.{until_both, until_weaker2, until-append, until_last}
-use Rattle.blk_image.proofs.WordSteps.{along_over, StaysOver}
+use Rattle.spec_image.specs.Bytes.{content, word_at, word_bytes}
+use Rattle.spec_image.specs.Image.{Image, File, Block, bytes_of, length_of}
+use Rattle.spec_image.specs.Steps.{Word, applied, after, word_step, word_steps, with_word, with_words}
+use Rattle.spec_image.specs.Told.{Until}
+use Rattle.spec_image.specs.Footprint.{Footprint, SameOutside, IsWithin, either, nothing, one_word, range, touched_by_all}
+use Rattle.spec_image.proofs.Splices.{content-spliced_inside, content-spliced_outside}
+use Rattle.spec_image.proofs.Words.{word-beside, word-there}
+use Rattle.spec_image.proofs.Images.{bytes_of-written}
+use Rattle.spec_image.proofs.Footprints.{outside-refl, outside-trans, outside_wider, outside_steps, outside_write, within_left, within_right, within_both, range_within}
+use Rattle.spec_image.proofs.Runs.{until_both, until_weaker2, until-append, until_last}
+use Rattle.spec_image.proofs.WordSteps.{along_over, StaysOver}
 use Rattle.blk_alloc.specs.declared.plan.Plan.{Plan}
 use Rattle.blk_alloc.specs.Changes.{map_of, plan_words, IsMapInProgress}
-use Rattle.blk_format.proofs.Groups.{one}
+use Rattle.spec_format.proofs.Groups.{one}
 
 -- one within another within a third
 pub within-trans : (F G H : Footprint) → IsWithin F G → IsWithin G H → IsWithin F H

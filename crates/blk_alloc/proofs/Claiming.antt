@@ -2,8 +2,8 @@
 use Rattle.std.proofs.Common.{◌≡◌, ℕ, zero, suc, ◌+◌, ◌≤◌, Bool, refl, ◌∙◌, ap, arith}
 use Rattle.std.specs.Prelude.{◌==◌}
 use Rattle.std.specs.List.{count_by, range_with_len}
-use Rattle.blk_format.specs.Maps.{longest_run, groups_with}
-use Rattle.blk_format.proofs.Groups.{first_counted, counted_most, one}
+use Rattle.spec_format.specs.Maps.{longest_run, groups_with}
+use Rattle.spec_format.proofs.Groups.{first_counted, counted_most, one}
 
 -- one number more is counted
 count-more : (p : ℕ → Bool) (s n : ℕ) → count_by p (range_with_len s (n + 1)) ≡ count_by p (range_with_len s n) + one (p (s + n))

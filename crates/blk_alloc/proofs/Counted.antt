@@ -2,14 +2,14 @@
 use Rattle.std.proofs.Common.{◌≡◌, ℕ, ◌+◌, ◌<◌, ◌≤◌, List, [], ◌∷◌, Bool, true, false, ◌&&◌, ◌||◌, nat_le, nat_lt, refl, arith}
 use Rattle.std.specs.Option.{ForSome}
 use Rattle.std.proofs.lemmas.Bool.Decides.{nat_tests}
-use Rattle.blk_image.specs.Bytes.{word_bytes}
-use Rattle.blk_image.specs.Image.{Image, File, Block, byte, length_of, same_file}
-use Rattle.blk_image.specs.Steps.{Word, after, word_step, word_steps}
-use Rattle.blk_image.specs.Footprint.{Footprint, SameOutside, IsWithin, either, nothing, one_word, range, touched_by_all}
-use Rattle.blk_image.specs.Told.{Told, Applies, Until}
-use Rattle.blk_image.proofs.Footprints.{outside-refl, outside_steps, outside_write, within_left, within_right, within_both, range_within, same_word_outside}
-use Rattle.blk_image.proofs.Runs.{until_last, told_whole}
-use Rattle.blk_format.specs.Headers.{updating_of}
+use Rattle.spec_image.specs.Bytes.{word_bytes}
+use Rattle.spec_image.specs.Image.{Image, File, Block, byte, length_of, same_file}
+use Rattle.spec_image.specs.Steps.{Word, after, word_step, word_steps}
+use Rattle.spec_image.specs.Footprint.{Footprint, SameOutside, IsWithin, either, nothing, one_word, range, touched_by_all}
+use Rattle.spec_image.specs.Told.{Told, Applies, Until}
+use Rattle.spec_image.proofs.Footprints.{outside-refl, outside_steps, outside_write, within_left, within_right, within_both, range_within, same_word_outside}
+use Rattle.spec_image.proofs.Runs.{until_last, told_whole}
+use Rattle.spec_format.specs.Headers.{updating_of}
 use Rattle.blk_alloc.specs.Changes.{map_of}
 use Rattle.blk_alloc.specs.Rebuilding.{counts_of}
 use Rattle.blk_alloc.proofs.Changing.{nothing_within, within-trans}

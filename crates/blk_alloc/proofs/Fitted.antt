@@ -1,8 +1,8 @@
 -- Files that are lengthened to their blocks, one after another.
 use Rattle.std.proofs.Common.{◌≡◌, ◌≢◌, ℕ, ◌+◌, ◌*◌, ◌<◌, ◌≤◌, List, true, false, max, refl, sym, ◌∙◌, ap, ap₂, subst, arith, ⊎_elim}
 use Rattle.std.proofs.lemmas.Bool.{cases_eq, cases_lt}
-use Rattle.blk_format.specs.Address.{header_size}
-use Rattle.blk_format.specs.BlockFiles.{is_among, kind_among}
+use Rattle.spec_format.specs.Address.{header_size}
+use Rattle.spec_format.specs.BlockFiles.{is_among, kind_among}
 use Rattle.blk_disk.specs.declared.tables.BlockFiles.{BlockFiles}
 use Rattle.blk_disk.specs.Tables.{files_of, all_files, blocks_of, length_in, Resizes}
 use Rattle.blk_disk.specs.Growth.{size_as, whole_length}

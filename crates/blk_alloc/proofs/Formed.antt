@@ -2,18 +2,18 @@
 use Rattle.std.proofs.Common.{◌≡◌, ◌≢◌, ℕ, ◌+◌, ◌-◌, ◌*◌, ◌<◌, ◌≤◌, ◌⊎◌, inl, inr, List, [], Bool, true, false, ◌&&◌, ◌||◌, nat_le, nat_lt, Option, unwrap_or, refl, sym, ◌∙◌, ap, subst, arith}
 use Rattle.std.specs.List.{All}
 use Rattle.std.proofs.lemmas.Bool.Decides.{nat_tests}
-use Rattle.blk_image.specs.Bytes.{content}
-use Rattle.blk_image.specs.Image.{Image, Index, Block, External, same_file, byte}
-use Rattle.blk_image.specs.Footprint.{SameOutside}
-use Rattle.blk_image.proofs.Footprints.{same_file_outside}
-use Rattle.blk_format.specs.Headers.{allocations_of}
-use Rattle.blk_format.specs.Standing.{stands}
-use Rattle.blk_format.specs.BlockFiles.{linked, kind_among, files_along, next_file_in, max_entries_in, is_block_count, stands_in, IsWellFormed}
-use Rattle.blk_format.specs.Maps.{is_block_marked, EmptyAgrees, KeepsFile}
+use Rattle.spec_image.specs.Bytes.{content}
+use Rattle.spec_image.specs.Image.{Image, Index, Block, External, same_file, byte}
+use Rattle.spec_image.specs.Footprint.{SameOutside}
+use Rattle.spec_image.proofs.Footprints.{same_file_outside}
+use Rattle.spec_format.specs.Headers.{allocations_of}
+use Rattle.spec_format.specs.Standing.{stands}
+use Rattle.spec_format.specs.BlockFiles.{linked, kind_among, files_along, next_file_in, max_entries_in, is_block_count, stands_in, IsWellFormed}
+use Rattle.spec_format.specs.Maps.{is_block_marked, EmptyAgrees, KeepsFile}
 use Rattle.blk_disk.specs.declared.tables.BlockFiles.{BlockFiles}
 use Rattle.blk_disk.specs.Tables.{Agrees}
-use Rattle.blk_format.proofs.SpareHeaders.{other_file}
-use Rattle.blk_format.proofs.Keeping.{KeepsHead, undamaged_still}
+use Rattle.spec_format.proofs.SpareHeaders.{other_file}
+use Rattle.spec_format.proofs.Keeping.{KeepsHead, undamaged_still}
 use Rattle.blk_disk.proofs.Enlarging.{well_formed_still}
 use Rattle.blk_alloc.specs.Changes.{map_of}
 

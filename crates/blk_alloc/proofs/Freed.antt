@@ -5,17 +5,17 @@ use Rattle.std.specs.List.{All}
 use Rattle.std.proofs.lemmas.List.Elements.{All-filter}
 use Rattle.std.proofs.lemmas.Bool.{cases_eq, and_parts, leb-true}
 use Rattle.std.proofs.lemmas.Bool.Decides.{nat_tests}
-use Rattle.blk_image.specs.Image.{Image, Block, length_of}
-use Rattle.blk_format.specs.Address.{kind_of, external, file_selector, first_block, block_count, place, byte_size}
-use Rattle.blk_format.specs.Claims.{BlockOf, is_in_file}
-use Rattle.blk_format.specs.BlockFiles.{is_among, kind_among, stands_in, most_blocks, first_block_damage}
-use Rattle.blk_format.specs.Growth.{StaysWhole}
-use Rattle.blk_format.specs.Maps.{is_block_marked, AreAllocations}
+use Rattle.spec_image.specs.Image.{Image, Block, length_of}
+use Rattle.spec_format.specs.Address.{kind_of, external, file_selector, first_block, block_count, place, byte_size}
+use Rattle.spec_format.specs.Claims.{BlockOf, is_in_file}
+use Rattle.spec_format.specs.BlockFiles.{is_among, kind_among, stands_in, most_blocks, first_block_damage}
+use Rattle.spec_format.specs.Growth.{StaysWhole}
+use Rattle.spec_format.specs.Maps.{is_block_marked, AreAllocations}
 use Rattle.blk_addr.specs.Bits.{is_between}
 use Rattle.blk_alloc.specs.Changes.{map_of, with_marks, HasBlocks, CanChangeMarks, IsChanged}
 use Rattle.blk_alloc.specs.Owning.{is_of, others, CanBeFreed, IsAllocated, IsFreed}
 use Rattle.blk_alloc.proofs.Lists.{IsBlocks, LeavesOut, leaves_out, claims_blocks}
-use Rattle.blk_format.proofs.LinkedHeads.{HasHead, linked_checked, count_whole}
+use Rattle.spec_format.proofs.LinkedHeads.{HasHead, linked_checked, count_whole}
 use Rattle.blk_alloc.proofs.Formed.{stands_kept, other_kept, file_kept}
 use Rattle.blk_alloc.proofs.Standing.{StandsHere, stands_here, all_among}
 use Rattle.blk_disk.proofs.WholeHeaders.{all_head}
@@ -23,8 +23,8 @@ use Rattle.blk_alloc.proofs.Sparing.{formed_spared, grown_spared, map_spares}
 use Rattle.blk_disk.proofs.Ranges.{stands_linked}
 use Rattle.blk_disk.specs.declared.tables.BlockFiles.{BlockFiles}
 use Rattle.blk_disk.specs.Tables.{Agrees, all_files, blocks_of, files_of, length_in, stands_among}
-use Rattle.blk_format.specs.Standing.{is_linked_as, stands_as_blocks}
-use Rattle.blk_image.specs.Footprint.{SameOutside}
+use Rattle.spec_format.specs.Standing.{is_linked_as, stands_as_blocks}
+use Rattle.spec_image.specs.Footprint.{SameOutside}
 
 some_there : (words : List ℕ) (w : ℕ) → is_among words w ≡ true → 0 < length words
 some_there [] w among = absurd (clash among)

@@ -6,17 +6,17 @@ use Rattle.std.proofs.lemmas.Grind.{common_steps}
 use Rattle.std.proofs.lemmas.Bool.{cases_eq}
 use Rattle.std.proofs.lemmas.Bool.Decides.{nat_tests}
 use Rattle.std.proofs.lemmas.List.Elements.{All-head, All-tail}
-use Rattle.blk_image.specs.Image.{Image, byte, Block}
-use Rattle.blk_format.specs.Address.{first_block, block_count}
-use Rattle.blk_format.specs.Claims.{BlockOf, claims_of, claims_of_all, has_claim, is_in_file}
-use Rattle.blk_format.specs.Headers.{allocations_of}
-use Rattle.blk_format.specs.BlockFiles.{max_entries_in, stands_in, most_blocks}
-use Rattle.blk_format.specs.Maps.{is_block_marked, are_free, groups_of, AreAllocations}
+use Rattle.spec_image.specs.Image.{Image, byte, Block}
+use Rattle.spec_format.specs.Address.{first_block, block_count}
+use Rattle.spec_format.specs.Claims.{BlockOf, claims_of, claims_of_all, has_claim, is_in_file}
+use Rattle.spec_format.specs.Headers.{allocations_of}
+use Rattle.spec_format.specs.BlockFiles.{max_entries_in, stands_in, most_blocks}
+use Rattle.spec_format.specs.Maps.{is_block_marked, are_free, groups_of, AreAllocations}
 use Rattle.blk_addr.proofs.ClaimLemmas.{has_claim-append}
 use Rattle.blk_alloc.specs.Owning.{is_of}
 use Rattle.blk_alloc.specs.Places.{is_place}
 use Rattle.blk_alloc.proofs.Addresses.{in_group}
-use Rattle.blk_format.proofs.Groups.{first_counted, one}
+use Rattle.spec_format.proofs.Groups.{first_counted, one}
 use Rattle.blk_alloc.proofs.Growing.{count-all, count-none, in_file}
 use Rattle.blk_alloc.proofs.Lists.{claims_blocks}
 use Rattle.blk_alloc.proofs.Standing.{StandsHere, stands_here}

@@ -4,21 +4,21 @@ use Rattle.std.specs.Prelude.{◌==◌}
 use Rattle.std.specs.List.{All, count_by, range_with_len}
 use Rattle.std.proofs.lemmas.Bool.{cases_lt}
 use Rattle.std.proofs.lemmas.Bool.Decides.{nat_tests}
-use Rattle.blk_image.specs.Image.{Image, Block, External, same_file, byte}
-use Rattle.blk_image.specs.Footprint.{SameOutside}
-use Rattle.blk_image.proofs.Footprints.{same_word_outside}
-use Rattle.blk_format.specs.Address.{file_selector, first_block, block_count, kind_of, external}
-use Rattle.blk_format.specs.Claims.{BlockOf, claims_of, claims_of_all, has_claim, is_in_file}
-use Rattle.blk_format.specs.Headers.{empty_of}
-use Rattle.blk_format.specs.BlockFiles.{is_among, max_entries_in, stands_in, most_blocks}
-use Rattle.blk_format.specs.Maps.{is_block_marked, are_free, has_run, longest_run, groups_with, groups_of, AreAllocations, EmptyAgrees}
+use Rattle.spec_image.specs.Image.{Image, Block, External, same_file, byte}
+use Rattle.spec_image.specs.Footprint.{SameOutside}
+use Rattle.spec_image.proofs.Footprints.{same_word_outside}
+use Rattle.spec_format.specs.Address.{file_selector, first_block, block_count, kind_of, external}
+use Rattle.spec_format.specs.Claims.{BlockOf, claims_of, claims_of_all, has_claim, is_in_file}
+use Rattle.spec_format.specs.Headers.{empty_of}
+use Rattle.spec_format.specs.BlockFiles.{is_among, max_entries_in, stands_in, most_blocks}
+use Rattle.spec_format.specs.Maps.{is_block_marked, are_free, has_run, longest_run, groups_with, groups_of, AreAllocations, EmptyAgrees}
 use Rattle.blk_disk.specs.declared.tables.BlockFiles.{BlockFiles}
 use Rattle.blk_disk.specs.Tables.{Agrees, Enlarges, all_files, blocks_of, length_in}
 use Rattle.blk_disk.specs.Growth.{grown, new_groups, grown_length, growth_of, raised}
 use Rattle.blk_addr.proofs.ClaimLemmas.{has_claim-append}
 use Rattle.std.proofs.lemmas.List.Elements.{All-head, All-tail}
 use Rattle.blk_alloc.specs.Owning.{is_of}
-use Rattle.blk_format.proofs.Groups.{longest_run-same, count-same, counted_most, first_counted, one}
+use Rattle.spec_format.proofs.Groups.{longest_run-same, count-same, counted_most, first_counted, one}
 use Rattle.blk_alloc.proofs.Lists.{claims_blocks}
 use Rattle.blk_alloc.proofs.Standing.{StandsHere, stands_here}
 use Rattle.blk_alloc.proofs.Kept.{grow_larger}

@@ -2,25 +2,25 @@
 use Rattle.std.proofs.Common.{◌≡◌, ℕ, zero, suc, ◌+◌, ◌%◌, ◌<◌, ◌≤◌, inr, List, [], ◌∷◌, max, Bool, true, false, ◌&&◌, ◌||◌, not, Option, refl, sym, ◌∙◌, ap, ap₂, subst, arith, ⊎_elim}
 use Rattle.std.specs.List.{list_all, range_with_len}
 use Rattle.std.proofs.lemmas.Bool.{cases_eq}
-use Rattle.blk_image.specs.Bytes.{content, word_at}
-use Rattle.blk_image.specs.Image.{Image, Block, same_file, byte, bytes_of, length_of}
-use Rattle.blk_image.specs.Steps.{after, word_steps, with_word}
-use Rattle.blk_image.specs.Footprint.{SameOutside}
-use Rattle.blk_image.proofs.Cuts.{after-append}
-use Rattle.blk_image.proofs.Footprints.{same_file_outside}
-use Rattle.blk_image.proofs.Words.{word-beside, word-there}
-use Rattle.blk_format.specs.Headers.{empty_of}
-use Rattle.blk_format.specs.BlockFiles.{is_among, max_entries_in, most_blocks}
-use Rattle.blk_format.specs.Maps.{is_block_marked, are_free, EmptyAgrees}
+use Rattle.spec_image.specs.Bytes.{content, word_at}
+use Rattle.spec_image.specs.Image.{Image, Block, same_file, byte, bytes_of, length_of}
+use Rattle.spec_image.specs.Steps.{after, word_steps, with_word}
+use Rattle.spec_image.specs.Footprint.{SameOutside}
+use Rattle.spec_image.proofs.Cuts.{after-append}
+use Rattle.spec_image.proofs.Footprints.{same_file_outside}
+use Rattle.spec_image.proofs.Words.{word-beside, word-there}
+use Rattle.spec_format.specs.Headers.{empty_of}
+use Rattle.spec_format.specs.BlockFiles.{is_among, max_entries_in, most_blocks}
+use Rattle.spec_format.specs.Maps.{is_block_marked, are_free, EmptyAgrees}
 use Rattle.blk_disk.specs.declared.tables.BlockFiles.{BlockFiles}
 use Rattle.blk_disk.specs.Tables.{Agrees, Enlarges, all_files, blocks_of, length_in}
 use Rattle.blk_disk.specs.Growth.{grown, new_groups, grown_length, growth_of, grow_steps, lengthen_steps, raised}
-use Rattle.blk_format.proofs.SpareHeaders.{other_file}
+use Rattle.spec_format.proofs.SpareHeaders.{other_file}
 use Rattle.blk_disk.proofs.Enlarging.{long_room}
 use Rattle.blk_alloc.specs.Extending.{HasCounters, KeepsFiles}
 use Rattle.blk_alloc.specs.Changes.{CanChangeMarks}
 use Rattle.blk_alloc.proofs.Changing.{bytes_after}
-use Rattle.blk_format.proofs.LinkedHeads.{HasHead, count_whole}
+use Rattle.spec_format.proofs.LinkedHeads.{HasHead, count_whole}
 use Rattle.blk_alloc.proofs.Growing.{grow_widens, grown_empty, new_free}
 use Rattle.blk_alloc.proofs.Widening.{allocations_more}
 

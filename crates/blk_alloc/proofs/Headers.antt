@@ -2,9 +2,9 @@
 use Rattle.std.proofs.Common.{◌≡◌, ℕ, ◌+◌, ◌*◌, ◌/◌, ◌%◌, ◌<◌, ◌≤◌, ap₂, arith}
 use Rattle.std.specs.Prelude.{◌==◌}
 use Rattle.std.specs.Int.{bit_at}
-use Rattle.blk_image.specs.Bytes.{content, word_at, range_at}
-use Rattle.blk_image.proofs.Words.{same-word, content-range}
-use Rattle.blk_format.specs.SparseIndex.{map_bit}
+use Rattle.spec_image.specs.Bytes.{content, word_at, range_at}
+use Rattle.spec_image.proofs.Words.{same-word, content-range}
+use Rattle.spec_format.specs.SparseIndex.{map_bit}
 use Rattle.blk_addr.specs.Bits.{has_bit}
 
 -- a word of the fields

@@ -6,10 +6,10 @@ use Rattle.std.proofs.lemmas.Bool.{cases_lt}
 use Rattle.std.proofs.lemmas.Bool.Decides.{nat_tests}
 use Rattle.std.proofs.lemmas.List.Elements.{All-head, All-tail}
 use Rattle.std.proofs.Math.Nat.{mod-eq_of_lt}
-use Rattle.blk_image.specs.Image.{Block, Image, byte}
-use Rattle.blk_format.specs.BlockFiles.{is_among}
-use Rattle.blk_format.specs.Headers.{hints_of}
-use Rattle.blk_format.specs.Maps.{is_block_marked, longest_run}
+use Rattle.spec_image.specs.Image.{Block, Image, byte}
+use Rattle.spec_format.specs.BlockFiles.{is_among}
+use Rattle.spec_format.specs.Headers.{hints_of}
+use Rattle.spec_format.specs.Maps.{is_block_marked, longest_run}
 use Rattle.blk_alloc.specs.Fitting.{HasNoRoom, IsByHint, IsFirstMet, IsLeastOfGroup, IsSought}
 use Rattle.blk_alloc.proofs.Growing.{free_group}
 use Rattle.blk_alloc.proofs.Grown.{free_all}

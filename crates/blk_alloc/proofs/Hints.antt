@@ -1,18 +1,18 @@
 -- The hints of a header: what keeps them, and how one is set.
 use Rattle.std.proofs.Common.{◌≡◌, ℕ, ◌≢◌, ◌+◌, ◌*◌, ◌^◌, ◌<◌, ◌≤◌, List, [], ◌∷◌, Bool, true, false, ◌&&◌, ◌||◌, nat_le, nat_lt, refl, sym, ◌∙◌, ap, subst, arith}
 use Rattle.std.proofs.lemmas.Bool.Decides.{nat_tests}
-use Rattle.blk_image.specs.Image.{Image, Block, byte, bytes_of, length_of, same_file}
-use Rattle.blk_image.specs.Footprint.{Footprint, SameOutside, one_word, size_of}
-use Rattle.blk_image.proofs.Footprints.{outside-refl, outside_write, same_word_outside}
-use Rattle.blk_image.proofs.Runs.{passes_part, some_inj}
-use Rattle.blk_image.proofs.Words.{word-there}
-use Rattle.blk_image.proofs.WordSteps.{quiet-word_step, until_word}
-use Rattle.blk_image.specs.Bytes.{content, word_at, word_bytes}
-use Rattle.blk_image.specs.Steps.{after, word_step}
-use Rattle.blk_image.specs.Told.{Told, Applies, AppliesPrefix, Passes, Until}
+use Rattle.spec_image.specs.Image.{Image, Block, byte, bytes_of, length_of, same_file}
+use Rattle.spec_image.specs.Footprint.{Footprint, SameOutside, one_word, size_of}
+use Rattle.spec_image.proofs.Footprints.{outside-refl, outside_write, same_word_outside}
+use Rattle.spec_image.proofs.Runs.{passes_part, some_inj}
+use Rattle.spec_image.proofs.Words.{word-there}
+use Rattle.spec_image.proofs.WordSteps.{quiet-word_step, until_word}
+use Rattle.spec_image.specs.Bytes.{content, word_at, word_bytes}
+use Rattle.spec_image.specs.Steps.{after, word_step}
+use Rattle.spec_image.specs.Told.{Told, Applies, AppliesPrefix, Passes, Until}
 use Rattle.std.specs.Option.{ForSome, option_map}
-use Rattle.blk_format.specs.Headers.{hints_of}
-use Rattle.blk_format.proofs.SpareHeaders.{other_file}
+use Rattle.spec_format.specs.Headers.{hints_of}
+use Rattle.spec_format.proofs.SpareHeaders.{other_file}
 use Rattle.blk_disk.specs.declared.tables.BlockFiles.{BlockFiles}
 use Rattle.blk_disk.specs.Growth.{addition_of, free_number, growth_of, last_file}
 use Rattle.blk_alloc.specs.Extending.{HasNoHints}

@@ -3,10 +3,10 @@ use Rattle.std.proofs.Common.{◌≡◌, ◌≢◌, ℕ, ◌+◌, ◌<◌, ◌�
 use Rattle.std.specs.Prelude.{◌==◌}
 use Rattle.std.proofs.lemmas.Bool.{cases_eq}
 use Rattle.std.proofs.lemmas.Bool.Decides.{nat_tests}
-use Rattle.blk_format.specs.Address.{kind_of, file_selector, first_block, block_count, place, byte_size}
-use Rattle.blk_format.specs.Standing.{is_linked_as, stands_as_blocks}
-use Rattle.blk_format.specs.BlockFiles.{is_among, kind_among, most_blocks}
-use Rattle.blk_format.proofs.Among.{is_among_more}
+use Rattle.spec_format.specs.Address.{kind_of, file_selector, first_block, block_count, place, byte_size}
+use Rattle.spec_format.specs.Standing.{is_linked_as, stands_as_blocks}
+use Rattle.spec_format.specs.BlockFiles.{is_among, kind_among, most_blocks}
+use Rattle.spec_format.proofs.Among.{is_among_more}
 use Rattle.blk_disk.specs.declared.tables.BlockFiles.{BlockFiles}
 use Rattle.blk_disk.specs.Tables.{Enlarges, Joins, Resizes, files_of, all_files, blocks_of, length_in, stands_among}
 use Rattle.blk_disk.specs.Growth.{grown, grown_length}

@@ -3,8 +3,8 @@ use Rattle.std.proofs.Common.{◌≡◌, ◌≢◌, ⊎_elim, ℕ, ◌+◌, ◌*
 use Rattle.std.specs.Prelude.{◌||◌, IfOk}
 use Rattle.std.proofs.lemmas.Bool.Decides.{eqb_tells}
 use Rattle.std.proofs.Math.Dec.{eqb}
-use Rattle.blk_format.specs.BlockFiles.{is_among, kind_among}
-use Rattle.blk_format.proofs.Among.{is_among_more}
+use Rattle.spec_format.specs.BlockFiles.{is_among, kind_among}
+use Rattle.spec_format.proofs.Among.{is_among_more}
 use Rattle.blk_disk.specs.declared.tables.BlockFiles.{BlockFiles}
 use Rattle.blk_disk.specs.Tables.{Joins, Resizes, blocks_of, files_of, length_in}
 use Rattle.blk_disk.specs.Growth.{size_as, whole_length}

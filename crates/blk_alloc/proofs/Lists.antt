@@ -4,9 +4,9 @@ use Rattle.std.specs.Prelude.{◌==◌, not, filter}
 use Rattle.std.specs.List.{list_any}
 use Rattle.std.proofs.lemmas.Grind.{common_steps}
 use Rattle.std.proofs.lemmas.Bool.Decides.{nat_tests}
-use Rattle.blk_format.specs.Address.{kind_of, external, file_selector, first_block, block_count}
-use Rattle.blk_format.specs.Claims.{Claim, BlockOf, ExternalOf, same_claim, claims_of, claims_of_all, has_claim, repeats}
-use Rattle.blk_format.specs.BlockFiles.{is_among}
+use Rattle.spec_format.specs.Address.{kind_of, external, file_selector, first_block, block_count}
+use Rattle.spec_format.specs.Claims.{Claim, BlockOf, ExternalOf, same_claim, claims_of, claims_of_all, has_claim, repeats}
+use Rattle.spec_format.specs.BlockFiles.{is_among}
 use Rattle.blk_addr.specs.Bits.{is_between}
 use Rattle.blk_addr.proofs.ClaimLemmas.{has_claim-append, has_claim-blocks, has_claim-no-external, claims_of-blocks, repeats-append, repeats-claims_of}
 use Rattle.blk_addr.proofs.AddressFields.{block_count_above_0}

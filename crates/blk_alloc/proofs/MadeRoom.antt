@@ -1,12 +1,12 @@
 -- Blocks that are found in a file where room was made.
 use Rattle.std.proofs.Common.{◌≡◌, ◌≢◌, ◌⊎◌, inl, inr, ℕ, ◌/◌, ◌%◌, ◌<◌, ◌≤◌, [], Bool, true, false, refl, sym, ◌∙◌, ap, subst, arith, ⊎_elim}
 use Rattle.std.proofs.lemmas.Bool.{cases_eq}
-use Rattle.blk_image.specs.Image.{Block, Image, byte}
-use Rattle.blk_format.specs.Address.{external, file_selector, first_block}
-use Rattle.blk_format.specs.BlockFiles.{is_among}
-use Rattle.blk_format.specs.Claims.{has_claim}
-use Rattle.blk_format.specs.Headers.{hints_of}
-use Rattle.blk_format.specs.Maps.{groups_of, is_block_marked, AreAllocations, EmptyAgrees}
+use Rattle.spec_image.specs.Image.{Block, Image, byte}
+use Rattle.spec_format.specs.Address.{external, file_selector, first_block}
+use Rattle.spec_format.specs.BlockFiles.{is_among}
+use Rattle.spec_format.specs.Claims.{has_claim}
+use Rattle.spec_format.specs.Headers.{hints_of}
+use Rattle.spec_format.specs.Maps.{groups_of, is_block_marked, AreAllocations, EmptyAgrees}
 use Rattle.blk_addr.specs.declared.kinds.Kind.{Kind}
 use Rattle.blk_addr.specs.Kind.{kind_number}
 use Rattle.blk_disk.specs.declared.tables.BlockFiles.{BlockFiles}

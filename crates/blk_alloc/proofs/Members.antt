@@ -5,16 +5,16 @@ use Rattle.std.proofs.lemmas.Option.{get_or_from_slice_get, slice_get_cases}
 use Rattle.std.proofs.lemmas.List.{drop_more, take-append-drop}
 use Rattle.std.proofs.lemmas.List.Folds.{list_any_at}
 use Rattle.std.proofs.lemmas.Bool.Decides.{nat_tests}
-use Rattle.blk_image.specs.Image.{Image}
-use Rattle.blk_format.specs.Address.{is_block_kind, external}
-use Rattle.blk_format.specs.BlockFiles.{is_among}
+use Rattle.spec_image.specs.Image.{Image}
+use Rattle.spec_format.specs.Address.{is_block_kind, external}
+use Rattle.spec_format.specs.BlockFiles.{is_among}
 use Rattle.blk_addr.specs.declared.kinds.Kind.{Kind}
 use Rattle.blk_addr.specs.declared.kinds.Kind.TheVariants.{External, Rankings, B256, B1K, B4K}
 use Rattle.blk_addr.specs.Kind.{kind_number}
 use Rattle.blk_disk.specs.declared.tables.BlockFiles.{BlockFiles}
 use Rattle.blk_disk.specs.Tables.{Agrees, files_of, all_files}
 use Rattle.blk_disk.proofs.Joined.{among_kinds}
-use Rattle.blk_format.proofs.LinkedHeads.{HasHead, linked_checked}
+use Rattle.spec_format.proofs.LinkedHeads.{HasHead, linked_checked}
 
 pub kind_blocky : (k : Kind) → kind_number k ≢ external → is_block_kind (kind_number k) ≡ true
 kind_blocky External some = absurd (some refl)

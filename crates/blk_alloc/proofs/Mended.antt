@@ -4,15 +4,15 @@ use Rattle.std.specs.Prelude.{◌==◌, slice_index}
 use Rattle.std.specs.Int.{bit_at}
 use Rattle.std.proofs.lemmas.Bool.{cases_lt}
 use Rattle.std.proofs.lemmas.Bool.Decides.{nat_tests}
-use Rattle.blk_image.specs.Bytes.{content, word_at, word_bytes}
-use Rattle.blk_image.specs.Image.{Image, Block, byte, same_file, word}
-use Rattle.blk_image.specs.Footprint.{SameOutside, IsWithin, either, one_word, range}
-use Rattle.blk_image.proofs.Words.{content-range, same-word}
-use Rattle.blk_image.proofs.Footprints.{outside-refl, outside-trans, outside_wider, range_within, same_word_outside, within_both, within_left, within_right}
-use Rattle.blk_format.specs.Headers.{updating_of}
-use Rattle.blk_format.specs.BlockFiles.{max_entries_in}
-use Rattle.blk_format.specs.Maps.{is_block_marked, groups_of, groups_with, EmptyAgrees}
-use Rattle.blk_format.proofs.Groups.{groups_same}
+use Rattle.spec_image.specs.Bytes.{content, word_at, word_bytes}
+use Rattle.spec_image.specs.Image.{Image, Block, byte, same_file, word}
+use Rattle.spec_image.specs.Footprint.{SameOutside, IsWithin, either, one_word, range}
+use Rattle.spec_image.proofs.Words.{content-range, same-word}
+use Rattle.spec_image.proofs.Footprints.{outside-refl, outside-trans, outside_wider, range_within, same_word_outside, within_both, within_left, within_right}
+use Rattle.spec_format.specs.Headers.{updating_of}
+use Rattle.spec_format.specs.BlockFiles.{max_entries_in}
+use Rattle.spec_format.specs.Maps.{is_block_marked, groups_of, groups_with, EmptyAgrees}
+use Rattle.spec_format.proofs.Groups.{groups_same}
 use Rattle.blk_addr.specs.Bits.{has_bit}
 use Rattle.blk_addr.specs.Claims.{allocations_in}
 use Rattle.blk_addr.specs.declared.claim_set.Claims.{Claims}

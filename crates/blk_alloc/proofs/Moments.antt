@@ -2,12 +2,12 @@
 use Rattle.std.proofs.Common.{◌≡◌, ℕ, ◌≤◌, ◌<◌, Bool, true, false, ◌&&◌, ◌||◌, nat_le, nat_lt, refl, ◌⊎◌, inl, inr, arith, subst, ⊎_elim}
 use Rattle.std.specs.List.{All}
 use Rattle.std.proofs.lemmas.Bool.Decides.{nat_tests}
-use Rattle.blk_image.specs.Image.{Block, Image, byte, same_file}
-use Rattle.blk_image.specs.Footprint.{SameOutside, either}
-use Rattle.blk_image.proofs.Footprints.{outside-refl, same_word_outside}
-use Rattle.blk_format.specs.Growth.{StaysWhole, StaysWholeOutside}
-use Rattle.blk_format.specs.Headers.{allocations_of}
-use Rattle.blk_format.proofs.Growths.{whole_not, whole_then}
+use Rattle.spec_image.specs.Image.{Block, Image, byte, same_file}
+use Rattle.spec_image.specs.Footprint.{SameOutside, either}
+use Rattle.spec_image.proofs.Footprints.{outside-refl, same_word_outside}
+use Rattle.spec_format.specs.Growth.{StaysWhole, StaysWholeOutside}
+use Rattle.spec_format.specs.Headers.{allocations_of}
+use Rattle.spec_format.proofs.Growths.{whole_not, whole_then}
 use Rattle.blk_disk.specs.declared.tables.BlockFiles.{BlockFiles}
 use Rattle.blk_disk.specs.Tables.{files_of}
 use Rattle.blk_disk.specs.Growth.{addition_of, free_number, growth_of}
@@ -15,7 +15,7 @@ use Rattle.blk_alloc.specs.Extending.{HasMostBlocks, IsFirstGrowing}
 use Rattle.blk_alloc.specs.Marking.{MarksUsed, MarksUsedInProgress, taking_of}
 use Rattle.blk_alloc.specs.Allocating.{Allocates, ExtendsAnd, ExtendsAndAllocates, ExtendsInProgress, IsAddedPlace, IsGrownPlace, MakesRoomInProgress, updating_word}
 use Rattle.blk_alloc.specs.declared.blocks.Blocks.{Blocks}
-use Rattle.blk_format.specs.Address.{block_word, file_selector}
+use Rattle.spec_format.specs.Address.{block_word, file_selector}
 use Rattle.blk_alloc.proofs.Staying.{taking_whole}
 use Rattle.blk_alloc.proofs.Taken.{quiet_of}
 use Rattle.blk_alloc.proofs.Rooms.{room_added, room_begun, room_grown, room_marked}

@@ -3,17 +3,17 @@ use Rattle.std.proofs.Common.{◌≡◌, take, drop, ℕ, zero, suc, ◌+◌, �
 use Rattle.std.specs.Option.{ForSome, option_map}
 use Rattle.std.proofs.lemmas.Bool.{cases_lt}
 use Rattle.std.proofs.lemmas.Bool.Decides.{nat_tests}
-use Rattle.blk_image.specs.Bytes.{content, range_at}
-use Rattle.blk_image.specs.Image.{Image, File, byte, bytes_of, length_of, same_file}
-use Rattle.blk_image.specs.Steps.{TrailStep, Word, applied, after, words}
-use Rattle.blk_image.specs.Footprint.{SameOutside, range}
-use Rattle.blk_image.specs.Told.{Told, Along, AppliesPrefix, IsQuiet, PassesTo, Until}
-use Rattle.blk_image.proofs.Cuts.{words-four}
-use Rattle.blk_image.proofs.Images.{bytes_of-written}
-use Rattle.blk_image.proofs.Splices.{content-spliced_inside}
-use Rattle.blk_image.proofs.Footprints.{outside-refl, outside-trans, outside_wider, outside_write, range_within}
-use Rattle.blk_image.proofs.Words.{content-range, range-is}
-use Rattle.blk_image.proofs.Runs.{grows_none, grows_then, passes_end, quiet_front, quiet-append, some_inj, until_front, until-append, until_weaker2}
+use Rattle.spec_image.specs.Bytes.{content, range_at}
+use Rattle.spec_image.specs.Image.{Image, File, byte, bytes_of, length_of, same_file}
+use Rattle.spec_image.specs.Steps.{TrailStep, Word, applied, after, words}
+use Rattle.spec_image.specs.Footprint.{SameOutside, range}
+use Rattle.spec_image.specs.Told.{Told, Along, AppliesPrefix, IsQuiet, PassesTo, Until}
+use Rattle.spec_image.proofs.Cuts.{words-four}
+use Rattle.spec_image.proofs.Images.{bytes_of-written}
+use Rattle.spec_image.proofs.Splices.{content-spliced_inside}
+use Rattle.spec_image.proofs.Footprints.{outside-refl, outside-trans, outside_wider, outside_write, range_within}
+use Rattle.spec_image.proofs.Words.{content-range, range-is}
+use Rattle.spec_image.proofs.Runs.{grows_none, grows_then, passes_end, quiet_front, quiet-append, some_inj, until_front, until-append, until_weaker2}
 use Rattle.blk_alloc.specs.Mending.{AreNeeded, IsFrontWritten, AreBytesWritten, KeepsLength, PassesNeeded}
 
 needed_front : (s t : List TrailStep) (image : Image) → AreNeeded image (s ++ t) → AreNeeded image s

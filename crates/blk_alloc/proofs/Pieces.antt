@@ -2,7 +2,7 @@
 use Rattle.std.proofs.Common.{◌≡◌, ℕ, zero, suc, ◌+◌, ◌%◌, ◌<◌, ◌≤◌, Bool, true, false, ◌&&◌, not, nat_le, refl, ◌∙◌, ap, ap₂, arith}
 use Rattle.std.specs.List.{list_all, range_with_len}
 use Rattle.std.proofs.lemmas.Bool.Decides.{nat_tests}
-use Rattle.blk_format.specs.Maps.{are_free}
+use Rattle.spec_format.specs.Maps.{are_free}
 use Rattle.blk_alloc.specs.Places.{is_place}
 
 all-same : (f g : ℕ → Bool) (s n : ℕ) → ((i : ℕ) → s ≤ i → i < s + n → f i ≡ g i) → list_all f (range_with_len s n) ≡ list_all g (range_with_len s n)

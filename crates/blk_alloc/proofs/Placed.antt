@@ -2,11 +2,11 @@
 use Rattle.std.proofs.Common.{◌≡◌, ◌≢◌, ℕ, ◌+◌, ◌*◌, ◌<◌, ◌≤◌, List, max, true, nat_le, Option, Some, refl, ◌∙◌, ap, arith}
 use Rattle.std.proofs.lemmas.Bool.Decides.{nat_tests}
 use Rattle.std.proofs.Math.Nat.{mul-le-mul}
-use Rattle.blk_format.specs.Address.{external, kind_of, file_selector, first_block, block_count, block_size, block_word, block_place, place, byte_size}
-use Rattle.blk_format.specs.Standing.{is_linked_as, stands_as_blocks}
-use Rattle.blk_format.specs.BlockFiles.{is_among, kind_among}
-use Rattle.blk_format.proofs.LinkedHeads.{count_whole}
-use Rattle.blk_format.proofs.Words.{AreFields, kind_of-block_word, file_selector-block_word, first_block-block_word, block_count-block_word}
+use Rattle.spec_format.specs.Address.{external, kind_of, file_selector, first_block, block_count, block_size, block_word, block_place, place, byte_size}
+use Rattle.spec_format.specs.Standing.{is_linked_as, stands_as_blocks}
+use Rattle.spec_format.specs.BlockFiles.{is_among, kind_among}
+use Rattle.spec_format.proofs.LinkedHeads.{count_whole}
+use Rattle.spec_format.proofs.Words.{AreFields, kind_of-block_word, file_selector-block_word, first_block-block_word, block_count-block_word}
 use Rattle.blk_addr.specs.declared.kinds.Kind.{Kind}
 use Rattle.blk_addr.specs.Kind.{kind_number}
 use Rattle.blk_disk.specs.declared.tables.BlockFiles.{BlockFiles}

@@ -2,15 +2,15 @@
 use Rattle.std.proofs.Common.{◌≡◌, ℕ, ◌+◌, ◌*◌, ◌/◌, ◌%◌, ◌<◌, ◌≤◌, List, Bool, true, false, if◌then◌else◌, sym, ◌∙◌, ap, ap₂, arith}
 use Rattle.std.specs.Prelude.{◌==◌, slice_index}
 use Rattle.std.proofs.lemmas.Bool.Decides.{nat_tests}
-use Rattle.blk_image.specs.Bytes.{range_at, word_bytes}
-use Rattle.blk_image.specs.Image.{Image, Block, byte}
-use Rattle.blk_format.specs.BlockFiles.{max_entries_in}
-use Rattle.blk_format.specs.Maps.{is_block_marked, longest_run, groups_with, groups_of, EmptyAgrees}
+use Rattle.spec_image.specs.Bytes.{range_at, word_bytes}
+use Rattle.spec_image.specs.Image.{Image, Block, byte}
+use Rattle.spec_format.specs.BlockFiles.{max_entries_in}
+use Rattle.spec_format.specs.Maps.{is_block_marked, longest_run, groups_with, groups_of, EmptyAgrees}
 use Rattle.blk_addr.specs.Bits.{has_bit, is_between}
 use Rattle.blk_alloc.specs.declared.counters.Counters.{Counters}
 use Rattle.blk_alloc.specs.Counting.{AreCounters, counted, MovesRun, MayMoveRun}
 use Rattle.blk_alloc.specs.Changes.{IsPlan, CanChangeMarks, with_marks}
-use Rattle.blk_format.proofs.Groups.{longest_run-same, counted_there, counted_most, one}
+use Rattle.spec_format.proofs.Groups.{longest_run-same, counted_there, counted_most, one}
 use Rattle.blk_alloc.proofs.Headers.{bit_read}
 
 module _ (image : Image) (n start count : ℕ) (used : Bool) (ready : CanChangeMarks image n start count used) (some : 0 < count) where

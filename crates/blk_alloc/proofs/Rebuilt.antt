@@ -4,11 +4,11 @@ use Rattle.std.specs.Option.{ForSome, option_map}
 use Rattle.std.proofs.lemmas.List.{append-nil}
 use Rattle.std.proofs.lemmas.Bool.Decides.{nat_tests}
 use Rattle.std.proofs.lemmas.Bool.{cases_eq}
-use Rattle.blk_image.specs.Image.{Image, Block, External}
-use Rattle.blk_image.specs.Steps.{SetLength, TrailStep, after}
-use Rattle.blk_image.specs.Told.{Applies, PassesTo, Stays, Told, Trail, longer}
-use Rattle.blk_image.proofs.Runs.{part_whole, passes_end, some_inj}
-use Rattle.blk_format.specs.BlockFiles.{is_among}
+use Rattle.spec_image.specs.Image.{Image, Block, External}
+use Rattle.spec_image.specs.Steps.{SetLength, TrailStep, after}
+use Rattle.spec_image.specs.Told.{Applies, PassesTo, Stays, Told, Trail, longer}
+use Rattle.spec_image.proofs.Runs.{part_whole, passes_end, some_inj}
+use Rattle.spec_format.specs.BlockFiles.{is_among}
 use Rattle.blk_addr.specs.declared.claim_set.Claims.{Claims}
 use Rattle.blk_disk.specs.declared.tables.BlockFiles.{BlockFiles}
 use Rattle.blk_disk.specs.Tables.{Agrees, Resizes, all_files, length_in}
@@ -21,7 +21,7 @@ use Rattle.blk_alloc.proofs.Fitted.{HasFitted, long_still, none_fitted, none_mor
 use Rattle.blk_disk.proofs.WholeHeaders.{all_head}
 use Rattle.blk_alloc.proofs.Owned.{allocations_are, stands_still}
 use Rattle.blk_alloc.proofs.Remade.{one_more, others_kept, rebuilding_begin, rebuilt_same}
-use Rattle.blk_format.proofs.Growths.{grown_blocks}
+use Rattle.spec_format.proofs.Growths.{grown_blocks}
 use Rattle.blk_alloc.proofs.Needed.{needed_end, needed_none, needed_part, needed_then, needed_weaker, passes_first}
 
 -- what is told, of its two parts

@@ -3,12 +3,12 @@ use Rattle.std.proofs.Common.{◌≡◌, ℕ, zero, suc, ◌+◌, ◌*◌, ◌^�
 use Rattle.std.specs.Prelude.{slice_index}
 use Rattle.std.proofs.lemmas.Bool.{cases_lt}
 use Rattle.std.proofs.lemmas.Bool.Decides.{nat_tests}
-use Rattle.blk_image.specs.Bytes.{content, spliced, word_at, word_bytes}
-use Rattle.blk_image.specs.Image.{Image, File, Block, byte, same_file, word}
-use Rattle.blk_image.specs.Footprint.{SameOutside, IsWithin, range}
-use Rattle.blk_image.proofs.Words.{word-written}
-use Rattle.blk_image.proofs.Footprints.{outside-refl, outside-trans, outside_wider, range_within, same_word_outside, within_left, within_right}
-use Rattle.blk_format.specs.Headers.{allocations_of, empty_of}
+use Rattle.spec_image.specs.Bytes.{content, spliced, word_at, word_bytes}
+use Rattle.spec_image.specs.Image.{Image, File, Block, byte, same_file, word}
+use Rattle.spec_image.specs.Footprint.{SameOutside, IsWithin, range}
+use Rattle.spec_image.proofs.Words.{word-written}
+use Rattle.spec_image.proofs.Footprints.{outside-refl, outside-trans, outside_wider, range_within, same_word_outside, within_left, within_right}
+use Rattle.spec_format.specs.Headers.{allocations_of, empty_of}
 use Rattle.blk_alloc.specs.Mending.{IsFrontWritten, AreBytesWritten}
 use Rattle.blk_alloc.specs.Rebuilding.{counters_of, HasTheseCounters, IsCounting}
 use Rattle.blk_alloc.proofs.Changing.{within-trans}

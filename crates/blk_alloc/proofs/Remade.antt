@@ -2,13 +2,13 @@
 use Rattle.std.proofs.Common.{◌≡◌, ◌≢◌, ℕ, ◌+◌, ◌<◌, ◌≤◌, ◌⊎◌, inl, inr, List, [], ◌∷◌, Bool, true, false, ◌&&◌, ◌||◌, nat_le, nat_lt, Option, refl, sym, ◌∙◌, ap, ap₂, subst, arith, ⊎_elim, unwrap_or}
 use Rattle.std.proofs.lemmas.Bool.{cases_eq}
 use Rattle.std.proofs.lemmas.Bool.Decides.{nat_tests}
-use Rattle.blk_image.specs.Bytes.{content}
-use Rattle.blk_image.specs.Image.{Image, File, Index, Block, External, byte, length_of, same_file}
-use Rattle.blk_image.specs.Footprint.{SameOutside, IsWithin, size_of}
-use Rattle.blk_image.proofs.Footprints.{outside-refl, outside-trans, outside_wider, same_file_outside}
-use Rattle.blk_format.specs.Headers.{allocations_of, empty_of, max_entries_of, updating_of}
-use Rattle.blk_format.specs.BlockFiles.{is_among, max_entries_in}
-use Rattle.blk_format.specs.Maps.{is_block_marked_at, groups_of, groups_with, EmptyAgrees}
+use Rattle.spec_image.specs.Bytes.{content}
+use Rattle.spec_image.specs.Image.{Image, File, Index, Block, External, byte, length_of, same_file}
+use Rattle.spec_image.specs.Footprint.{SameOutside, IsWithin, size_of}
+use Rattle.spec_image.proofs.Footprints.{outside-refl, outside-trans, outside_wider, same_file_outside}
+use Rattle.spec_format.specs.Headers.{allocations_of, empty_of, max_entries_of, updating_of}
+use Rattle.spec_format.specs.BlockFiles.{is_among, max_entries_in}
+use Rattle.spec_format.specs.Maps.{is_block_marked_at, groups_of, groups_with, EmptyAgrees}
 use Rattle.blk_addr.specs.declared.claim_set.Claims.{Claims}
 use Rattle.blk_alloc.specs.Changes.{map_of}
 use Rattle.blk_alloc.specs.Rebuilding.{is_block_file, is_counted_place, is_updating_place, rebuilding_of, IsInHand, IsOldOrClaimed, IsRebuilding, IsRebuilt, KeepsBytes, RemakesInProgress}

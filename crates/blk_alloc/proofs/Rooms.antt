@@ -6,16 +6,16 @@ use Rattle.std.specs.Option.{ForSome, option_map}
 use Rattle.std.proofs.lemmas.Bool.Decides.{nat_tests}
 use Rattle.std.proofs.lemmas.List.Folds.{list_any_at}
 use Rattle.std.proofs.lemmas.List.Sums.{sum_by-cons}
-use Rattle.blk_image.specs.Image.{Image, Block, byte}
-use Rattle.blk_image.specs.Steps.{after}
-use Rattle.blk_image.specs.Told.{Told, PassesTo}
-use Rattle.blk_image.specs.Footprint.{Footprint, SameOutside, IsWithin, either, one_word, size_of}
-use Rattle.blk_image.proofs.Footprints.{outside-trans, outside_wider, within_left, within_right, within_both}
-use Rattle.blk_format.specs.Address.{external, file_selector, block_count, block_word, is_address, kind_of, rankings}
-use Rattle.blk_format.specs.Headers.{allocations_of}
-use Rattle.blk_format.specs.BlockFiles.{is_among, max_entries_in}
-use Rattle.blk_format.specs.Maps.{is_block_marked, are_free, AreAllocations}
-use Rattle.blk_format.proofs.Words.{AreFields, is_address-block_word, file_selector-block_word, kind_of-block_word, block_count-block_word}
+use Rattle.spec_image.specs.Image.{Image, Block, byte}
+use Rattle.spec_image.specs.Steps.{after}
+use Rattle.spec_image.specs.Told.{Told, PassesTo}
+use Rattle.spec_image.specs.Footprint.{Footprint, SameOutside, IsWithin, either, one_word, size_of}
+use Rattle.spec_image.proofs.Footprints.{outside-trans, outside_wider, within_left, within_right, within_both}
+use Rattle.spec_format.specs.Address.{external, file_selector, block_count, block_word, is_address, kind_of, rankings}
+use Rattle.spec_format.specs.Headers.{allocations_of}
+use Rattle.spec_format.specs.BlockFiles.{is_among, max_entries_in}
+use Rattle.spec_format.specs.Maps.{is_block_marked, are_free, AreAllocations}
+use Rattle.spec_format.proofs.Words.{AreFields, is_address-block_word, file_selector-block_word, kind_of-block_word, block_count-block_word}
 use Rattle.blk_addr.specs.declared.kinds.Kind.{Kind}
 use Rattle.blk_addr.specs.Kind.{kind_number}
 use Rattle.blk_io.specs.declared.fault.Fault.{Fault}
@@ -31,7 +31,7 @@ use Rattle.blk_alloc.specs.Places.{is_place}
 use Rattle.blk_alloc.specs.Extending.{HasCounters, HasMostBlocks, HasNoHints, IsFirstGrowing, KeepsAll}
 use Rattle.blk_alloc.specs.Marking.{CanBeMarked, MarksUsed, hints_and_updating, hints_of_file, taking_of}
 use Rattle.blk_alloc.specs.Allocating.{AreCounted, HaveNoRoom, Allocates, Extends, ExtendsAnd, updating_word}
-use Rattle.blk_format.proofs.LinkedHeads.{count_whole}
+use Rattle.spec_format.proofs.LinkedHeads.{count_whole}
 use Rattle.blk_alloc.specs.Changes.{map_of, CanChangeMarks}
 use Rattle.blk_alloc.proofs.Pieces.{place_free}
 use Rattle.blk_alloc.proofs.Changing.{at_updating, within-trans}

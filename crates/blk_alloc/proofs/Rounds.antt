@@ -2,7 +2,7 @@
 use Rattle.std.proofs.Common.{◌≡◌, ◌≢◌, ℕ, ◌+◌, ◌-◌, ◌*◌, ◌/◌, ◌%◌, ◌<◌, ◌≤◌, Bool, sym, ◌∙◌, ap, arith, ⊎_elim}
 use Rattle.std.proofs.lemmas.Bool.{cases_lt}
 use Rattle.std.proofs.Math.Nat.{div-add-mod, mod-add-mod, mod-eq_of_lt, mod-lt, mul-add-mod_self_left, mul_assoc, add-mod_right}
-use Rattle.blk_format.specs.Maps.{longest_run}
+use Rattle.spec_format.specs.Maps.{longest_run}
 use Rattle.blk_alloc.specs.Fitting.{IsFirstMet}
 
 -- a group of a word that is met on the round

@@ -4,16 +4,16 @@ use Rattle.std.specs.Prelude.{◌==◌, IfSome}
 use Rattle.std.specs.List.{count_by, list_any, range_with_len}
 use Rattle.std.proofs.lemmas.Bool.{cases_lt}
 use Rattle.std.proofs.lemmas.Bool.Decides.{nat_tests}
-use Rattle.blk_image.specs.Bytes.{word_bytes}
-use Rattle.blk_image.specs.Image.{Block, Image, byte}
-use Rattle.blk_format.specs.Headers.{empty_of, hints_of}
-use Rattle.blk_format.specs.BlockFiles.{is_among, is_block_count, max_entries_in}
+use Rattle.spec_image.specs.Bytes.{word_bytes}
+use Rattle.spec_image.specs.Image.{Block, Image, byte}
+use Rattle.spec_format.specs.Headers.{empty_of, hints_of}
+use Rattle.spec_format.specs.BlockFiles.{is_among, is_block_count, max_entries_in}
 use Rattle.blk_disk.specs.declared.tables.BlockFiles.{BlockFiles}
 use Rattle.blk_disk.specs.Tables.{all_files, blocks_of}
 use Rattle.blk_disk.proofs.KeptOnce.{counts}
-use Rattle.blk_image.proofs.Runs.{some_inj}
-use Rattle.blk_format.specs.Maps.{are_free, groups_of, groups_with, has_run, is_block_marked, longest_run, EmptyAgrees}
-use Rattle.blk_format.proofs.Groups.{counted_there, longest_run-same, one}
+use Rattle.spec_image.proofs.Runs.{some_inj}
+use Rattle.spec_format.specs.Maps.{are_free, groups_of, groups_with, has_run, is_block_marked, longest_run, EmptyAgrees}
+use Rattle.spec_format.proofs.Groups.{counted_there, longest_run-same, one}
 use Rattle.blk_addr.specs.Bits.{has_bit}
 use Rattle.blk_alloc.specs.Fitting.{HasNoRoom, IsByHint, IsFirstMet, IsLeastOfGroup, IsMapWord}
 use Rattle.blk_alloc.specs.Places.{is_place}

@@ -4,21 +4,21 @@ use Rattle.std.specs.Prelude.{◌==◌}
 use Rattle.std.specs.List.{All, sum_by}
 use Rattle.std.proofs.lemmas.List.Sums.{sum_by-cons}
 use Rattle.std.proofs.lemmas.Bool.Decides.{nat_tests}
-use Rattle.blk_image.specs.Image.{Block, External, Image, byte}
-use Rattle.blk_image.specs.Footprint.{Footprint, SameOutside}
-use Rattle.blk_image.proofs.Words.{same-word_at}
-use Rattle.blk_format.specs.Address.{file_selector}
-use Rattle.blk_format.specs.BlockFiles.{is_among, kind_among, max_entries_in, most_blocks, stands_in}
-use Rattle.blk_format.specs.Headers.{allocations_of}
-use Rattle.blk_format.specs.Maps.{AreAllocations, EmptyAgrees, groups_with, is_block_marked, HasAllocations}
-use Rattle.blk_format.specs.Standing.{stands}
-use Rattle.blk_format.proofs.SpareHeaders.{SparesHeaders, blocks_same, linked_same}
+use Rattle.spec_image.specs.Image.{Block, External, Image, byte}
+use Rattle.spec_image.specs.Footprint.{Footprint, SameOutside}
+use Rattle.spec_image.proofs.Words.{same-word_at}
+use Rattle.spec_format.specs.Address.{file_selector}
+use Rattle.spec_format.specs.BlockFiles.{is_among, kind_among, max_entries_in, most_blocks, stands_in}
+use Rattle.spec_format.specs.Headers.{allocations_of}
+use Rattle.spec_format.specs.Maps.{AreAllocations, EmptyAgrees, groups_with, is_block_marked, HasAllocations}
+use Rattle.spec_format.specs.Standing.{stands}
+use Rattle.spec_format.proofs.SpareHeaders.{SparesHeaders, blocks_same, linked_same}
 use Rattle.blk_disk.specs.Tables.{all_files, files_of}
 use Rattle.blk_disk.proofs.Ranges.{stands_linked}
 use Rattle.blk_alloc.specs.Laws.{AllocatedMayBeFreed, CountedFilesStay, MayBeFreedStill, NewFilesAreCounted, SparesHeadersAndSizes}
 use Rattle.blk_alloc.proofs.Adding.{new_allocations, new_empty}
-use Rattle.blk_format.proofs.Groups.{groups_same}
-use Rattle.blk_format.proofs.LinkedHeads.{HasHead, count_whole, linked_checked}
+use Rattle.spec_format.proofs.Groups.{groups_same}
+use Rattle.spec_format.proofs.LinkedHeads.{HasHead, count_whole, linked_checked}
 use Rattle.blk_disk.proofs.WholeHeaders.{all_head}
 use Rattle.blk_alloc.proofs.Widening.{mark_kept}
 

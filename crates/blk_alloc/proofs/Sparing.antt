@@ -1,12 +1,12 @@
 -- Changes that spare the fields of headers that say what is linked, and all blocks.
 use Rattle.std.proofs.Common.{◌≡◌, ℕ, ◌+◌, ◌-◌, ◌*◌, ◌<◌, ◌≤◌, ◌⊎◌, inl, inr, List, Bool, true, false, ◌&&◌, ◌||◌, nat_le, nat_lt, refl, ◌∙◌, ap, arith}
 use Rattle.std.proofs.lemmas.Bool.Decides.{nat_tests}
-use Rattle.blk_image.specs.Image.{Image, Index, Block, External, byte, length_of, same_file}
-use Rattle.blk_image.specs.Footprint.{Footprint, SameOutside, either, size_of}
-use Rattle.blk_format.specs.BlockFiles.{linked, kind_among, files_along, next_file_in, max_entries_in, is_block_count, IsWellFormed}
-use Rattle.blk_format.specs.Growth.{HaveGrown}
-use Rattle.blk_image.proofs.Footprints.{same_file_outside}
-use Rattle.blk_format.proofs.Keeping.{KeepsHead, undamaged_still}
+use Rattle.spec_image.specs.Image.{Image, Index, Block, External, byte, length_of, same_file}
+use Rattle.spec_image.specs.Footprint.{Footprint, SameOutside, either, size_of}
+use Rattle.spec_format.specs.BlockFiles.{linked, kind_among, files_along, next_file_in, max_entries_in, is_block_count, IsWellFormed}
+use Rattle.spec_format.specs.Growth.{HaveGrown}
+use Rattle.spec_image.proofs.Footprints.{same_file_outside}
+use Rattle.spec_format.proofs.Keeping.{KeepsHead, undamaged_still}
 use Rattle.blk_disk.proofs.Enlarging.{well_formed_still}
 use Rattle.blk_alloc.specs.Changes.{map_of}
 use Rattle.blk_alloc.specs.Marking.{hints_of_file}

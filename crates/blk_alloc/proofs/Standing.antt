@@ -4,10 +4,10 @@ use Rattle.std.specs.Prelude.{◌==◌}
 use Rattle.std.specs.List.{All}
 use Rattle.std.proofs.lemmas.List.Elements.{All-head, All-tail}
 use Rattle.std.proofs.lemmas.Bool.Decides.{nat_tests}
-use Rattle.blk_image.specs.Image.{Image, Block, External, has_file, length_of}
-use Rattle.blk_format.specs.Address.{kind_of, external, external_number, file_selector, first_block, block_count, is_address, is_block_kind, place, byte_size}
-use Rattle.blk_format.specs.BlockFiles.{is_among, linked, kind_among, max_entries_in, stands_in, stands_in_blocks}
-use Rattle.blk_format.specs.Standing.{is_linked_as, stands, stands_as_blocks}
+use Rattle.spec_image.specs.Image.{Image, Block, External, has_file, length_of}
+use Rattle.spec_format.specs.Address.{kind_of, external, external_number, file_selector, first_block, block_count, is_address, is_block_kind, place, byte_size}
+use Rattle.spec_format.specs.BlockFiles.{is_among, linked, kind_among, max_entries_in, stands_in, stands_in_blocks}
+use Rattle.spec_format.specs.Standing.{is_linked_as, stands, stands_as_blocks}
 use Rattle.blk_addr.proofs.AddressFields.{address_above_0}
 use Rattle.blk_alloc.proofs.Lists.{IsBlocks}
 

@@ -2,14 +2,14 @@
 use Rattle.std.proofs.Common.{◌≡◌, ℕ, ◌≤◌, ◌||◌, Bool, false, sym, ap, subst, arith, ⊎_elim}
 use Rattle.std.specs.Option.{ForSome}
 use Rattle.std.proofs.lemmas.Bool.{cases_eq}
-use Rattle.blk_image.specs.Image.{Block, Image, length_of}
-use Rattle.blk_image.specs.Footprint.{Footprint, SameOutside, IsWithin, either, size_of}
-use Rattle.blk_image.specs.Told.{Told, Passes}
-use Rattle.blk_image.proofs.Footprints.{outside-trans, outside_wider, within_left, within_right}
-use Rattle.blk_image.proofs.Runs.{passes_weaker}
-use Rattle.blk_format.specs.Growth.{StaysWhole, StaysWholeOutside}
-use Rattle.blk_format.proofs.Growths.{whole_then}
-use Rattle.blk_format.proofs.SpareHeaders.{other_file}
+use Rattle.spec_image.specs.Image.{Block, Image, length_of}
+use Rattle.spec_image.specs.Footprint.{Footprint, SameOutside, IsWithin, either, size_of}
+use Rattle.spec_image.specs.Told.{Told, Passes}
+use Rattle.spec_image.proofs.Footprints.{outside-trans, outside_wider, within_left, within_right}
+use Rattle.spec_image.proofs.Runs.{passes_weaker}
+use Rattle.spec_format.specs.Growth.{StaysWhole, StaysWholeOutside}
+use Rattle.spec_format.proofs.Growths.{whole_then}
+use Rattle.spec_format.proofs.SpareHeaders.{other_file}
 use Rattle.blk_disk.specs.declared.tables.BlockFiles.{BlockFiles}
 use Rattle.blk_disk.specs.Growth.{addition_of, free_number, growth_of}
 use Rattle.blk_alloc.specs.Changes.{map_of}

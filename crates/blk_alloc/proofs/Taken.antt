@@ -3,16 +3,16 @@ use Rattle.std.proofs.Common.{◌≡◌, ◌≢◌, ℕ, zero, suc, ◌+◌, ◌
 use Rattle.std.specs.List.{list_all, range_with_len}
 use Rattle.std.proofs.lemmas.Bool.{cases_eq}
 use Rattle.std.proofs.lemmas.Bool.Decides.{nat_tests}
-use Rattle.blk_image.specs.Image.{Image, Block, byte, length_of}
-use Rattle.blk_image.specs.Steps.{SetLength, applied}
-use Rattle.blk_image.specs.Footprint.{Footprint, IsWithin, SameOutside, size_of, one_word, either}
-use Rattle.blk_image.specs.Told.{Told, Applies, PassesTo, Until, IsQuiet}
-use Rattle.blk_image.proofs.Footprints.{outside-refl, outside-trans, outside_wider, outside_longer, within_left, within_right}
-use Rattle.blk_image.proofs.Images.{length-after_set_len}
-use Rattle.blk_image.proofs.Runs.{passes_part, part_whole, some_inj}
-use Rattle.blk_format.specs.Headers.{empty_of, max_entries_of, allocations_of}
-use Rattle.blk_format.specs.BlockFiles.{is_among, max_entries_in, most_blocks}
-use Rattle.blk_format.specs.Maps.{is_block_marked_at, are_free, groups_with, groups_of, EmptyAgrees}
+use Rattle.spec_image.specs.Image.{Image, Block, byte, length_of}
+use Rattle.spec_image.specs.Steps.{SetLength, applied}
+use Rattle.spec_image.specs.Footprint.{Footprint, IsWithin, SameOutside, size_of, one_word, either}
+use Rattle.spec_image.specs.Told.{Told, Applies, PassesTo, Until, IsQuiet}
+use Rattle.spec_image.proofs.Footprints.{outside-refl, outside-trans, outside_wider, outside_longer, within_left, within_right}
+use Rattle.spec_image.proofs.Images.{length-after_set_len}
+use Rattle.spec_image.proofs.Runs.{passes_part, part_whole, some_inj}
+use Rattle.spec_format.specs.Headers.{empty_of, max_entries_of, allocations_of}
+use Rattle.spec_format.specs.BlockFiles.{is_among, max_entries_in, most_blocks}
+use Rattle.spec_format.specs.Maps.{is_block_marked_at, are_free, groups_with, groups_of, EmptyAgrees}
 use Rattle.blk_disk.specs.declared.tables.BlockFiles.{BlockFiles}
 use Rattle.blk_disk.specs.Tables.{Agrees, all_files, length_in}
 use Rattle.blk_disk.specs.Growth.{fit_steps, whole_length}

@@ -1,17 +1,17 @@
 -- Blocks that are taken, in two calls: the file is lengthened, and then the marks change.
 use Rattle.std.proofs.Common.{◌≡◌, ◌≢◌, ◌⊎◌, inl, inr, ℕ, List, ◌+◌, ◌*◌, ◌%◌, ◌/◌, ◌<◌, ◌≤◌, true, Option, None, Some, refl, sym, ◌∙◌, ap, subst, arith, ⊎_elim, max}
 use Rattle.std.specs.Option.{ForSome, option_map}
-use Rattle.blk_image.specs.Image.{Image, Block, byte, length_of}
-use Rattle.blk_image.specs.Steps.{after}
-use Rattle.blk_image.specs.Footprint.{SameOutside, size_of}
-use Rattle.blk_image.specs.Told.{Told, PassesTo, Applies}
-use Rattle.blk_image.proofs.Runs.{passes_weaker, passes_then, passes_end, some_inj}
-use Rattle.blk_format.specs.Address.{block_word, file_selector, first_block, block_count, kind_of, external, is_address, rankings}
-use Rattle.blk_format.specs.BlockFiles.{is_among, max_entries_in, most_blocks}
-use Rattle.blk_format.specs.Maps.{is_block_marked, is_block_marked_at, are_free, longest_run, EmptyAgrees}
-use Rattle.blk_format.specs.Headers.{allocations_of, empty_of}
+use Rattle.spec_image.specs.Image.{Image, Block, byte, length_of}
+use Rattle.spec_image.specs.Steps.{after}
+use Rattle.spec_image.specs.Footprint.{SameOutside, size_of}
+use Rattle.spec_image.specs.Told.{Told, PassesTo, Applies}
+use Rattle.spec_image.proofs.Runs.{passes_weaker, passes_then, passes_end, some_inj}
+use Rattle.spec_format.specs.Address.{block_word, file_selector, first_block, block_count, kind_of, external, is_address, rankings}
+use Rattle.spec_format.specs.BlockFiles.{is_among, max_entries_in, most_blocks}
+use Rattle.spec_format.specs.Maps.{is_block_marked, is_block_marked_at, are_free, longest_run, EmptyAgrees}
+use Rattle.spec_format.specs.Headers.{allocations_of, empty_of}
 use Rattle.blk_alloc.specs.Counting.{counted, IsCounted}
-use Rattle.blk_format.proofs.Words.{is_address-block_word}
+use Rattle.spec_format.proofs.Words.{is_address-block_word}
 use Rattle.blk_addr.specs.declared.kinds.Kind.{Kind}
 use Rattle.blk_addr.specs.Kind.{kind_number}
 use Rattle.blk_addr.proofs.AddressFields.{address_above_0}
@@ -20,7 +20,7 @@ use Rattle.blk_disk.specs.Tables.{Agrees, Resizes, all_files, files_of, length_i
 use Rattle.blk_disk.specs.Growth.{fit_steps, whole_length}
 use Rattle.blk_alloc.specs.declared.blocks.Blocks.{Blocks}
 use Rattle.blk_alloc.specs.Changes.{IsMapInProgress, CanChangeMarks, IsChanged}
-use Rattle.blk_image.specs.Bytes.{range_at, word_bytes}
+use Rattle.spec_image.specs.Bytes.{range_at, word_bytes}
 use Rattle.blk_alloc.specs.Fitting.{IsMapWord, IsPlace}
 use Rattle.blk_alloc.specs.Marking.{CanBeMarked, CountsUsed, KeepsHints, MarksUsedInProgress, MarksUsed}
 use Rattle.blk_alloc.proofs.Hints.{map_keeps, size_keeps}

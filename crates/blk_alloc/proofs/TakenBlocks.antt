@@ -6,15 +6,15 @@ use Rattle.std.specs.Int.{bit_at}
 use Rattle.std.proofs.lemmas.List.Elements.{All-cons}
 use Rattle.std.proofs.lemmas.Bool.{cases_eq}
 use Rattle.std.proofs.lemmas.Bool.Decides.{nat_tests}
-use Rattle.blk_image.specs.Image.{Image, Block, External, has_file, byte, length_of}
-use Rattle.blk_image.specs.Footprint.{SameOutside, size_of}
-use Rattle.blk_image.proofs.Footprints.{outside-trans, outside_wider}
-use Rattle.blk_format.specs.Address.{kind_of, external, external_number, file_selector, first_block, block_count, is_address}
-use Rattle.blk_format.specs.Claims.{Claim, BlockOf, ExternalOf, claims_of, claims_of_all, has_claim, is_in_file}
-use Rattle.blk_format.specs.Headers.{empty_of, max_entries_of}
-use Rattle.blk_format.specs.Standing.{stands}
-use Rattle.blk_format.specs.BlockFiles.{is_among, max_entries_in, stands_in, stands_in_blocks, most_blocks}
-use Rattle.blk_format.specs.Maps.{is_block_marked, is_block_marked_at, groups_with, groups_of, are_free, AreAllocations, EmptyAgrees}
+use Rattle.spec_image.specs.Image.{Image, Block, External, has_file, byte, length_of}
+use Rattle.spec_image.specs.Footprint.{SameOutside, size_of}
+use Rattle.spec_image.proofs.Footprints.{outside-trans, outside_wider}
+use Rattle.spec_format.specs.Address.{kind_of, external, external_number, file_selector, first_block, block_count, is_address}
+use Rattle.spec_format.specs.Claims.{Claim, BlockOf, ExternalOf, claims_of, claims_of_all, has_claim, is_in_file}
+use Rattle.spec_format.specs.Headers.{empty_of, max_entries_of}
+use Rattle.spec_format.specs.Standing.{stands}
+use Rattle.spec_format.specs.BlockFiles.{is_among, max_entries_in, stands_in, stands_in_blocks, most_blocks}
+use Rattle.spec_format.specs.Maps.{is_block_marked, is_block_marked_at, groups_with, groups_of, are_free, AreAllocations, EmptyAgrees}
 use Rattle.blk_addr.specs.Bits.{is_between}
 use Rattle.blk_addr.specs.declared.kinds.Kind.{Kind}
 use Rattle.blk_addr.specs.Kind.{kind_number}

@@ -1,16 +1,16 @@
 -- Blocks that are taken: a hint is set, which leaves all that is asked of marks, and then they are marked.
 use Rattle.std.proofs.Common.{◌≡◌, ◌≢◌, ℕ, ◌+◌, ◌*◌, ◌/◌, ◌%◌, ◌<◌, ◌≤◌, ◌⊎◌, inl, inr, Bool, true, false, ◌&&◌, nat_le, nat_lt, if◌then◌else◌, refl, sym, ◌∙◌, ap, subst, arith, ⊎_elim}
 use Rattle.std.proofs.lemmas.Bool.Decides.{nat_tests}
-use Rattle.blk_image.specs.Image.{Block, External, Image, byte, length_of, same_file}
-use Rattle.blk_image.specs.Footprint.{Footprint, IsWithin, SameOutside, one_word}
-use Rattle.blk_image.proofs.Footprints.{outside-trans, outside_wider, range_within, same_word_outside}
-use Rattle.blk_image.proofs.Words.{same-range}
-use Rattle.blk_format.specs.Address.{file_selector}
-use Rattle.blk_format.specs.BlockFiles.{is_among, max_entries_in}
-use Rattle.blk_format.specs.Headers.{allocations_of, empty_of, hints_of}
-use Rattle.blk_format.specs.Maps.{are_free, groups_of, groups_with, is_block_marked, longest_run, EmptyAgrees}
-use Rattle.blk_format.proofs.Keeping.{undamaged_still}
-use Rattle.blk_format.proofs.SpareHeaders.{other_file}
+use Rattle.spec_image.specs.Image.{Block, External, Image, byte, length_of, same_file}
+use Rattle.spec_image.specs.Footprint.{Footprint, IsWithin, SameOutside, one_word}
+use Rattle.spec_image.proofs.Footprints.{outside-trans, outside_wider, range_within, same_word_outside}
+use Rattle.spec_image.proofs.Words.{same-range}
+use Rattle.spec_format.specs.Address.{file_selector}
+use Rattle.spec_format.specs.BlockFiles.{is_among, max_entries_in}
+use Rattle.spec_format.specs.Headers.{allocations_of, empty_of, hints_of}
+use Rattle.spec_format.specs.Maps.{are_free, groups_of, groups_with, is_block_marked, longest_run, EmptyAgrees}
+use Rattle.spec_format.proofs.Keeping.{undamaged_still}
+use Rattle.spec_format.proofs.SpareHeaders.{other_file}
 use Rattle.blk_disk.specs.declared.tables.BlockFiles.{BlockFiles}
 use Rattle.blk_disk.specs.Tables.{Agrees, all_files}
 use Rattle.blk_alloc.specs.declared.blocks.Blocks.{Blocks}

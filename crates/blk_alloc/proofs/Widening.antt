@@ -2,13 +2,13 @@
 use Rattle.std.proofs.Common.{◌≡◌, ℕ, ◌+◌, ◌*◌, ◌/◌, ◌%◌, List, max, Bool, true, false, ◌&&◌, if◌then◌else◌, get_or, refl, sym, ◌∙◌, ap, ap₂}
 use Rattle.std.specs.Prelude.{◌==◌}
 use Rattle.std.specs.Int.{bit_at}
-use Rattle.blk_image.specs.Image.{Image, Block, External, has_file, byte}
-use Rattle.blk_image.specs.Footprint.{SameOutside, size_of}
-use Rattle.blk_format.specs.Address.{kind_of, external, external_number, is_address}
-use Rattle.blk_format.specs.Headers.{allocations_of}
-use Rattle.blk_format.specs.Standing.{stands}
-use Rattle.blk_format.specs.BlockFiles.{is_among, stands_in, stands_in_blocks}
-use Rattle.blk_format.specs.Maps.{is_block_marked, AreAllocations}
+use Rattle.spec_image.specs.Image.{Image, Block, External, has_file, byte}
+use Rattle.spec_image.specs.Footprint.{SameOutside, size_of}
+use Rattle.spec_format.specs.Address.{kind_of, external, external_number, is_address}
+use Rattle.spec_format.specs.Headers.{allocations_of}
+use Rattle.spec_format.specs.Standing.{stands}
+use Rattle.spec_format.specs.BlockFiles.{is_among, stands_in, stands_in_blocks}
+use Rattle.spec_format.specs.Maps.{is_block_marked, AreAllocations}
 use Rattle.blk_disk.specs.declared.tables.BlockFiles.{BlockFiles}
 use Rattle.blk_disk.specs.Tables.{Agrees, Resizes, all_files, length_in}
 use Rattle.blk_disk.proofs.Ranges.{stands_agree}

@@ -2,14 +2,14 @@
 use Rattle.std.specs.Prelude.{◌≡◌, ◌≢◌, ◌⊎◌, ℕ, ◌+◌, ◌-◌, ◌/◌, ◌%◌, ◌<◌, ◌≤◌, List, [], ◌∷◌, length, slice_get, true, false, if◌then◌else◌, Some}
 use Rattle.std.specs.List.{All, sum_by}
 use Rattle.std.specs.Option.{ForSome}
-use Rattle.blk_image.specs.Image.{Block, Image, byte, length_of, word}
-use Rattle.blk_image.specs.Told.{Stays, Told}
-use Rattle.blk_image.specs.Footprint.{Footprint, SameOutside, either, one_word}
-use Rattle.blk_format.specs.Address.{file_selector, first_block, block_word, header_size}
-use Rattle.blk_format.specs.Headers.{allocations_of, hints_of, updating_of, updating_place}
-use Rattle.blk_format.specs.BlockFiles.{is_among, most_blocks, most_files}
-use Rattle.blk_format.specs.Growth.{StaysWhole}
-use Rattle.blk_format.specs.Maps.{is_block_marked, group_size, groups_of, AreAllocations, EmptyAgrees, HasAllocations, KeepsFile}
+use Rattle.spec_image.specs.Image.{Block, Image, byte, length_of, word}
+use Rattle.spec_image.specs.Told.{Stays, Told}
+use Rattle.spec_image.specs.Footprint.{Footprint, SameOutside, either, one_word}
+use Rattle.spec_format.specs.Address.{file_selector, first_block, block_word, header_size}
+use Rattle.spec_format.specs.Headers.{allocations_of, hints_of, updating_of, updating_place}
+use Rattle.spec_format.specs.BlockFiles.{is_among, most_blocks, most_files}
+use Rattle.spec_format.specs.Growth.{StaysWhole}
+use Rattle.spec_format.specs.Maps.{is_block_marked, group_size, groups_of, AreAllocations, EmptyAgrees, HasAllocations, KeepsFile}
 use Rattle.blk_io.specs.declared.folder.FileId.TheVariants as names
 use Rattle.blk_io.specs.declared.fault.Damage.{Damage}
 use Rattle.blk_disk.specs.declared.tables.BlockFiles.{BlockFiles}

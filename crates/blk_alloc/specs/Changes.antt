@@ -1,12 +1,12 @@
 -- A change of the marks of blocks in one group of a file, with the counters that go with it.
 use Rattle.std.specs.Prelude.{◌≡◌, ◌⊎◌, ℕ, ◌+◌, ◌-◌, ◌*◌, ◌/◌, ◌%◌, ◌<◌, ◌≤◌, List, [], ◌∷◌, ◌++◌, Bool, true, false, if◌then◌else◌, slice_index}
-use Rattle.blk_image.specs.Bytes.{word_bytes}
-use Rattle.blk_image.specs.Image.{Block, Image, byte, length_of}
-use Rattle.blk_image.specs.Footprint.{Footprint, SameOutside, either, one_word, range}
-use Rattle.blk_format.specs.Address.{header_size}
-use Rattle.blk_format.specs.Headers.{allocations_of, allocations_place, empty_of, empty_place, updating_of, updating_place}
-use Rattle.blk_format.specs.BlockFiles.{max_entries_in, most_blocks}
-use Rattle.blk_format.specs.Maps.{is_block_marked, longest_run, map_place, EmptyAgrees}
+use Rattle.spec_image.specs.Bytes.{word_bytes}
+use Rattle.spec_image.specs.Image.{Block, Image, byte, length_of}
+use Rattle.spec_image.specs.Footprint.{Footprint, SameOutside, either, one_word, range}
+use Rattle.spec_format.specs.Address.{header_size}
+use Rattle.spec_format.specs.Headers.{allocations_of, allocations_place, empty_of, empty_place, updating_of, updating_place}
+use Rattle.spec_format.specs.BlockFiles.{max_entries_in, most_blocks}
+use Rattle.spec_format.specs.Maps.{is_block_marked, longest_run, map_place, EmptyAgrees}
 use Rattle.blk_addr.specs.Bits.{has_bit, is_between}
 use Rattle.blk_alloc.specs.declared.plan.Plan.{Plan}
 use Rattle.blk_alloc.specs.Counting.{counted, IsCounted, largest}

@@ -1,6 +1,6 @@
 -- The counters of a block file's header: how many allocations it has, and how many groups have a longest free run of 1 to 4 blocks.
 use Rattle.std.specs.Prelude.{◌≡◌, ◌≢◌, ◌⊎◌, ℕ, ◌+◌, ◌-◌, ◌^◌, ◌<◌, ◌≤◌, Bool, true, false, ◌==◌, if◌then◌else◌, slice_index}
-use Rattle.blk_format.specs.Headers.{allocations_of, allocations_place, empty_of, empty_place}
+use Rattle.spec_format.specs.Headers.{allocations_of, allocations_place, empty_of, empty_place}
 use Rattle.blk_io.specs.declared.folder.FileId.TheVariants as names
 use Rattle.blk_io.specs.declared.fault.Damage.{Damage}
 use Rattle.blk_alloc.specs.declared.counters.Counters.{Counters}

@@ -1,10 +1,10 @@
 -- Files get room for blocks.
 use Rattle.std.specs.Prelude.{◌≡◌, ◌≢◌, ℕ, ◌<◌, List, true, ◌≤◌, ◌++◌, ◌∷◌, Option, None, Some}
 use Rattle.std.specs.List.{All}
-use Rattle.blk_image.specs.Image.{Block, Image, byte}
-use Rattle.blk_format.specs.Headers.{allocations_of, hints_of}
-use Rattle.blk_format.specs.BlockFiles.{is_among, most_blocks}
-use Rattle.blk_format.specs.Maps.{is_block_marked, AreAllocations, EmptyAgrees, KeepsFile}
+use Rattle.spec_image.specs.Image.{Block, Image, byte}
+use Rattle.spec_format.specs.Headers.{allocations_of, hints_of}
+use Rattle.spec_format.specs.BlockFiles.{is_among, most_blocks}
+use Rattle.spec_format.specs.Maps.{is_block_marked, AreAllocations, EmptyAgrees, KeepsFile}
 use Rattle.blk_disk.specs.declared.tables.BlockFiles.{BlockFiles}
 use Rattle.blk_disk.specs.Tables.{all_files, blocks_of, files_of, length_in, stands_among}
 use Rattle.blk_disk.specs.Growth.{whole_length}

@@ -2,12 +2,12 @@
 use Rattle.std.specs.Prelude.{◌≡◌, ◌≢◌, ◌⊎◌, ℕ, ◌+◌, ◌*◌, ◌/◌, ◌%◌, ◌<◌, ◌≤◌, Bool, List, ◌∷◌, ◌++◌, true}
 use Rattle.std.specs.List.{All}
 use Rattle.std.specs.Option.{ForSome}
-use Rattle.blk_image.specs.Bytes.{range_at, word_bytes}
-use Rattle.blk_image.specs.Image.{Block, Image, byte}
-use Rattle.blk_image.specs.Told.{Told}
-use Rattle.blk_format.specs.BlockFiles.{is_among, max_entries_in, most_blocks}
-use Rattle.blk_format.specs.Headers.{block_fields_length, empty_of, empty_place, hints_of}
-use Rattle.blk_format.specs.Maps.{is_block_marked, group_size, groups_of, longest_run, map_place}
+use Rattle.spec_image.specs.Bytes.{range_at, word_bytes}
+use Rattle.spec_image.specs.Image.{Block, Image, byte}
+use Rattle.spec_image.specs.Told.{Told}
+use Rattle.spec_format.specs.BlockFiles.{is_among, max_entries_in, most_blocks}
+use Rattle.spec_format.specs.Headers.{block_fields_length, empty_of, empty_place, hints_of}
+use Rattle.spec_format.specs.Maps.{is_block_marked, group_size, groups_of, longest_run, map_place}
 use Rattle.blk_io.specs.declared.folder.FileId.TheVariants as names
 use Rattle.blk_io.specs.declared.fault.Damage.{Damage}
 use Rattle.blk_io.specs.Faults.{IsShort}

@@ -1,11 +1,11 @@
 -- Laws on what is asked of maps and counters: how it comes about, and that other changes leave it.
 use Rattle.std.specs.Prelude.{◌≡◌, ◌⊎◌, ℕ, ◌<◌, [], ◌∷◌, true, false, Some}
-use Rattle.blk_image.specs.Bytes.{zeros}
-use Rattle.blk_image.specs.Image.{Block, File, Image}
-use Rattle.blk_image.specs.Steps.{with_words}
-use Rattle.blk_image.specs.Footprint.{Footprint, SameOutside}
-use Rattle.blk_format.specs.Address.{file_selector, header_size, is_block_kind}
-use Rattle.blk_format.specs.BlockFiles.{is_among}
+use Rattle.spec_image.specs.Bytes.{zeros}
+use Rattle.spec_image.specs.Image.{Block, File, Image}
+use Rattle.spec_image.specs.Steps.{with_words}
+use Rattle.spec_image.specs.Footprint.{Footprint, SameOutside}
+use Rattle.spec_format.specs.Address.{file_selector, header_size, is_block_kind}
+use Rattle.spec_format.specs.BlockFiles.{is_among}
 use Rattle.blk_disk.specs.declared.tables.BlockFiles.{BlockFiles}
 use Rattle.blk_disk.specs.Tables.{Agrees, all_files, files_of, stands_among}
 use Rattle.blk_disk.specs.Growth.{header_words}

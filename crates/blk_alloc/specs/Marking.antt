@@ -1,11 +1,11 @@
 -- Blocks of a file are taken: the file is lengthened to its blocks, and the blocks are marked.
 use Rattle.std.specs.Prelude.{◌≡◌, ◌≢◌, ◌⊎◌, ℕ, ◌+◌, ◌/◌, ◌<◌, ◌≤◌, List, ◌∷◌, true, false, if◌then◌else◌}
-use Rattle.blk_image.specs.Image.{Block, Image, byte, length_of}
-use Rattle.blk_image.specs.Footprint.{Footprint, SameOutside, either, one_word, range, size_of}
-use Rattle.blk_format.specs.Address.{file_selector}
-use Rattle.blk_format.specs.Headers.{allocations_of, empty_of, hints_of, updating_of, updating_place}
-use Rattle.blk_format.specs.BlockFiles.{is_among, most_blocks}
-use Rattle.blk_format.specs.Maps.{is_block_marked, are_free, longest_run, AreAllocations, EmptyAgrees}
+use Rattle.spec_image.specs.Image.{Block, Image, byte, length_of}
+use Rattle.spec_image.specs.Footprint.{Footprint, SameOutside, either, one_word, range, size_of}
+use Rattle.spec_format.specs.Address.{file_selector}
+use Rattle.spec_format.specs.Headers.{allocations_of, empty_of, hints_of, updating_of, updating_place}
+use Rattle.spec_format.specs.BlockFiles.{is_among, most_blocks}
+use Rattle.spec_format.specs.Maps.{is_block_marked, are_free, longest_run, AreAllocations, EmptyAgrees}
 use Rattle.blk_disk.specs.declared.tables.BlockFiles.{BlockFiles}
 use Rattle.blk_disk.specs.Tables.{all_files}
 use Rattle.blk_alloc.specs.declared.blocks.Blocks.{Blocks}

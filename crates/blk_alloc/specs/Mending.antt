@@ -1,11 +1,11 @@
 -- Words that are written only where they differ.
 use Rattle.std.specs.Prelude.{◌≡◌, ◌≢◌, ℕ, ◌+◌, ◌*◌, ◌<◌, ◌≤◌, List, [], ◌∷◌, length}
 use Rattle.std.specs.Option.{ForSome}
-use Rattle.blk_image.specs.Bytes.{content, range_at}
-use Rattle.blk_image.specs.Image.{File, Image, byte, length_of}
-use Rattle.blk_image.specs.Steps.{TrailStep, Word, SetLength, Delete, Note, applied}
-use Rattle.blk_image.specs.Footprint.{SameOutside, range}
-use Rattle.blk_image.specs.Told.{Told, Along, Applies, IsQuiet}
+use Rattle.spec_image.specs.Bytes.{content, range_at}
+use Rattle.spec_image.specs.Image.{File, Image, byte, length_of}
+use Rattle.spec_image.specs.Steps.{TrailStep, Word, SetLength, Delete, Note, applied}
+use Rattle.spec_image.specs.Footprint.{SameOutside, range}
+use Rattle.spec_image.specs.Told.{Told, Along, Applies, IsQuiet}
 
 -- a step is needed: it writes bytes that aren't there already, or lengthens a file
 abbrev pub IsNeeded : Image → TrailStep → Type 0

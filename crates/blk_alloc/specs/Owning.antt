@@ -1,15 +1,15 @@
 -- Allocations of block files that come and go.
 use Rattle.std.specs.Prelude.{◌≡◌, ◌≢◌, ◌⊎◌, ℕ, ◌+◌, ◌*◌, ◌/◌, ◌%◌, ◌<◌, List, filter, Bool, true, false, not, ◌&&◌, ◌==◌, if◌then◌else◌}
 use Rattle.std.specs.Option.{ForSome}
-use Rattle.blk_image.specs.Bytes.{range_at}
-use Rattle.blk_image.specs.Image.{Block, Image, byte}
-use Rattle.blk_image.specs.Told.{Told}
-use Rattle.blk_image.specs.Footprint.{SameOutside}
-use Rattle.blk_format.specs.Address.{file_selector, first_block, block_count}
-use Rattle.blk_format.specs.Headers.{allocations_of, block_fields_length, empty_of, updating_of}
-use Rattle.blk_format.specs.BlockFiles.{is_among, most_blocks}
-use Rattle.blk_format.specs.Growth.{StaysWhole}
-use Rattle.blk_format.specs.Maps.{is_block_marked, longest_run, map_place, AreAllocations, EmptyAgrees, KeepsFile}
+use Rattle.spec_image.specs.Bytes.{range_at}
+use Rattle.spec_image.specs.Image.{Block, Image, byte}
+use Rattle.spec_image.specs.Told.{Told}
+use Rattle.spec_image.specs.Footprint.{SameOutside}
+use Rattle.spec_format.specs.Address.{file_selector, first_block, block_count}
+use Rattle.spec_format.specs.Headers.{allocations_of, block_fields_length, empty_of, updating_of}
+use Rattle.spec_format.specs.BlockFiles.{is_among, most_blocks}
+use Rattle.spec_format.specs.Growth.{StaysWhole}
+use Rattle.spec_format.specs.Maps.{is_block_marked, longest_run, map_place, AreAllocations, EmptyAgrees, KeepsFile}
 use Rattle.blk_addr.specs.Bits.{has_bit, is_between}
 use Rattle.blk_io.specs.declared.folder.FileId.TheVariants as names
 use Rattle.blk_io.specs.declared.fault.Damage.{Damage}

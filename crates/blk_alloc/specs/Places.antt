@@ -1,6 +1,6 @@
 -- Where free blocks lie side by side inside one group, by a test that says which blocks are marked.
 use Rattle.std.specs.Prelude.{◌≡◌, ℕ, ◌+◌, ◌%◌, ◌<◌, ◌≤◌, Bool, false, ◌&&◌, nat_le}
-use Rattle.blk_format.specs.Maps.{group_size, are_free}
+use Rattle.spec_format.specs.Maps.{group_size, are_free}
 
 -- so many blocks from block b on lie inside one group, and all are free
 unfoldable pub is_place : (ℕ → Bool) → ℕ → ℕ → Bool

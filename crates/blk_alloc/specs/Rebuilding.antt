@@ -1,19 +1,19 @@
 -- Maps and counters are made anew, and are then those of claims.
 use Rattle.std.specs.Prelude.{◌≡◌, ◌⊎◌, ℕ, ◌+◌, ◌<◌, ◌≤◌, List, filter, max, slice_index, Bool, false, true, ◌&&◌, ◌||◌}
 use Rattle.std.specs.List.{All}
-use Rattle.blk_image.specs.Bytes.{content, range_at}
-use Rattle.blk_image.specs.Image.{File, Block, Image, byte, length_of}
-use Rattle.blk_image.specs.Footprint.{Footprint, SameOutside, either, one_word, range}
-use Rattle.blk_format.specs.Growth.{StaysWhole}
-use Rattle.blk_format.specs.Address.{header_size}
-use Rattle.blk_format.specs.Claims.{BlockOf, is_in_file}
-use Rattle.blk_format.specs.Headers.{allocations_of, allocations_place, block_fields_length, empty_of, empty_place, updating_of, updating_place}
-use Rattle.blk_format.specs.BlockFiles.{is_among, max_entries_in, most_blocks, stands_in}
-use Rattle.blk_format.specs.Maps.{is_block_marked, groups_of, groups_with, map_place, AreAllocations, EmptyAgrees}
+use Rattle.spec_image.specs.Bytes.{content, range_at}
+use Rattle.spec_image.specs.Image.{File, Block, Image, byte, length_of}
+use Rattle.spec_image.specs.Footprint.{Footprint, SameOutside, either, one_word, range}
+use Rattle.spec_format.specs.Growth.{StaysWhole}
+use Rattle.spec_format.specs.Address.{header_size}
+use Rattle.spec_format.specs.Claims.{BlockOf, is_in_file}
+use Rattle.spec_format.specs.Headers.{allocations_of, allocations_place, block_fields_length, empty_of, empty_place, updating_of, updating_place}
+use Rattle.spec_format.specs.BlockFiles.{is_among, max_entries_in, most_blocks, stands_in}
+use Rattle.spec_format.specs.Maps.{is_block_marked, groups_of, groups_with, map_place, AreAllocations, EmptyAgrees}
 use Rattle.blk_addr.specs.Bits.{has_bit, is_between}
 use Rattle.blk_addr.specs.Claims.{contains_claim, allocations_in, IsClaimsOf}
 use Rattle.blk_addr.specs.declared.claim_set.Claims.{Claims}
-use Rattle.blk_image.specs.Told.{Told}
+use Rattle.spec_image.specs.Told.{Told}
 use Rattle.blk_io.specs.declared.folder.FileId.TheVariants as names
 use Rattle.blk_io.specs.declared.fault.Damage.{Damage}
 use Rattle.blk_io.specs.Faults.{IsShort}

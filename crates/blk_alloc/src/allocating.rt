@@ -2,12 +2,12 @@
 ghost use Rattle.std.specs.Prelude.{◌≡◌, ◌≢◌, ◌⊎◌, ◌≤◌, ◌<◌, ◌+◌, ◌-◌, ◌/◌, ◌%◌, [], true, false, None, IfOk, OnOk, IsTrue, length};
 ghost use Rattle.std.specs.List.{All};
 ghost use Rattle.std.specs.Option.{ForSome};
-ghost use Rattle.blk_image.specs.Image.{Block as block, byte};
-ghost use Rattle.blk_image.specs.Told.{Passes, PassesTo, Rises, Stays};
-ghost use Rattle.blk_format.specs.Address.{block_count, external, file_selector, is_address, kind_of, rankings};
-ghost use Rattle.blk_format.specs.BlockFiles.{is_among, most_files};
-ghost use Rattle.blk_format.specs.Headers.{allocations_of, empty_of};
-ghost use Rattle.blk_format.specs.Maps.{group_size, AreAllocations, EmptyAgrees};
+ghost use Rattle.spec_image.specs.Image.{Block as block, byte};
+ghost use Rattle.spec_image.specs.Told.{Passes, PassesTo, Rises, Stays};
+ghost use Rattle.spec_format.specs.Address.{block_count, external, file_selector, is_address, kind_of, rankings};
+ghost use Rattle.spec_format.specs.BlockFiles.{is_among, most_files};
+ghost use Rattle.spec_format.specs.Headers.{allocations_of, empty_of};
+ghost use Rattle.spec_format.specs.Maps.{group_size, AreAllocations, EmptyAgrees};
 ghost use Rattle.blk_addr.specs.Kind.{kind_number};
 ghost use Rattle.blk_io.specs.Faults.{IfDamaged, IfDevice};
 ghost use Rattle.blk_disk.specs.Tables.{Agrees, all_files, blocks_of, files_of, stands_among};
@@ -16,7 +16,7 @@ ghost use Rattle.blk_alloc.specs.Fitting.{IsPlace};
 ghost use Rattle.blk_alloc.specs.Extending.{HasItsBlocks, HasMostBlocks, HasNoHints, KeepsAll, KeepsHintsOf, KeepsLinks, KeepsMarks, KeepsStanding};
 ghost use Rattle.blk_alloc.specs.Marking.{taking_of};
 ghost use Rattle.blk_alloc.specs.Allocating.{AllocatesIn, AreCounted, ExtendsAnd, HaveNoRoom, IsAddedPlace, IsChosen, IsCountedOnce, IsGrownRoom, IsKindFull, LiesAtHint, SetsHint, most_words, Allocates, AllocatesInProgress, AllocatesOrStops, Extends, ExtendsAndAllocates, ExtendsInProgress, IsRefusal, MakesRoomInProgress, updating_word};
-ghost use Rattle.blk_format.specs.Growth.{StaysWhole};
+ghost use Rattle.spec_format.specs.Growth.{StaysWhole};
 
 use crate::blocks::Blocks;
 use crate::extending::{add_room, grow_room, growing_file};

@@ -1,7 +1,7 @@
 // Blocks of a file, as an address names them.
 ghost use Rattle.std.specs.Prelude.{◌≡◌, ◌≢◌, ◌≤◌, ◌<◌, ◌+◌, ◌%◌};
-ghost use Rattle.blk_format.specs.Address.{block_count, external, file_selector, first_block, kind_of};
-ghost use Rattle.blk_format.specs.Maps.{group_size};
+ghost use Rattle.spec_format.specs.Address.{block_count, external, file_selector, first_block, kind_of};
+ghost use Rattle.spec_format.specs.Maps.{group_size};
 
 use blk_addr::{Addr, FileId};
 

@@ -1,10 +1,10 @@
 // The marks of blocks in one group of a file change, and the counters with them.
 ghost use Rattle.std.specs.Prelude.{◌≡◌, ◌⊎◌, ◌≤◌, ◌<◌, ◌+◌, ◌/◌, ◌%◌, ◌^◌, None, OnOk};
 ghost use Rattle.std.specs.Option.{ForSome};
-ghost use Rattle.blk_image.specs.Image.{Block as block, length_of};
-ghost use Rattle.blk_image.specs.Told.{PassesTo, Rises, Stays};
-ghost use Rattle.blk_format.specs.BlockFiles.{most_blocks};
-ghost use Rattle.blk_format.specs.Maps.{group_size};
+ghost use Rattle.spec_image.specs.Image.{Block as block, length_of};
+ghost use Rattle.spec_image.specs.Told.{PassesTo, Rises, Stays};
+ghost use Rattle.spec_format.specs.BlockFiles.{most_blocks};
+ghost use Rattle.spec_format.specs.Maps.{group_size};
 ghost use Rattle.blk_io.specs.Faults.{IfDamaged, IfDevice};
 ghost use Rattle.blk_alloc.specs.Changes.{CanChangeMarks, IsMapInProgress, IsChanged};
 ghost use Rattle.blk_alloc.specs.Fitting.{IsMapWord};

@@ -1,6 +1,6 @@
 // The marks that claims make, and the room that they leave.
 ghost use Rattle.std.specs.Prelude.{◌≡◌, ℕ, ◌+◌, ◌*◌, ◌^◌, ◌<◌, ◌≤◌, length, slice_index};
-ghost use Rattle.blk_format.specs.Maps.{group_size, groups_with};
+ghost use Rattle.spec_format.specs.Maps.{group_size, groups_with};
 ghost use Rattle.blk_addr.specs.Bits.{has_bit};
 ghost use Rattle.blk_alloc.specs.Counting.{counted};
 ghost use Rattle.blk_alloc.specs.Rebuilding.{is_block_claimed};

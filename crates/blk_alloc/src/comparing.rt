@@ -1,10 +1,10 @@
 // Whether the map and the counters of a file are those of claims already.
 ghost use Rattle.std.specs.Prelude.{◌≡◌, ℕ, ◌≤◌, ◌<◌, length, IsTrue};
-ghost use Rattle.blk_image.specs.Bytes.{content};
-ghost use Rattle.blk_image.specs.Image.{Image};
-ghost use Rattle.blk_format.specs.BlockFiles.{max_entries_in};
-ghost use Rattle.blk_format.specs.Headers.{block_fields_length};
-ghost use Rattle.blk_format.specs.Maps.{groups_of};
+ghost use Rattle.spec_image.specs.Bytes.{content};
+ghost use Rattle.spec_image.specs.Image.{Image};
+ghost use Rattle.spec_format.specs.BlockFiles.{max_entries_in};
+ghost use Rattle.spec_format.specs.Headers.{block_fields_length};
+ghost use Rattle.spec_format.specs.Maps.{groups_of};
 ghost use Rattle.blk_alloc.specs.Rebuilding.{AreBitsOf, AreHeaderBytes, HasMarksOf, HasTheseCounters};
 
 use crate::claimed::count_runs;

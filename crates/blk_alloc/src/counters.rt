@@ -1,9 +1,9 @@
 // The counters of a block file's header.
 ghost use Rattle.std.specs.Prelude.{◌≡◌, ◌≤◌, ◌<◌, ◌+◌, ◌-◌, ◌*◌, ℕ, length, slice_index, IfOk};
 ghost use Rattle.std.specs.Option.{ForSome};
-ghost use Rattle.blk_image.specs.Image.{Block as block, byte};
-ghost use Rattle.blk_image.specs.Told.{Stays, Rises};
-ghost use Rattle.blk_format.specs.Maps.{group_size};
+ghost use Rattle.spec_image.specs.Image.{Block as block, byte};
+ghost use Rattle.spec_image.specs.Told.{Stays, Rises};
+ghost use Rattle.spec_format.specs.Maps.{group_size};
 ghost use Rattle.blk_io.specs.Faults.{IfDamaged, IfDevice, IsShort};
 
 use blk_io::{Damage, Fault, FileId, Folder, read_exact};

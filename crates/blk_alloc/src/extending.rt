@@ -1,15 +1,15 @@
 // Files get room for blocks.
 ghost use Rattle.std.specs.Prelude.{◌≡◌, ◌≢◌, ◌*◌, ◌/◌, ◌≤◌, ◌<◌, [], None, length, IfOk, OnOk, OnErr, IsTrue};
 ghost use Rattle.std.specs.Option.{ForSome};
-ghost use Rattle.blk_image.specs.Footprint.{either};
-ghost use Rattle.blk_image.specs.Image.{Block as block, byte};
-ghost use Rattle.blk_format.specs.Headers.{empty_of};
-ghost use Rattle.blk_image.specs.Told.{Passes, Rises};
-ghost use Rattle.blk_format.specs.BlockFiles.{is_among, most_blocks, most_files};
-ghost use Rattle.blk_format.specs.Address.{external};
-ghost use Rattle.blk_format.specs.Growth.{StaysWholeOutside};
+ghost use Rattle.spec_image.specs.Footprint.{either};
+ghost use Rattle.spec_image.specs.Image.{Block as block, byte};
+ghost use Rattle.spec_format.specs.Headers.{empty_of};
+ghost use Rattle.spec_image.specs.Told.{Passes, Rises};
+ghost use Rattle.spec_format.specs.BlockFiles.{is_among, most_blocks, most_files};
+ghost use Rattle.spec_format.specs.Address.{external};
+ghost use Rattle.spec_format.specs.Growth.{StaysWholeOutside};
 ghost use Rattle.blk_addr.specs.Kind.{kind_number};
-ghost use Rattle.blk_format.specs.Maps.{group_size, AreAllocations, EmptyAgrees};
+ghost use Rattle.spec_format.specs.Maps.{group_size, AreAllocations, EmptyAgrees};
 ghost use Rattle.blk_disk.specs.Tables.{Agrees, blocks_of, files_of};
 ghost use Rattle.blk_disk.specs.Growth.{IsLeastFileNumber, addition_of, free_number, grown, growth_of, new_groups, raised};
 ghost use Rattle.blk_alloc.specs.Fitting.{IsPlace};

@@ -1,9 +1,9 @@
 // The counters of a file are written, and its change is done.
 ghost use Rattle.std.specs.Prelude.{◌≡◌, ◌≤◌, length, OnOk, OnErr};
 ghost use Rattle.std.specs.Option.{ForSome};
-ghost use Rattle.blk_image.specs.Image.{Block as block, length_of};
-ghost use Rattle.blk_image.specs.Steps.{word_steps};
-ghost use Rattle.blk_image.specs.Told.{Applies, AppliesPrefix, Rises};
+ghost use Rattle.spec_image.specs.Image.{Block as block, length_of};
+ghost use Rattle.spec_image.specs.Steps.{word_steps};
+ghost use Rattle.spec_image.specs.Told.{Applies, AppliesPrefix, Rises};
 ghost use Rattle.blk_alloc.specs.Changes.{counter_words, finish_words};
 
 use blk_io::{Failed, FileId, Folder, write_run, write_word};

@@ -1,12 +1,12 @@
 // The blocks to which counters and hints lead.
 ghost use Rattle.std.specs.Prelude.{◌≡◌, ◌≢◌, ◌≤◌, ◌<◌, ◌+◌, ◌*◌, ◌/◌, ◌%◌, ℕ, min, true, None, IfOk, IfSome, length, slice_index};
 ghost use Rattle.std.specs.Option.{ForSome};
-ghost use Rattle.blk_image.specs.Image.{Block as block, byte};
-ghost use Rattle.blk_image.specs.Told.{Stays, Rises};
-ghost use Rattle.blk_format.specs.Address.{external};
-ghost use Rattle.blk_format.specs.BlockFiles.{is_among, most_blocks};
-ghost use Rattle.blk_format.specs.Headers.{empty_of, hints_of};
-ghost use Rattle.blk_format.specs.Maps.{group_size, groups_of, EmptyAgrees};
+ghost use Rattle.spec_image.specs.Image.{Block as block, byte};
+ghost use Rattle.spec_image.specs.Told.{Stays, Rises};
+ghost use Rattle.spec_format.specs.Address.{external};
+ghost use Rattle.spec_format.specs.BlockFiles.{is_among, most_blocks};
+ghost use Rattle.spec_format.specs.Headers.{empty_of, hints_of};
+ghost use Rattle.spec_format.specs.Maps.{group_size, groups_of, EmptyAgrees};
 ghost use Rattle.blk_addr.specs.Kind.{kind_number};
 ghost use Rattle.blk_io.specs.Faults.{IfDamaged, IfDevice};
 ghost use Rattle.blk_disk.specs.Tables.{Agrees, all_files, blocks_of, files_of};

@@ -1,8 +1,8 @@
 // Blocks are freed.
 ghost use Rattle.std.specs.Prelude.{◌≡◌, ◌≤◌, false, None, IsTrue, OnOk};
 ghost use Rattle.std.specs.Option.{ForSome};
-ghost use Rattle.blk_image.specs.Told.{PassesTo, Rises, Stays};
-ghost use Rattle.blk_format.specs.Address.{block_count, file_selector, first_block};
+ghost use Rattle.spec_image.specs.Told.{PassesTo, Rises, Stays};
+ghost use Rattle.spec_format.specs.Address.{block_count, file_selector, first_block};
 ghost use Rattle.blk_io.specs.Faults.{IfDamaged, IfDevice};
 ghost use Rattle.blk_disk.specs.Tables.{Agrees, stands_among};
 ghost use Rattle.blk_alloc.specs.Marking.{KeepsHints};

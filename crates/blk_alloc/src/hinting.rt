@@ -1,9 +1,9 @@
 // Hints are set.
 ghost use Rattle.std.specs.Prelude.{◌≡◌, ◌≤◌, ◌<◌, None, OnOk, OnErr};
 ghost use Rattle.std.specs.Option.{ForSome};
-ghost use Rattle.blk_image.specs.Footprint.{SameOutside, one_word};
-ghost use Rattle.blk_image.specs.Image.{Block as block, length_of};
-ghost use Rattle.blk_image.specs.Told.{Passes, Rises};
+ghost use Rattle.spec_image.specs.Footprint.{SameOutside, one_word};
+ghost use Rattle.spec_image.specs.Image.{Block as block, length_of};
+ghost use Rattle.spec_image.specs.Told.{Passes, Rises};
 ghost use Rattle.blk_alloc.specs.Fitting.{hint_place};
 ghost use Rattle.blk_alloc.specs.Marking.{HasHint};
 

@@ -1,8 +1,8 @@
 // The blocks that bytes of a map mark, and the room that they leave. Block b is bit b % 8 of byte b / 8.
 ghost use Rattle.std.specs.Prelude.{◌≡◌, ℕ, ◌+◌, ◌*◌, ◌^◌, ◌<◌, ◌≤◌, ◌==◌, length, if◌then◌else◌};
-ghost use Rattle.blk_image.specs.Bytes.{word_bytes};
-ghost use Rattle.blk_format.specs.Maps as maps;
-ghost use Rattle.blk_format.specs.Maps.{group_size};
+ghost use Rattle.spec_image.specs.Bytes.{word_bytes};
+ghost use Rattle.spec_format.specs.Maps as maps;
+ghost use Rattle.spec_format.specs.Maps.{group_size};
 ghost use Rattle.blk_addr.specs.Bits.{has_bit, is_between};
 ghost use Rattle.blk_alloc.specs.Places as places;
 
@@ -23,7 +23,7 @@ pub(crate) fn is_marked(bytes: &[u8], b: u32) -> bool
 }
 
 // Whether none of the `count` blocks from one on is marked.
-#[tactic(auto, unfolding(blk_format::specs::Maps::are_free))]
+#[tactic(auto, unfolding(spec_format::specs::Maps::are_free))]
 fn are_free(bytes: &[u8], b: u32, count: u32) -> bool
     requires { b + count < 2 ^ 32 }
     ensures { result ≡ maps.are_free (has_bit bytes.now) b count }
@@ -32,7 +32,7 @@ fn are_free(bytes: &[u8], b: u32, count: u32) -> bool
 }
 
 // Whether `count` free blocks lie side by side in a group.
-#[tactic(auto, unfolding(blk_format::specs::Maps::has_run))]
+#[tactic(auto, unfolding(spec_format::specs::Maps::has_run))]
 fn has_run(bytes: &[u8], group: u32, count: u32) -> bool
     requires few { count ≤ group_size }
     requires small { group < 2 ^ 16 }
@@ -42,7 +42,7 @@ fn has_run(bytes: &[u8], group: u32, count: u32) -> bool
 }
 
 // The longest run of free blocks in a group.
-#[tactic(auto, unfolding(blk_format::specs::Maps::longest_run))]
+#[tactic(auto, unfolding(spec_format::specs::Maps::longest_run))]
 pub(crate) fn longest_run(bytes: &[u8], group: u32) -> u32
     requires { group < 2 ^ 16 }
     ensures run { result ≡ maps.longest_run (has_bit bytes.now) group }

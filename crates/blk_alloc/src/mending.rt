@@ -1,10 +1,10 @@
 // Words of a header are written where they differ.
 ghost use Rattle.std.specs.Prelude.{◌≡◌, ◌⊎◌, ◌+◌, ◌%◌, ◌<◌, ◌≤◌, ◌^◌, None, length, OnOk, OnErr};
 ghost use Rattle.std.specs.Option.{ForSome};
-ghost use Rattle.blk_image.specs.Image.{Block as block, HasRange, byte, length_of};
-ghost use Rattle.blk_image.specs.Told.{Rises, Stays};
-ghost use Rattle.blk_format.specs.Address.{header_size};
-ghost use Rattle.blk_format.specs.Headers.{block_fields_length};
+ghost use Rattle.spec_image.specs.Image.{Block as block, HasRange, byte, length_of};
+ghost use Rattle.spec_image.specs.Told.{Rises, Stays};
+ghost use Rattle.spec_format.specs.Address.{header_size};
+ghost use Rattle.spec_format.specs.Headers.{block_fields_length};
 ghost use Rattle.blk_alloc.specs.Mending.{IsFrontWritten, AreBytesWritten, KeepsLength, PassesNeeded, StandAt};
 ghost use Rattle.blk_alloc.specs.Rebuilding.{HasReadCounters, HasTheseCounters, IsCounting};
 

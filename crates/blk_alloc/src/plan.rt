@@ -1,10 +1,10 @@
 // The plan of a change of marks: what is read of a header, and what is to be written.
 ghost use Rattle.std.specs.Prelude.{◌≡◌, ◌≤◌, ◌<◌, ◌+◌, ◌*◌, ◌/◌, ◌%◌, ◌^◌, ℕ, None, slice_index, IfOk, OnOk, OnErr};
 ghost use Rattle.std.specs.Option.{ForSome};
-ghost use Rattle.blk_image.specs.Image.{Block as block, length_of};
-ghost use Rattle.blk_image.specs.Steps.{word_steps};
-ghost use Rattle.blk_image.specs.Told.{Applies, AppliesPrefix, Stays, Rises};
-ghost use Rattle.blk_format.specs.Maps.{group_size};
+ghost use Rattle.spec_image.specs.Image.{Block as block, length_of};
+ghost use Rattle.spec_image.specs.Steps.{word_steps};
+ghost use Rattle.spec_image.specs.Told.{Applies, AppliesPrefix, Stays, Rises};
+ghost use Rattle.spec_format.specs.Maps.{group_size};
 ghost use Rattle.blk_io.specs.Faults.{IfDamaged, IfDevice};
 
 use crate::counters::Counters;

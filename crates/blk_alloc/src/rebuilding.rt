@@ -1,13 +1,13 @@
 // Maps and counters are made anew, from claims.
 ghost use Rattle.std.specs.Prelude.{◌≡◌, ℕ, ◌+◌, ◌/◌, ◌<◌, ◌≤◌, [], ◌∷◌, true, None, max, length, IfOk, OnOk, OnErr, IsTrue};
 ghost use Rattle.std.specs.Option.{ForSome};
-ghost use Rattle.blk_image.specs.Bytes.{word_bytes};
-ghost use Rattle.blk_image.specs.Image.{Block as block, length_of};
-ghost use Rattle.blk_image.specs.Told.{Rises, Stays};
-ghost use Rattle.blk_format.specs.Address.{header_size};
-ghost use Rattle.blk_format.specs.BlockFiles.{is_among, max_entries_in};
-ghost use Rattle.blk_format.specs.Headers.{block_fields_length, updating_place};
-ghost use Rattle.blk_format.specs.Maps.{groups_of};
+ghost use Rattle.spec_image.specs.Bytes.{word_bytes};
+ghost use Rattle.spec_image.specs.Image.{Block as block, length_of};
+ghost use Rattle.spec_image.specs.Told.{Rises, Stays};
+ghost use Rattle.spec_format.specs.Address.{header_size};
+ghost use Rattle.spec_format.specs.BlockFiles.{is_among, max_entries_in};
+ghost use Rattle.spec_format.specs.Headers.{block_fields_length, updating_place};
+ghost use Rattle.spec_format.specs.Maps.{groups_of};
 ghost use Rattle.blk_io.specs.Faults.{IfDamaged, IfDevice};
 ghost use Rattle.blk_disk.specs.Growth.{whole_length};
 ghost use Rattle.blk_disk.specs.Tables.{Agrees, Resizes, all_files, files_of, length_in};

@@ -1,11 +1,11 @@
 // The search of a map from a hint on.
 ghost use Rattle.std.specs.Prelude.{◌≡◌, ◌≢◌, ◌≤◌, ◌<◌, ◌+◌, ◌*◌, ◌/◌, ◌%◌, ℕ, true, None, IfOk, IfSome};
 ghost use Rattle.std.specs.Option.{ForSome};
-ghost use Rattle.blk_image.specs.Bytes.{word_bytes};
-ghost use Rattle.blk_image.specs.Told.{Stays, Rises};
-ghost use Rattle.blk_format.specs.BlockFiles.{is_among};
-ghost use Rattle.blk_format.specs.Maps as maps;
-ghost use Rattle.blk_format.specs.Maps.{group_size, groups_of, is_block_marked};
+ghost use Rattle.spec_image.specs.Bytes.{word_bytes};
+ghost use Rattle.spec_image.specs.Told.{Stays, Rises};
+ghost use Rattle.spec_format.specs.BlockFiles.{is_among};
+ghost use Rattle.spec_format.specs.Maps as maps;
+ghost use Rattle.spec_format.specs.Maps.{group_size, groups_of, is_block_marked};
 ghost use Rattle.blk_addr.specs.Bits.{has_bit};
 ghost use Rattle.blk_io.specs.Faults.{IfDamaged, IfDevice};
 ghost use Rattle.blk_disk.specs.Tables.{Agrees, all_files, blocks_of};

@@ -1,10 +1,10 @@
 // Blocks that were found are taken.
 ghost use Rattle.std.specs.Prelude.{◌≡◌, ◌≢◌, ◌⊎◌, ◌≤◌, ◌<◌, ◌/◌, true, None, IfOk, OnOk, IsTrue};
 ghost use Rattle.std.specs.Option.{ForSome};
-ghost use Rattle.blk_image.specs.Told.{PassesTo, Rises};
-ghost use Rattle.blk_format.specs.Address as address;
-ghost use Rattle.blk_format.specs.Address.{external, rankings};
-ghost use Rattle.blk_format.specs.Maps.{group_size};
+ghost use Rattle.spec_image.specs.Told.{PassesTo, Rises};
+ghost use Rattle.spec_format.specs.Address as address;
+ghost use Rattle.spec_format.specs.Address.{external, rankings};
+ghost use Rattle.spec_format.specs.Maps.{group_size};
 ghost use Rattle.blk_addr.specs.Kind.{kind_number};
 ghost use Rattle.blk_io.specs.Faults.{IfDamaged, IfDevice};
 ghost use Rattle.blk_disk.specs.Tables.{Agrees, stands_among};

@@ -8,14 +8,14 @@ use Rattle.std.proofs.lemmas.Bool.Decides.{nat_tests}
 use Rattle.std.proofs.lemmas.Grind.{flat_map-append}
 use Rattle.std.proofs.lemmas.List.{append-nil, map-append}
 use Rattle.std.proofs.lemmas.List.Elements.{filter-append}
-use Rattle.blk_format.specs.Headers.{table_length}
-use Rattle.blk_format.specs.BlockFiles.{is_among}
-use Rattle.blk_format.proofs.Among.{is_among-append}
-use Rattle.blk_volume.specs.Audit.{is_unlisted, unlisted, unlisted_in}
-use Rattle.blk_volume.specs.Chains.{bucket_of_hash, chain, is_of_bucket, most_records}
-use Rattle.blk_volume.specs.Reasons.{Reason}
-use Rattle.blk_volume.specs.Reasons as reason
-use Rattle.blk_volume.specs.View.{RecordFields, StoreView, View}
+use Rattle.spec_format.specs.Headers.{table_length}
+use Rattle.spec_format.specs.BlockFiles.{is_among}
+use Rattle.spec_format.proofs.Among.{is_among-append}
+use Rattle.spec_folder.specs.Audit.{is_unlisted, unlisted, unlisted_in}
+use Rattle.spec_folder.specs.Chains.{bucket_of_hash, chain, is_of_bucket, most_records}
+use Rattle.spec_folder.specs.Reasons.{Reason}
+use Rattle.spec_folder.specs.Reasons as reason
+use Rattle.spec_folder.specs.View.{RecordFields, StoreView, View}
 use Rattle.blk_audit.specs.Chaining.{reached_by}
 use Rattle.blk_audit.specs.ChainLaws.{ReachedAreTheChains, ReachedAreChained, UnlistedAreReached}
 use Rattle.blk_audit.proofs.Chained.{chain_all}

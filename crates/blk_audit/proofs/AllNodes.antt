@@ -2,19 +2,19 @@
 use Rattle.std.proofs.Common.{◌≡◌, ℕ, ◌+◌, ◌*◌, ◌<◌, ◌≤◌, Bool, true, false, ◌&&◌, List, None, Some, refl, sym, ap, subst, ◌∙◌, arith, if◌then◌else◌}
 use Rattle.std.specs.Prelude.{◌==◌, nat_lt, slice_get, slice_index}
 use Rattle.std.proofs.lemmas.Bool.{and_parts, eqb-true, eq-eqb}
-use Rattle.blk_image.specs.Bytes.{content, word_at, range_at}
-use Rattle.blk_image.specs.Image.{Block, HasRange, Image, AreBytes, byte, word}
-use Rattle.blk_format.specs.Address.{is_address, kind_of, file_selector, first_block, rankings, external, place}
-use Rattle.blk_format.specs.Records.{checks, node_in}
-use Rattle.blk_format.specs.Sealed.{record_at}
-use Rattle.blk_format.specs.Standing.{stands}
-use Rattle.blk_format.proofs.Words.{AreFields-of}
-use Rattle.blk_format.proofs.SealedFields.{record_word}
-use Rattle.blk_format.proofs.SealedRecords.{node_bytes}
-use Rattle.blk_volume.specs.View.{stands_as}
-use Rattle.blk_format.specs.BlockFiles.{stands_in}
+use Rattle.spec_image.specs.Bytes.{content, word_at, range_at}
+use Rattle.spec_image.specs.Image.{Block, HasRange, Image, AreBytes, byte, word}
+use Rattle.spec_format.specs.Address.{is_address, kind_of, file_selector, first_block, rankings, external, place}
+use Rattle.spec_format.specs.Records.{checks, node_in}
+use Rattle.spec_format.specs.Sealed.{record_at}
+use Rattle.spec_format.specs.Standing.{stands}
+use Rattle.spec_format.proofs.Words.{AreFields-of}
+use Rattle.spec_format.proofs.SealedFields.{record_word}
+use Rattle.spec_format.proofs.SealedRecords.{node_bytes}
+use Rattle.spec_folder.specs.View.{stands_as}
+use Rattle.spec_format.specs.BlockFiles.{stands_in}
 use Rattle.std.proofs.lemmas.Bool.Decides.{nat_tests}
-use Rattle.blk_laws.proofs.updates.NodeRecords.{checks_bytes}
+use Rattle.law_folder.proofs.updates.NodeRecords.{checks_bytes}
 use Rattle.blk_disk.proofs.SealedReads.{record_read}
 use Rattle.blk_disk.specs.declared.tables.BlockFiles.{BlockFiles}
 use Rattle.blk_disk.specs.Tables.{Agrees, is_node_among, stands_among, names_among}

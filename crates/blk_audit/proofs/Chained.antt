@@ -3,10 +3,10 @@ use Rattle.std.proofs.Common.{◌≡◌, ℕ, zero, suc, Bool, true, false, ◌|
 use Rattle.std.specs.Prelude.{◌==◌}
 use Rattle.std.proofs.lemmas.List.{append-nil}
 use Rattle.std.proofs.lemmas.Bool.{eqb-true, and_parts}
-use Rattle.blk_format.specs.BlockFiles.{is_among}
-use Rattle.blk_format.proofs.Among.{is_among-append}
-use Rattle.blk_volume.specs.View.{StoreView}
-use Rattle.blk_volume.specs.Chains.{Chain, chain, chain_from, file_and_block, is_of_bucket, is_reached, most_records}
+use Rattle.spec_format.specs.BlockFiles.{is_among}
+use Rattle.spec_format.proofs.Among.{is_among-append}
+use Rattle.spec_folder.specs.View.{StoreView}
+use Rattle.spec_folder.specs.Chains.{Chain, chain, chain_from, file_and_block, is_of_bucket, is_reached, most_records}
 use Rattle.blk_audit.specs.Chaining.{AreOfFirst, IsOfFirst, IsReach, reached_by}
 use Rattle.blk_audit.proofs.FirstBlocks.{map_last}
 use Rattle.blk_audit.proofs.Walks.{among_last}

@@ -2,13 +2,13 @@
 use Rattle.std.proofs.Common.{◌≡◌, ◌≢◌, ℕ, Bool, true, false, ◌||◌, List, refl, sym, ap, ◌∙◌, arith}
 use Rattle.std.specs.Prelude.{◌==◌}
 use Rattle.std.proofs.lemmas.Bool.{eqb-true}
-use Rattle.blk_image.specs.Bytes.{content, word_at}
-use Rattle.blk_format.specs.Records.{checks, entry_in, node_in, seal_of}
-use Rattle.blk_format.specs.Sealed.{is_sealed, record_at, seal_by_kind, seal_place}
-use Rattle.blk_format.proofs.SealedFields.{record_word}
-use Rattle.blk_format.proofs.SealedRecords.{entry_bytes, entry_seal, node_bytes}
-use Rattle.blk_laws.proofs.updates.NodeRecords.{checks_bytes}
-use Rattle.blk_volume.specs.View.{entry_at, node_at}
+use Rattle.spec_image.specs.Bytes.{content, word_at}
+use Rattle.spec_format.specs.Records.{checks, entry_in, node_in, seal_of}
+use Rattle.spec_format.specs.Sealed.{is_sealed, record_at, seal_by_kind, seal_place}
+use Rattle.spec_format.proofs.SealedFields.{record_word}
+use Rattle.spec_format.proofs.SealedRecords.{entry_bytes, entry_seal, node_bytes}
+use Rattle.law_folder.proofs.updates.NodeRecords.{checks_bytes}
+use Rattle.spec_folder.specs.View.{entry_at, node_at}
 use Rattle.blk_audit.specs.SealLaws.{CheckedNodesAreSealed, CheckedRecordsAreSealed}
 use Rattle.blk_audit.proofs.Shown.{checks_is}
 

@@ -3,19 +3,19 @@ use Rattle.std.proofs.Common.{◌≡◌, ℕ, zero, suc, Bool, true, false, ◌&
 use Rattle.std.specs.Prelude.{◌==◌}
 use Rattle.std.specs.Option.{option_map_or}
 use Rattle.std.proofs.lemmas.Bool.{eq-eqb}
-use Rattle.blk_image.specs.Image.{Image}
-use Rattle.blk_format.specs.Address.{rankings}
-use Rattle.blk_format.specs.BlockFiles.{is_among}
-use Rattle.blk_volume.specs.ListView.{ListView, ListWrite, after_writes}
-use Rattle.blk_volume.specs.Walk.{walk_from, walk}
-use Rattle.blk_volume.specs.Completion.{counts, completed_list}
-use Rattle.blk_volume.specs.ListPlans.{completion_writes}
-use Rattle.blk_volume.specs.View.{stands_as, checks_at, next_at, prev_at, list_of}
-use Rattle.blk_volume.specs.ListImages.{completed_walk}
-use Rattle.blk_laws.proofs.lists.AtRest.{completions-end}
-use Rattle.blk_laws.proofs.lists.ListCompletions.{walk_outcome}
-use Rattle.blk_laws.proofs.lists.ListWrites.{checks_stay}
-use Rattle.blk_laws.proofs.lists.Walked.{walks-distinct}
+use Rattle.spec_image.specs.Image.{Image}
+use Rattle.spec_format.specs.Address.{rankings}
+use Rattle.spec_format.specs.BlockFiles.{is_among}
+use Rattle.spec_folder.specs.ListView.{ListView, ListWrite, after_writes}
+use Rattle.spec_folder.specs.Walk.{walk_from, walk}
+use Rattle.spec_folder.specs.Completion.{counts, completed_list}
+use Rattle.spec_folder.specs.ListPlans.{completion_writes}
+use Rattle.spec_folder.specs.View.{stands_as, checks_at, next_at, prev_at, list_of}
+use Rattle.spec_folder.specs.ListImages.{completed_walk}
+use Rattle.law_folder.proofs.lists.AtRest.{completions-end}
+use Rattle.law_folder.proofs.lists.ListCompletions.{walk_outcome}
+use Rattle.law_folder.proofs.lists.ListWrites.{checks_stay}
+use Rattle.law_folder.proofs.lists.Walked.{walks-distinct}
 use Rattle.blk_audit.specs.Changes.{next_written, prev_written, head_written}
 use Rattle.blk_audit.specs.Nodes.{list_in, said_at, AreNodesOf}
 use Rattle.blk_audit.specs.declared.nodes.Node.{Node}

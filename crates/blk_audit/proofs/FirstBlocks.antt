@@ -5,12 +5,12 @@ use Rattle.std.specs.BTreeMap.{is_at}
 use Rattle.std.specs.List.{list_any, range_with_len}
 use Rattle.std.specs.Ordering.{nat_cmp}
 use Rattle.std.proofs.lemmas.Bool.{eqb-true, eq-eqb, and_parts}
-use Rattle.blk_format.specs.Address.{kind_of, file_selector, first_block, block_count, block_word, external}
-use Rattle.blk_format.specs.Claims.{Claim, BlockOf, claims_of, claims_of_all, has_claim, overlap}
-use Rattle.blk_format.specs.BlockFiles.{is_among}
-use Rattle.blk_format.proofs.Among.{is_among_more}
-use Rattle.blk_format.proofs.Words.{AreFields, AreFields-of, kind_of-block_word, file_selector-block_word, first_block-block_word, block_count-block_word}
-use Rattle.blk_volume.specs.Chains.{file_and_block}
+use Rattle.spec_format.specs.Address.{kind_of, file_selector, first_block, block_count, block_word, external}
+use Rattle.spec_format.specs.Claims.{Claim, BlockOf, claims_of, claims_of_all, has_claim, overlap}
+use Rattle.spec_format.specs.BlockFiles.{is_among}
+use Rattle.spec_format.proofs.Among.{is_among_more}
+use Rattle.spec_format.proofs.Words.{AreFields, AreFields-of, kind_of-block_word, file_selector-block_word, first_block-block_word, block_count-block_word}
+use Rattle.spec_folder.specs.Chains.{file_and_block}
 use Rattle.blk_addr.specs.Claims.{is_claimed}
 use Rattle.blk_addr.proofs.ClaimLemmas.{or_comm, or_false, cond_or, is_at-nat_cmp, claims_of-blocks, has_claim-append}
 use Rattle.blk_addr.proofs.ClaimSetLemmas.{is_claimed-overlap}

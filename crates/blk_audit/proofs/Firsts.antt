@@ -3,12 +3,12 @@ use Rattle.std.proofs.Common.{◌≡◌, ℕ, ◌+◌, ◌*◌, ◌<◌, ◌≤�
 use Rattle.std.specs.Prelude.{nat_le, nat_lt}
 use Rattle.std.proofs.lemmas.Bool.{and_parts}
 use Rattle.std.proofs.lemmas.Bool.Decides.{nat_tests}
-use Rattle.blk_format.specs.Address.{block_word, place, byte_size, block_place, block_size}
-use Rattle.blk_format.specs.BlockFiles.{kind_among}
-use Rattle.blk_format.specs.Standing.{is_linked_as, stands_as_blocks}
-use Rattle.blk_format.proofs.Words.{AreFields, kind_of-block_word, file_selector-block_word, first_block-block_word, block_count-block_word}
+use Rattle.spec_format.specs.Address.{block_word, place, byte_size, block_place, block_size}
+use Rattle.spec_format.specs.BlockFiles.{kind_among}
+use Rattle.spec_format.specs.Standing.{is_linked_as, stands_as_blocks}
+use Rattle.spec_format.proofs.Words.{AreFields, kind_of-block_word, file_selector-block_word, first_block-block_word, block_count-block_word}
 use Rattle.blk_disk.specs.declared.tables.BlockFiles.{BlockFiles}
-use Rattle.blk_image.specs.Image.{Block, Image, HasRange, length_of}
+use Rattle.spec_image.specs.Image.{Block, Image, HasRange, length_of}
 use Rattle.blk_disk.proofs.Ranges.{stands_range}
 use Rattle.blk_disk.specs.Tables.{Agrees, files_of, blocks_of, length_in, stands_among}
 

@@ -5,11 +5,11 @@ use Rattle.std.specs.List.{list_any, range_with_len}
 use Rattle.std.proofs.lemmas.Bool.{eqb-true, eq-eqb, and_parts}
 use Rattle.std.proofs.lemmas.Bool.Decides.{nat_tests}
 use Rattle.std.proofs.lemmas.Grind.{common_steps}
-use Rattle.blk_format.specs.Address.{is_address, is_initialized, names_external, names_blocks, reserved_bits, kind_of, file_selector, first_block, block_count, block_word, rankings, external}
-use Rattle.blk_format.specs.Claims.{Claim, BlockOf, claims_of, claims_of_all, has_claim, overlap}
-use Rattle.blk_format.specs.BlockFiles.{is_among}
-use Rattle.blk_format.proofs.Words.{block_word-of-fields}
-use Rattle.blk_format.proofs.Among.{is_among_more}
+use Rattle.spec_format.specs.Address.{is_address, is_initialized, names_external, names_blocks, reserved_bits, kind_of, file_selector, first_block, block_count, block_word, rankings, external}
+use Rattle.spec_format.specs.Claims.{Claim, BlockOf, claims_of, claims_of_all, has_claim, overlap}
+use Rattle.spec_format.specs.BlockFiles.{is_among}
+use Rattle.spec_format.proofs.Words.{block_word-of-fields}
+use Rattle.spec_format.proofs.Among.{is_among_more}
 use Rattle.blk_addr.specs.Bits.{is_between}
 use Rattle.blk_addr.specs.Claims.{IsClaimsOf, is_claimed}
 use Rattle.blk_addr.proofs.AddressFields.{address_above_0}

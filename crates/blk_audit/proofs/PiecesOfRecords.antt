@@ -6,15 +6,15 @@ use Rattle.std.proofs.lemmas.Bool.{and_parts, eqb-true}
 use Rattle.std.proofs.lemmas.Bool.Decides.{nat_tests}
 use Rattle.std.proofs.lemmas.List.{length-drop}
 use Rattle.std.proofs.lemmas.Option.{get_or_from_slice_get, slice_get_within}
-use Rattle.blk_image.specs.Bytes.{range_at}
-use Rattle.blk_image.specs.Image.{Block, Image, AreBytes, HasRange, byte, length_of}
-use Rattle.blk_format.specs.Address.{kind_of, file_selector, first_block, block_word, blocks_256, byte_size, place, block_place, block_size}
-use Rattle.blk_format.specs.Hash.{hash}
-use Rattle.blk_format.specs.Records.{entry_in}
-use Rattle.blk_format.specs.Records as formats
-use Rattle.blk_format.proofs.Words.{AreFields, AreFields-of, kind_of-block_word, file_selector-block_word, first_block-block_word, block_count-block_word}
-use Rattle.blk_volume.specs.Entries.{stored_key}
-use Rattle.blk_volume.specs.View.{RecordFields, block_bytes, entry_at, fields_of, key_place_at, store_of, stored_at}
+use Rattle.spec_image.specs.Bytes.{range_at}
+use Rattle.spec_image.specs.Image.{Block, Image, AreBytes, HasRange, byte, length_of}
+use Rattle.spec_format.specs.Address.{kind_of, file_selector, first_block, block_word, blocks_256, byte_size, place, block_place, block_size}
+use Rattle.spec_format.specs.Hash.{hash}
+use Rattle.spec_format.specs.Records.{entry_in}
+use Rattle.spec_format.specs.Records as formats
+use Rattle.spec_format.proofs.Words.{AreFields, AreFields-of, kind_of-block_word, file_selector-block_word, first_block-block_word, block_count-block_word}
+use Rattle.spec_folder.specs.Entries.{stored_key}
+use Rattle.spec_folder.specs.View.{RecordFields, block_bytes, entry_at, fields_of, key_place_at, store_of, stored_at}
 use Rattle.blk_disk.specs.declared.tables.BlockFiles.{BlockFiles}
 use Rattle.blk_disk.specs.Tables.{Agrees, stands_among}
 use Rattle.blk_disk.proofs.Ranges.{stands_range}

@@ -2,13 +2,13 @@
 use Rattle.std.proofs.Common.{inl, inr, ⊎_elim, ◌≡◌, ℕ, ◌+◌, ◌*◌, ◌<◌, ◌≤◌, Bool, true, false, ◌||◌, List, [], ◌∷◌, ◌++◌, length, Some, refl, sym, ap, subst, ◌∙◌, arith}
 use Rattle.std.specs.Prelude.{◌==◌, ◌⊎◌, ◌&&◌}
 use Rattle.std.proofs.lemmas.Bool.{and_parts, eqb-true, eq-eqb}
-use Rattle.blk_image.specs.Image.{Block, HasRange, Image, Index, byte}
-use Rattle.blk_format.specs.Address.{blocks_256, file_selector, is_address, kind_of, place}
-use Rattle.blk_format.specs.BlockFiles.{is_among}
-use Rattle.blk_format.specs.Headers.{bucket_of}
-use Rattle.blk_format.proofs.Among.{is_among_more}
-use Rattle.blk_volume.specs.Chains.{file_and_block, most_records}
-use Rattle.blk_volume.specs.View.{entry_at}
+use Rattle.spec_image.specs.Image.{Block, HasRange, Image, Index, byte}
+use Rattle.spec_format.specs.Address.{blocks_256, file_selector, is_address, kind_of, place}
+use Rattle.spec_format.specs.BlockFiles.{is_among}
+use Rattle.spec_format.specs.Headers.{bucket_of}
+use Rattle.spec_format.proofs.Among.{is_among_more}
+use Rattle.spec_folder.specs.Chains.{file_and_block, most_records}
+use Rattle.spec_folder.specs.View.{entry_at}
 use Rattle.blk_disk.specs.declared.tables.BlockFiles.{BlockFiles}
 use Rattle.blk_disk.specs.Tables.{is_record_among, names_among, stands_among}
 use Rattle.blk_audit.specs.Chaining.{AreReachedThere, HasEntry, HasFirst, HasRecords, IsLookedAt, IsReachedThere, IsStepTaken, is_met}

@@ -7,16 +7,16 @@ use Rattle.std.proofs.lemmas.Bool.{and_parts, eqb-true, eq-eqb, or_left, or_righ
 use Rattle.std.proofs.lemmas.Bool.Decides.{nat_tests}
 use Rattle.std.proofs.lemmas.List.Folds.{Any-from_list_any, list_any_at}
 use Rattle.std.proofs.lemmas.Option.{get_or_from_slice_get, slice_get-get_or, slice_get_cases, slice_get_within}
-use Rattle.blk_image.specs.Image.{Image}
-use Rattle.blk_format.specs.Address.{blocks_256, file_selector, first_block, is_address, kind_of, rankings}
-use Rattle.blk_format.specs.BlockFiles.{is_among}
-use Rattle.blk_format.specs.Claims.{Claim, BlockOf, claims_of, has_claim}
+use Rattle.spec_image.specs.Image.{Image}
+use Rattle.spec_format.specs.Address.{blocks_256, file_selector, first_block, is_address, kind_of, rankings}
+use Rattle.spec_format.specs.BlockFiles.{is_among}
+use Rattle.spec_format.specs.Claims.{Claim, BlockOf, claims_of, has_claim}
 use Rattle.blk_addr.specs.Claims.{Adds, contains_claim, is_claimed}
 use Rattle.blk_addr.specs.declared.claim_set.Claims.{Claims}
 use Rattle.blk_addr.proofs.ClaimLemmas.{or_false}
-use Rattle.blk_volume.specs.ListImages.{completed_walk}
-use Rattle.blk_format.specs.Records.{node_checks}
-use Rattle.blk_volume.specs.View.{NodeFields, checks_at, node_at, list_of, node_fields_at, stands_as, store_of}
+use Rattle.spec_folder.specs.ListImages.{completed_walk}
+use Rattle.spec_format.specs.Records.{node_checks}
+use Rattle.spec_folder.specs.View.{NodeFields, checks_at, node_at, list_of, node_fields_at, stands_as, store_of}
 use Rattle.blk_audit.specs.Chaining.{first_block_of}
 use Rattle.blk_audit.specs.Nodes.{AreNodesOf, loaded_node, node_of, said_at}
 use Rattle.blk_audit.specs.ReadLists.{AreListsOf, AreNamed, AreNamedUpTo, IsMore, fields_by, fields_kept, is_claimed_first, is_named_by, record_by, record_of}

@@ -1,11 +1,11 @@
 -- The words of a record by its bytes.
 use Rattle.std.proofs.Common.{◌≡◌, ◌+◌, ℕ, List, refl, ap, arith}
 use Rattle.std.specs.Prelude.{◌==◌}
-use Rattle.blk_image.specs.Bytes.{content, range_at, word_at}
-use Rattle.blk_image.specs.Image.{AreBytes, Block, Image, byte}
-use Rattle.blk_format.specs.Address.{blocks_256, file_selector, kind_of, place}
-use Rattle.blk_format.specs.Records.{entry_checks, entry_in}
-use Rattle.blk_volume.specs.View.{entry_at}
+use Rattle.spec_image.specs.Bytes.{content, range_at, word_at}
+use Rattle.spec_image.specs.Image.{AreBytes, Block, Image, byte}
+use Rattle.spec_format.specs.Address.{blocks_256, file_selector, kind_of, place}
+use Rattle.spec_format.specs.Records.{entry_checks, entry_in}
+use Rattle.spec_folder.specs.View.{entry_at}
 use Rattle.blk_entry.specs.declared.keys.Head.{Head}
 use Rattle.blk_entry.proofs.KeyPlaces.{head_is, head_word}
 use Rattle.blk_audit.proofs.Shown.{checks_read}

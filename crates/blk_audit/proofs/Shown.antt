@@ -2,26 +2,26 @@
 use Rattle.std.proofs.Common.{◌≡◌, ℕ, ◌+◌, ◌%◌, ◌≤◌, Bool, true, false, ◌&&◌, ◌||◌, List, [], ◌∷◌, map, take, inr, refl, sym, ap, subst, ◌∙◌, arith, if◌then◌else◌}
 use Rattle.std.specs.Prelude.{◌==◌}
 use Rattle.std.proofs.lemmas.Bool.{eqb-true, eq-eqb}
-use Rattle.blk_image.specs.Bytes.{content, word_at, range_at}
-use Rattle.blk_image.specs.Image.{Block, Image, Index, AreBytes, byte, has_file, External}
-use Rattle.blk_image.specs.Told.{Told}
-use Rattle.blk_format.specs.Address.{byte_size, is_address, kind_of, file_selector, external, external_number, blocks_256, place}
-use Rattle.blk_format.specs.BlockFiles.{is_among, stands_in_blocks}
-use Rattle.blk_format.specs.Headers.{bucket_of}
-use Rattle.blk_format.specs.Records.{checks, entry_in, entry_checks}
-use Rattle.blk_format.specs.Sealed.{record_at, record_size, seal_place}
-use Rattle.blk_format.specs.Standing.{stands}
-use Rattle.blk_format.proofs.SealedFields.{record_word}
-use Rattle.blk_format.proofs.SealedRecords.{entry_bytes, length-record, record_inside, seal_last}
-use Rattle.blk_volume.specs.Chains.{bucket_of_hash, file_and_block, is_of_bucket}
-use Rattle.blk_volume.specs.View.{RecordFields, entry_at, fields_at, follow_at, stands_as, store_of}
+use Rattle.spec_image.specs.Bytes.{content, word_at, range_at}
+use Rattle.spec_image.specs.Image.{Block, Image, Index, AreBytes, byte, has_file, External}
+use Rattle.spec_image.specs.Told.{Told}
+use Rattle.spec_format.specs.Address.{byte_size, is_address, kind_of, file_selector, external, external_number, blocks_256, place}
+use Rattle.spec_format.specs.BlockFiles.{is_among, stands_in_blocks}
+use Rattle.spec_format.specs.Headers.{bucket_of}
+use Rattle.spec_format.specs.Records.{checks, entry_in, entry_checks}
+use Rattle.spec_format.specs.Sealed.{record_at, record_size, seal_place}
+use Rattle.spec_format.specs.Standing.{stands}
+use Rattle.spec_format.proofs.SealedFields.{record_word}
+use Rattle.spec_format.proofs.SealedRecords.{entry_bytes, length-record, record_inside, seal_last}
+use Rattle.spec_folder.specs.Chains.{bucket_of_hash, file_and_block, is_of_bucket}
+use Rattle.spec_folder.specs.View.{RecordFields, entry_at, fields_at, follow_at, stands_as, store_of}
 use Rattle.blk_disk.proofs.Ranges.{stands_agree}
 use Rattle.blk_disk.proofs.SealedReads.{record_read}
 use Rattle.blk_disk.specs.declared.tables.BlockFiles.{BlockFiles}
 use Rattle.blk_disk.specs.Tables.{Agrees, is_record_among, stands_among, names_among}
-use Rattle.blk_laws.proofs.chains.ChainWords.{same-fields, shown-of}
-use Rattle.blk_laws.proofs.updates.Fronts.{AreSmall, small-take, small-range, entry_checks-front, entry_checks-by}
-use Rattle.blk_laws.proofs.updates.Updates.{entry-here, entry-seal}
+use Rattle.law_folder.proofs.chains.ChainWords.{same-fields, shown-of}
+use Rattle.law_folder.proofs.updates.Fronts.{AreSmall, small-take, small-range, entry_checks-front, entry_checks-by}
+use Rattle.law_folder.proofs.updates.Updates.{entry-here, entry-seal}
 use Rattle.blk_io.specs.declared.folder.FileId.TheVariants as names
 use Rattle.blk_io.specs.declared.fault.Damage.{Damage}
 use Rattle.blk_io.specs.Faults.{IsShort}

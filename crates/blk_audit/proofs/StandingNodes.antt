@@ -3,14 +3,14 @@ use Rattle.std.proofs.Common.{◌≡◌, ℕ, ◌+◌, Bool, true, false, ◌&&�
 use Rattle.std.specs.Prelude.{◌==◌, nat_lt, slice_get, slice_index}
 use Rattle.std.specs.Option.{option_map_or}
 use Rattle.std.proofs.lemmas.Bool.{and_parts, eqb-true}
-use Rattle.blk_format.specs.Address.{file_selector, first_block, is_address, kind_of, rankings}
-use Rattle.blk_format.specs.BlockFiles.{is_among}
-use Rattle.blk_format.proofs.Words.{AreFields-of}
-use Rattle.blk_volume.specs.ListView.{ListWrite}
-use Rattle.blk_volume.specs.Walk.{walk}
+use Rattle.spec_format.specs.Address.{file_selector, first_block, is_address, kind_of, rankings}
+use Rattle.spec_format.specs.BlockFiles.{is_among}
+use Rattle.spec_format.proofs.Words.{AreFields-of}
+use Rattle.spec_folder.specs.ListView.{ListWrite}
+use Rattle.spec_folder.specs.Walk.{walk}
 use Rattle.blk_disk.specs.declared.tables.BlockFiles.{BlockFiles}
 use Rattle.blk_disk.specs.Tables.{is_node_among, names_among, stands_among}
-use Rattle.blk_laws.proofs.lists.Walked.{walks-distinct}
+use Rattle.law_folder.proofs.lists.Walked.{walks-distinct}
 use Rattle.blk_audit.specs.Filled.{CountsStand}
 use Rattle.blk_audit.specs.Nodes.{loaded_node, node_of}
 use Rattle.blk_audit.specs.Walking.{IsNodeWord, NodesStand}

@@ -3,9 +3,9 @@ use Rattle.std.proofs.Common.{◌≡◌, ℕ, ◌+◌, Bool, true, false, ◌&&�
 use Rattle.std.specs.Prelude.{◌==◌, nat_lt, slice_index, slice_get}
 use Rattle.std.specs.Option.{option_map_or}
 use Rattle.std.proofs.lemmas.Bool.{eqb-true, eq-eqb}
-use Rattle.blk_format.specs.Address.{is_address, kind_of, rankings, first_block, file_selector}
-use Rattle.blk_format.specs.BlockFiles.{is_among}
-use Rattle.blk_volume.specs.ListView.{ListView, ListWrite, after_writes}
+use Rattle.spec_format.specs.Address.{is_address, kind_of, rankings, first_block, file_selector}
+use Rattle.spec_format.specs.BlockFiles.{is_among}
+use Rattle.spec_folder.specs.ListView.{ListView, ListWrite, after_writes}
 use Rattle.blk_audit.specs.Changes.{head_written, next_written, prev_written}
 use Rattle.blk_audit.specs.Nodes.{node_of, loaded_node, list_in}
 use Rattle.blk_audit.specs.Walking.{IsNodeWord}

@@ -1,6 +1,6 @@
 -- The records of all buckets in one list, and where those of each bucket end.
 use Rattle.std.specs.Prelude.{ℕ, zero, suc, ◌-◌, ◌<◌, ◌≤◌, ◌≡◌, List, length, take, drop, slice_index}
-use Rattle.blk_format.specs.Headers.{table_length}
+use Rattle.spec_format.specs.Headers.{table_length}
 
 -- where the records of a bucket begin among those of all buckets, by where those of each end
 abbrev pub begin_of : List ℕ → ℕ → ℕ

@@ -2,12 +2,12 @@
 use Rattle.std.specs.Prelude.{ℕ, ◌≡◌, map}
 use Rattle.std.specs.List.{filter, flat_map, range_with_len}
 use Rattle.std.specs.declared.option.Option.TheVariants.{Some}
-use Rattle.blk_format.specs.Headers.{table_length}
-use Rattle.blk_format.specs.BlockFiles.{is_among}
-use Rattle.blk_volume.specs.Audit.{is_unlisted, unlisted}
-use Rattle.blk_volume.specs.Chains.{bucket_of_hash, chain}
-use Rattle.blk_volume.specs.Reasons as reason
-use Rattle.blk_volume.specs.View.{RecordFields, StoreView, View}
+use Rattle.spec_format.specs.Headers.{table_length}
+use Rattle.spec_format.specs.BlockFiles.{is_among}
+use Rattle.spec_folder.specs.Audit.{is_unlisted, unlisted}
+use Rattle.spec_folder.specs.Chains.{bucket_of_hash, chain}
+use Rattle.spec_folder.specs.Reasons as reason
+use Rattle.spec_folder.specs.View.{RecordFields, StoreView, View}
 use Rattle.blk_audit.specs.Chaining.{reached_by}
 
 -- the reached records are those of all chains, chain after chain

@@ -5,12 +5,12 @@ use Rattle.std.specs.Ordering.{nat_cmp}
 use Rattle.std.specs.declared.option.Option.{Option}
 use Rattle.std.specs.declared.option.Option.TheVariants.{None, Some}
 use Rattle.blk_addr.specs.Claims.{IsClaimsOf}
-use Rattle.blk_image.specs.Image.{Block, HasRange, Image, Index, byte}
-use Rattle.blk_format.specs.Address.{file_selector, first_block, block_word, blocks_256, place}
-use Rattle.blk_format.specs.Headers.{bucket_of, place_of_bucket, table_length}
-use Rattle.blk_format.specs.BlockFiles.{is_among}
-use Rattle.blk_volume.specs.View.{StoreView, entry_at}
-use Rattle.blk_volume.specs.Chains.{chain, chain_from, file_and_block, is_of_bucket, most_records}
+use Rattle.spec_image.specs.Image.{Block, HasRange, Image, Index, byte}
+use Rattle.spec_format.specs.Address.{file_selector, first_block, block_word, blocks_256, place}
+use Rattle.spec_format.specs.Headers.{bucket_of, place_of_bucket, table_length}
+use Rattle.spec_format.specs.BlockFiles.{is_among}
+use Rattle.spec_folder.specs.View.{StoreView, entry_at}
+use Rattle.spec_folder.specs.Chains.{chain, chain_from, file_and_block, is_of_bucket, most_records}
 use Rattle.blk_disk.specs.declared.tables.BlockFiles.{BlockFiles}
 use Rattle.blk_disk.specs.Tables.{is_record_among}
 use Rattle.blk_audit.specs.BucketEnds.{AreEnds, begin_of, records_of}

@@ -1,9 +1,9 @@
 -- The answers of calls that read, check and take memory.
 use Rattle.std.specs.Prelude.{ℕ, ◌≡◌, ◌⊎◌, ◌+◌, ◌*◌, true, Result, Ok, Err}
-use Rattle.blk_image.specs.Told.{Told}
-use Rattle.blk_format.specs.Address.{blocks_256, file_selector, header_size, kind_of, place}
-use Rattle.blk_format.specs.Headers.{place_of_bucket}
-use Rattle.blk_format.specs.Records.{entry_size, node_size}
+use Rattle.spec_image.specs.Told.{Told}
+use Rattle.spec_format.specs.Address.{blocks_256, file_selector, header_size, kind_of, place}
+use Rattle.spec_format.specs.Headers.{place_of_bucket}
+use Rattle.spec_format.specs.Records.{entry_size, node_size}
 use Rattle.blk_index.specs.Table.{table_piece_length}
 use Rattle.blk_record.specs.declared.index_head.TheConstants.IndexHead as IndexHead
 use Rattle.blk_io.specs.declared.folder.FileId.TheVariants as names

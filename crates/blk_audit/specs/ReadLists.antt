@@ -3,16 +3,16 @@ use Rattle.std.specs.Prelude.{◌≡◌, ℕ, ◌<◌, Bool, true, false, ◌&&�
 use Rattle.std.specs.Option.{option_and_then, option_map, option_map_or}
 use Rattle.std.specs.declared.option.Option.{Option}
 use Rattle.std.specs.declared.option.Option.TheVariants.{None, Some}
-use Rattle.blk_image.specs.Image.{Image}
-use Rattle.blk_format.specs.Address.{blocks_256, file_selector, first_block, is_address, kind_of, rankings}
-use Rattle.blk_format.specs.BlockFiles.{is_among}
-use Rattle.blk_format.specs.Claims.{BlockOf}
-use Rattle.blk_format.specs.Headers.{table_length}
+use Rattle.spec_image.specs.Image.{Image}
+use Rattle.spec_format.specs.Address.{blocks_256, file_selector, first_block, is_address, kind_of, rankings}
+use Rattle.spec_format.specs.BlockFiles.{is_among}
+use Rattle.spec_format.specs.Claims.{BlockOf}
+use Rattle.spec_format.specs.Headers.{table_length}
 use Rattle.blk_addr.specs.Claims.{contains_claim}
 use Rattle.blk_addr.specs.declared.claim_set.Claims.{Claims}
-use Rattle.blk_volume.specs.ListImages.{completed_walk}
-use Rattle.blk_format.specs.Records.{node_checks}
-use Rattle.blk_volume.specs.View.{NodeFields, node_at, store_of}
+use Rattle.spec_folder.specs.ListImages.{completed_walk}
+use Rattle.spec_format.specs.Records.{node_checks}
+use Rattle.spec_folder.specs.View.{NodeFields, node_at, store_of}
 use Rattle.blk_disk.specs.declared.tables.BlockFiles.{BlockFiles}
 use Rattle.blk_audit.specs.Chaining.{AreBucketsOf, AreReached, HasBuckets, RecordsStand, reached_by, words_reached}
 use Rattle.blk_audit.specs.Nodes.{AreNodesOf, loaded_node, node_of}

@@ -1,14 +1,14 @@
 -- What is read of a record.
 use Rattle.std.specs.Prelude.{ℕ, ◌≡◌, Bool, true, List, All, take, drop, length, nat_le, ◌&&◌, ◌==◌}
 use Rattle.std.specs.declared.option.Option.TheVariants.{Some}
-use Rattle.blk_image.specs.Bytes.{content, word_at, words_at}
-use Rattle.blk_image.specs.Image.{Block, HasRange, Image}
-use Rattle.blk_format.specs.Address.{file_selector, place}
-use Rattle.blk_format.specs.Hash.{hash}
-use Rattle.blk_format.specs.Records.{checks, entry_seal_place, entry_size}
-use Rattle.blk_format.specs.Storage.{longest_short_key}
-use Rattle.blk_volume.specs.Entries.{stored_key}
-use Rattle.blk_volume.specs.View.{RecordFields, entry_at, fields_of, store_of}
+use Rattle.spec_image.specs.Bytes.{content, word_at, words_at}
+use Rattle.spec_image.specs.Image.{Block, HasRange, Image}
+use Rattle.spec_format.specs.Address.{file_selector, place}
+use Rattle.spec_format.specs.Hash.{hash}
+use Rattle.spec_format.specs.Records.{checks, entry_seal_place, entry_size}
+use Rattle.spec_format.specs.Storage.{longest_short_key}
+use Rattle.spec_folder.specs.Entries.{stored_key}
+use Rattle.spec_folder.specs.View.{RecordFields, entry_at, fields_of, store_of}
 use Rattle.blk_audit.specs.declared.record_words.RecordWords.{RecordWords}
 use Rattle.blk_audit.specs.declared.records.ReadRecord.{ReadRecord}
 use Rattle.blk_audit.specs.declared.record_files.Records.{Records}

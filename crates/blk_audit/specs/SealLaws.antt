@@ -1,10 +1,10 @@
 -- The laws of seals.
 use Rattle.std.specs.Prelude.{ℕ, ◌≡◌, ◌≢◌, true}
-use Rattle.blk_image.specs.Image.{AreBytes, Image}
-use Rattle.blk_format.specs.Address.{blocks_256, kind_of, rankings}
-use Rattle.blk_format.specs.Records.{entry_checks, node_checks}
-use Rattle.blk_format.specs.Sealed.{is_sealed, record_at, seal_place}
-use Rattle.blk_volume.specs.View.{entry_at, node_at}
+use Rattle.spec_image.specs.Image.{AreBytes, Image}
+use Rattle.spec_format.specs.Address.{blocks_256, kind_of, rankings}
+use Rattle.spec_format.specs.Records.{entry_checks, node_checks}
+use Rattle.spec_format.specs.Sealed.{is_sealed, record_at, seal_place}
+use Rattle.spec_folder.specs.View.{entry_at, node_at}
 
 -- a record that checks and whose seal isn't 0 has its hash as its seal
 abbrev pub CheckedRecordsAreSealed : Type 0

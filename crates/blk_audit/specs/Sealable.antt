@@ -1,6 +1,6 @@
 -- What can be sealed among the block files.
 use Rattle.std.specs.Prelude.{ℕ, ◌≡◌, true}
-use Rattle.blk_format.specs.Sealed.{BeginsWithRecord}
+use Rattle.spec_format.specs.Sealed.{BeginsWithRecord}
 use Rattle.blk_disk.specs.declared.tables.BlockFiles.{BlockFiles}
 use Rattle.blk_disk.specs.Tables.{stands_among}
 

@@ -2,12 +2,12 @@
 use Rattle.std.specs.Prelude.{ℕ, suc, ◌≡◌, All, Bool, true, false, List, [], ◌∷◌, ◌++◌}
 use Rattle.std.specs.declared.option.Option.{Option}
 use Rattle.std.specs.declared.option.Option.TheVariants.{None, Some}
-use Rattle.blk_image.specs.Image.{HasRange, Image, Index}
+use Rattle.spec_image.specs.Image.{HasRange, Image, Index}
 use Rattle.blk_addr.specs.Claims.{IsClaimsOf}
-use Rattle.blk_format.specs.Address.{is_address, kind_of, rankings}
-use Rattle.blk_format.specs.BlockFiles.{is_among}
-use Rattle.blk_volume.specs.ListView.{ListView}
-use Rattle.blk_volume.specs.Walk.{walk_from}
+use Rattle.spec_format.specs.Address.{is_address, kind_of, rankings}
+use Rattle.spec_format.specs.BlockFiles.{is_among}
+use Rattle.spec_folder.specs.ListView.{ListView}
+use Rattle.spec_folder.specs.Walk.{walk_from}
 use Rattle.blk_record.specs.declared.index_head.TheConstants.IndexHead as IndexHead
 use Rattle.blk_disk.specs.declared.tables.BlockFiles.{BlockFiles}
 use Rattle.blk_disk.specs.Tables.{is_node_among}

@@ -1,10 +1,10 @@
 // Nodes that are read side by side, many by one folder call.
 ghost use Rattle.std.specs.Prelude.{◌≡◌, ◌+◌, ◌*◌, ◌≤◌, ◌<◌, ◌++◌, length, None, OnOk};
 ghost use Rattle.std.specs.Option.{ForSome};
-ghost use Rattle.blk_image.specs.Image.{Block as block, HasRange, byte};
-ghost use Rattle.blk_image.specs.Told.{Rises, Stays};
-ghost use Rattle.blk_format.specs.Address.{header_size};
-ghost use Rattle.blk_format.specs.Records.{node_size};
+ghost use Rattle.spec_image.specs.Image.{Block as block, HasRange, byte};
+ghost use Rattle.spec_image.specs.Told.{Rises, Stays};
+ghost use Rattle.spec_format.specs.Address.{header_size};
+ghost use Rattle.spec_format.specs.Records.{node_size};
 ghost use Rattle.blk_audit.specs.Faults.{IfScanDamaged, IfScanDevice, IsShortOfNodes};
 ghost use Rattle.blk_audit.specs.Filling.{node_said, nodes_in, nodes_from};
 ghost use Rattle.blk_audit.specs.Pieces.{nodes_of_piece};

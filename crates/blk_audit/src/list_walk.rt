@@ -1,13 +1,13 @@
 // The walk of the use list.
 ghost use Rattle.std.specs.Prelude.{◌≡◌, ℕ, IfOk, OnOk, MatchOption, None, length, map, slice_get};
-ghost use Rattle.blk_format.specs.BlockFiles.{is_among};
-ghost use Rattle.blk_volume.specs.ListView.{after_writes};
-ghost use Rattle.blk_volume.specs.Walk as walking;
+ghost use Rattle.spec_format.specs.BlockFiles.{is_among};
+ghost use Rattle.spec_folder.specs.ListView.{after_writes};
+ghost use Rattle.spec_folder.specs.Walk as walking;
 ghost use Rattle.blk_lru.specs.Writes.{meant};
-ghost use Rattle.blk_volume.specs.ListPlans.{completion_writes};
-ghost use Rattle.blk_image.specs.Image.{Image};
-ghost use Rattle.blk_volume.specs.View.{list_of};
-ghost use Rattle.blk_volume.specs.ListImages.{completed_walk};
+ghost use Rattle.spec_folder.specs.ListPlans.{completion_writes};
+ghost use Rattle.spec_image.specs.Image.{Image};
+ghost use Rattle.spec_folder.specs.View.{list_of};
+ghost use Rattle.spec_folder.specs.ListImages.{completed_walk};
 ghost use Rattle.blk_audit.specs.Nodes.{list_in, loaded_node, AreNodesOf};
 ghost use Rattle.blk_audit.specs.Walking.{AreMet, IsAdded, IsNodeWord, IsStanding, IsWalkStep};
 

@@ -1,11 +1,11 @@
 // The nodes of a folder, as they were read.
 ghost use Rattle.std.specs.Prelude.{◌≡◌, ◌≢◌, ℕ, ◌<◌, ◌≤◌, ◌==◌, if◌then◌else◌, None, Some, IfSome, OnOk, length};
 ghost use Rattle.std.specs.Option.{ForSome};
-ghost use Rattle.blk_image.specs.Told.{Rises, Stays};
+ghost use Rattle.spec_image.specs.Told.{Rises, Stays};
 ghost use Rattle.blk_disk.specs.Tables.{Agrees};
 ghost use Rattle.blk_audit.specs.Faults.{IfScanDamaged, IfScanDevice, IsNodesDamage};
 ghost use Rattle.blk_audit.specs.Pieces.{file_numbers};
-ghost use Rattle.blk_format.specs.Address.{file_selector, kind_of, rankings};
+ghost use Rattle.spec_format.specs.Address.{file_selector, kind_of, rankings};
 
 use crate::counting::count_there;
 use crate::fault::ScanFault;

@@ -1,13 +1,13 @@
 // The chains of the table.
 ghost use Rattle.std.specs.Prelude.{◌≡◌, ◌<◌, ◌≤◌, ◌+◌, ◌++◌, [], ◌∷◌, IfOk, OnOk, None, false, length, slice_get};
 ghost use Rattle.std.specs.Option.{ForSome};
-ghost use Rattle.blk_image.specs.Image.{HasRange, Index as index};
-ghost use Rattle.blk_image.specs.Told.{Rises, Stays};
-ghost use Rattle.blk_format.specs.Address.{blocks_256, kind_of};
-ghost use Rattle.blk_format.specs.BlockFiles.{is_among};
-ghost use Rattle.blk_format.specs.Headers.{place_of_bucket, table_length};
-ghost use Rattle.blk_volume.specs.View.{store_of};
-ghost use Rattle.blk_volume.specs.Chains.{chain_from, most_records};
+ghost use Rattle.spec_image.specs.Image.{HasRange, Index as index};
+ghost use Rattle.spec_image.specs.Told.{Rises, Stays};
+ghost use Rattle.spec_format.specs.Address.{blocks_256, kind_of};
+ghost use Rattle.spec_format.specs.BlockFiles.{is_among};
+ghost use Rattle.spec_format.specs.Headers.{place_of_bucket, table_length};
+ghost use Rattle.spec_folder.specs.View.{store_of};
+ghost use Rattle.spec_folder.specs.Chains.{chain_from, most_records};
 ghost use Rattle.blk_disk.specs.Open.{IsOpen};
 ghost use Rattle.blk_disk.specs.Tables.{Agrees};
 ghost use Rattle.blk_index.specs.Table.{AreBuckets, buckets_of_piece, table_piece_length};

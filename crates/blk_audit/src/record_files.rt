@@ -2,12 +2,12 @@
 ghost use Rattle.std.specs.Prelude.{◌≡◌, ◌+◌, ◌*◌, ◌≤◌, ◌<◌, IfOk, IfSome, IsTrue, OnOk, None, length, slice_get, All};
 ghost use Rattle.std.specs.List.{list_any, range_with_len};
 ghost use Rattle.std.specs.Option.{ForSome};
-ghost use Rattle.blk_image.specs.Bytes.{range_at};
-ghost use Rattle.blk_image.specs.Image.{AreBytes, Block as block, HasRange, Image, byte};
-ghost use Rattle.blk_image.specs.Told.{Rises, Stays};
-ghost use Rattle.blk_format.specs.Address.{blocks_256, header_size, kind_of};
-ghost use Rattle.blk_format.specs.Claims.{BlockOf};
-ghost use Rattle.blk_format.specs.Records.{entry_size};
+ghost use Rattle.spec_image.specs.Bytes.{range_at};
+ghost use Rattle.spec_image.specs.Image.{AreBytes, Block as block, HasRange, Image, byte};
+ghost use Rattle.spec_image.specs.Told.{Rises, Stays};
+ghost use Rattle.spec_format.specs.Address.{blocks_256, header_size, kind_of};
+ghost use Rattle.spec_format.specs.Claims.{BlockOf};
+ghost use Rattle.spec_format.specs.Records.{entry_size};
 ghost use Rattle.blk_addr.specs.Claims.{contains_claim};
 ghost use Rattle.blk_io.specs.Faults.{IfDamaged, IfDevice};
 ghost use Rattle.blk_disk.specs.Tables.{Agrees, stands_among};

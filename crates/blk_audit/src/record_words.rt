@@ -1,10 +1,10 @@
 // The words of a record, as they are read.
 ghost use Rattle.std.specs.Prelude.{◌≡◌, ◌≤◌, IfOk, IsTrue, None, OnOk, length};
 ghost use Rattle.std.specs.Option.{ForSome};
-ghost use Rattle.blk_image.specs.Image.{Block as block, HasRange};
-ghost use Rattle.blk_image.specs.Told.{Rises, Stays};
-ghost use Rattle.blk_format.specs.Address.{blocks_256, file_selector, kind_of, place};
-ghost use Rattle.blk_format.specs.Records.{entry_size};
+ghost use Rattle.spec_image.specs.Image.{Block as block, HasRange};
+ghost use Rattle.spec_image.specs.Told.{Rises, Stays};
+ghost use Rattle.spec_format.specs.Address.{blocks_256, file_selector, kind_of, place};
+ghost use Rattle.spec_format.specs.Records.{entry_size};
 ghost use Rattle.blk_io.specs.declared.folder.FileId.TheVariants as FileId;
 ghost use Rattle.blk_io.specs.Faults.{IfDamaged, IfDevice, IsShort};
 ghost use Rattle.blk_disk.specs.Tables.{Agrees, stands_among};

@@ -1,6 +1,6 @@
 // Entry records, as they are read.
 ghost use Rattle.std.specs.Prelude.{◌≡◌, ◌≤◌, length};
-ghost use Rattle.blk_format.specs.Address.{blocks_256, kind_of};
+ghost use Rattle.spec_format.specs.Address.{blocks_256, kind_of};
 ghost use Rattle.blk_audit.specs.Records.{is_hash_in, record_in};
 ghost use Rattle.blk_audit.specs.Chaining.{first_block_of};
 

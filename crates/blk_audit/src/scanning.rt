@@ -1,10 +1,10 @@
 // The use list and the chains of a folder, read together.
 ghost use Rattle.std.specs.Prelude.{◌≡◌, ◌≤◌, None, IfOk};
 ghost use Rattle.std.specs.Option.{ForSome};
-ghost use Rattle.blk_image.specs.Told.{Rises, Stays};
-ghost use Rattle.blk_format.specs.Headers.{table_length};
-ghost use Rattle.blk_volume.specs.ListImages.{completed_walk};
-ghost use Rattle.blk_volume.specs.View.{store_of};
+ghost use Rattle.spec_image.specs.Told.{Rises, Stays};
+ghost use Rattle.spec_format.specs.Headers.{table_length};
+ghost use Rattle.spec_folder.specs.ListImages.{completed_walk};
+ghost use Rattle.spec_folder.specs.View.{store_of};
 ghost use Rattle.blk_disk.specs.Open.{IsOpen};
 ghost use Rattle.blk_disk.specs.Tables.{Agrees};
 ghost use Rattle.blk_audit.specs.Chaining.{AreChainsThere, reached_by, words_reached};

@@ -1,9 +1,9 @@
 // The walk of a folder.
 ghost use Rattle.std.specs.Prelude.{◌≡◌, ◌≤◌, None, IfOk, OnOk};
 ghost use Rattle.std.specs.Option.{ForSome};
-ghost use Rattle.blk_image.specs.Told.{Rises, Stays};
+ghost use Rattle.spec_image.specs.Told.{Rises, Stays};
 ghost use Rattle.blk_audit.specs.Faults.{IfScanDamaged, IfScanDevice, IsWalkDamage};
-ghost use Rattle.blk_volume.specs.ListImages.{completed_walk};
+ghost use Rattle.spec_folder.specs.ListImages.{completed_walk};
 ghost use Rattle.blk_disk.specs.Open.{IsOpen};
 ghost use Rattle.blk_disk.specs.Tables.{Agrees};
 ghost use Rattle.blk_audit.specs.Filled.{CountsStand};

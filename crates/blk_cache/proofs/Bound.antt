@@ -1,7 +1,7 @@
 -- What names are bound to stands among the block files.
 use Rattle.std.proofs.Common.{◌≡◌, ⊎_elim, ℕ, Bool, true, false, refl, Option, Some, None, subst, set}
 use Rattle.std.specs.Prelude.{unwrap_or}
-use Rattle.blk_image.proofs.Runs.{some_inj}
+use Rattle.spec_image.proofs.Runs.{some_inj}
 use Rattle.blk_disk.specs.declared.tables.BlockFiles.{BlockFiles}
 use Rattle.blk_disk.specs.Tables.{is_node_among, is_record_among}
 use Rattle.blk_handles.specs.Bindings.{Binding, Bindings, binding_for, binding_of, open_with}

@@ -4,24 +4,24 @@ use Rattle.std.specs.Prelude.{◌==◌, if◌then◌else◌, slice_index_or}
 use Rattle.std.specs.List.{list_any}
 use Rattle.std.proofs.lemmas.Bool.{cases_eq, eqb-true, or_cases, or_left, or_right}
 use Rattle.blk_handles.proofs.Basics.{same-number}
-use Rattle.blk_image.specs.Image.{Image}
-use Rattle.blk_image.proofs.Runs.{some_inj}
+use Rattle.spec_image.specs.Image.{Image}
+use Rattle.spec_image.proofs.Runs.{some_inj}
 use Rattle.blk_model.specs.Holding.{owner}
 use Rattle.blk_model.specs.Items.{main}
 use Rattle.blk_model.specs.State.{Object, State, is_number, object_at}
-use Rattle.blk_format.specs.BlockFiles.{is_among}
-use Rattle.blk_format.specs.Claims.{claims_of, has_claim}
-use Rattle.blk_volume.specs.Layout.{IsDoomedAt, Layout, order, rule_of}
-use Rattle.blk_volume.specs.Loads.{Loaded}
-use Rattle.blk_volume.specs.View.{store_of}
-use Rattle.blk_laws.proofs.claims.ClaimLists.{contents-claims, some-claim}
-use Rattle.blk_laws.proofs.states.Changing.{same-place}
-use Rattle.blk_laws.proofs.states.Laid.{is_among-node}
-use Rattle.blk_laws.proofs.states.Settling.{main-listed, main-owned}
-use Rattle.blk_laws.proofs.walks.Loads.{load-then}
+use Rattle.spec_format.specs.BlockFiles.{is_among}
+use Rattle.spec_format.specs.Claims.{claims_of, has_claim}
+use Rattle.spec_folder.specs.Layout.{IsDoomedAt, Layout, order, rule_of}
+use Rattle.spec_folder.specs.Loads.{Loaded}
+use Rattle.spec_folder.specs.View.{store_of}
+use Rattle.law_folder.proofs.claims.ClaimLists.{contents-claims, some-claim}
+use Rattle.law_folder.proofs.states.Changing.{same-place}
+use Rattle.law_folder.proofs.states.Laid.{is_among-node}
+use Rattle.law_folder.proofs.states.Settling.{main-listed, main-owned}
+use Rattle.law_folder.proofs.walks.Loads.{load-then}
 use Rattle.blk_handles.specs.Bindings.{Binding, Bindings, binding_of, is_open}
 use Rattle.blk_handles.proofs.BindingLemmas.{open-bound, open-named}
-use Rattle.blk_kept.specs.Keeping.{KeepsUncounted}
+use Rattle.law_state.specs.Keeping.{KeepsUncounted}
 use Rattle.blk_object.specs.Writing.{node_of_object}
 use Rattle.blk_cache.specs.CacheKeeping.{IsBoundAs, IsBoundTo}
 

@@ -6,29 +6,29 @@ use Rattle.std.specs.List.{sum_by}
 use Rattle.std.proofs.lemmas.Bool.{eqb-true}
 use Rattle.std.proofs.lemmas.Bool.Decides.{nat_tests}
 use Rattle.std.proofs.lemmas.Option.{option_and_then_some, cond_some}
-use Rattle.blk_image.specs.Image.{AreBytes, Image}
-use Rattle.blk_image.proofs.Runs.{some_inj}
+use Rattle.spec_image.specs.Image.{AreBytes, Image}
+use Rattle.spec_image.proofs.Runs.{some_inj}
 use Rattle.blk_model.specs.Effects.{stream_in}
 use Rattle.blk_model.specs.Charge.{main_charge}
 use Rattle.blk_model.specs.Holding as model
 use Rattle.blk_model.specs.Items.{Row, Shape, Streams, is_sparse, main, main_row, part_row, plain}
 use Rattle.blk_model.specs.Room.{own_charge}
 use Rattle.blk_model.specs.State.{Object, State, object_at}
-use Rattle.blk_format.specs.Names.{Name, read_name}
-use Rattle.blk_format.specs.Sealed.{RecordChecks}
-use Rattle.blk_format.specs.SparseIndex.{ParentIndex, PartIndex, read_parent_index, read_part_index}
-use Rattle.blk_volume.specs.Entries.{IsParent, IsPart, IsPlain, Role, is_covered, parent_role, part_role, role_of, stored_streams, stream}
-use Rattle.blk_volume.specs.Found.{charge_of, row_of_loaded, row_with}
-use Rattle.blk_volume.specs.Layout.{IsDoomedAt, IsPlacedAt, Layout, rule_of}
-use Rattle.blk_volume.specs.Loads.{Loaded}
-use Rattle.blk_volume.specs.View.{RecordFields, entry_at, fields_at, store_of}
-use Rattle.blk_laws.proofs.chains.ChainWords.{record_checks, shown-fields, shown-kind}
-use Rattle.blk_laws.proofs.states.Settling.{main-listed, main-owned}
-use Rattle.blk_laws.proofs.walks.Loads.{load-then}
+use Rattle.spec_format.specs.Names.{Name, read_name}
+use Rattle.spec_format.specs.Sealed.{RecordChecks}
+use Rattle.spec_format.specs.SparseIndex.{ParentIndex, PartIndex, read_parent_index, read_part_index}
+use Rattle.spec_folder.specs.Entries.{IsParent, IsPart, IsPlain, Role, is_covered, parent_role, part_role, role_of, stored_streams, stream}
+use Rattle.spec_folder.specs.Found.{charge_of, row_of_loaded, row_with}
+use Rattle.spec_folder.specs.Layout.{IsDoomedAt, IsPlacedAt, Layout, rule_of}
+use Rattle.spec_folder.specs.Loads.{Loaded}
+use Rattle.spec_folder.specs.View.{RecordFields, entry_at, fields_at, store_of}
+use Rattle.law_folder.proofs.chains.ChainWords.{record_checks, shown-fields, shown-kind}
+use Rattle.law_folder.proofs.states.Settling.{main-listed, main-owned}
+use Rattle.law_folder.proofs.walks.Loads.{load-then}
 use Rattle.blk_handles.specs.Bindings.{Binding}
 use Rattle.blk_verdict.proofs.RoleFacts.{index_length}
 use Rattle.blk_verdict.proofs.StreamFacts.{AreStored, are_stored, stored_length}
-use Rattle.blk_kept.specs.Keeping.{KeepsUncounted}
+use Rattle.law_state.specs.Keeping.{KeepsUncounted}
 use Rattle.blk_stream.specs.Streams.{streams_at}
 use Rattle.blk_object.specs.Owning.{LoadsWith}
 use Rattle.blk_object.proofs.OwnedPlaces.{kept-load}

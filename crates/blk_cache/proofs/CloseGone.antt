@@ -3,9 +3,9 @@ use Rattle.std.proofs.Common.{◌≡◌, ⊎_elim, Result, Ok, ℕ, ◌-◌, ◌
 use Rattle.std.specs.Prelude.{OnOk, if◌then◌else◌, not}
 use Rattle.std.specs.Option.{ForSome}
 use Rattle.std.proofs.lemmas.Bool.{cases_Bool}
-use Rattle.blk_image.specs.Image.{Image, Index, byte}
-use Rattle.blk_image.specs.Told.{Passes, TellsBytes, Told}
-use Rattle.blk_image.proofs.Runs.{passes_weaker, some_inj}
+use Rattle.spec_image.specs.Image.{Image, Index, byte}
+use Rattle.spec_image.specs.Told.{Passes, TellsBytes, Told}
+use Rattle.spec_image.proofs.Runs.{passes_weaker, some_inj}
 use Rattle.blk_io.specs.declared.fault.Fault.{Fault}
 use Rattle.blk_io.specs.declared.fault.Fault.TheVariants.{Damaged, Device}
 use Rattle.blk_io.specs.Faults.{IfDamaged}
@@ -14,21 +14,21 @@ use Rattle.blk_model.specs.Room.{own_charge}
 use Rattle.blk_model.specs.State.{State, is_named}
 use Rattle.blk_model.specs.Step.{step}
 use Rattle.blk_model.specs.declared.Answer.TheVariants as answer
-use Rattle.blk_format.specs.Headers.{this_id_of}
-use Rattle.blk_volume.specs.Layout.{Layout}
-use Rattle.blk_volume.specs.Sound.{words_of}
-use Rattle.blk_volume.specs.View.{list_of}
-use Rattle.blk_laws.specs.CommandLaws.{IsPlacedAsDoomed}
+use Rattle.spec_format.specs.Headers.{this_id_of}
+use Rattle.spec_folder.specs.Layout.{Layout}
+use Rattle.spec_folder.specs.Sound.{words_of}
+use Rattle.spec_folder.specs.View.{list_of}
+use Rattle.law_folder.specs.CommandLaws.{IsPlacedAsDoomed}
 use Rattle.blk_disk.specs.declared.tables.BlockFiles.{BlockFiles}
 use Rattle.blk_disk.specs.Open.{IsOpen}
 use Rattle.blk_disk.specs.Tables.{is_node_among}
 use Rattle.blk_handles.specs.declared.open_object.OpenObject.{OpenObject}
 use Rattle.blk_handles.specs.Bindings.{Binding, binding_of, is_open}
-use Rattle.blk_kept.specs.Commands.{Does, MayStop, MayStopAtEach}
-use Rattle.blk_kept.specs.Keeping.{Keeps}
-use Rattle.blk_kept.proofs.CommandEnding.{closes-doomed}
-use Rattle.blk_kept.proofs.OneCalls.{closes-of-doomed-unlink}
-use Rattle.blk_kept.proofs.Stopping.{stop-after}
+use Rattle.law_state.specs.Commands.{Does, MayStop, MayStopAtEach}
+use Rattle.law_state.specs.Keeping.{Keeps}
+use Rattle.law_state.proofs.CommandEnding.{closes-doomed}
+use Rattle.law_state.proofs.OneCalls.{closes-of-doomed-unlink}
+use Rattle.law_state.proofs.Stopping.{stop-after}
 use Rattle.blk_object.specs.Ending.{Cleans, FreesAll, HasFreeable, LiesFreeable, MayEnd}
 use Rattle.blk_object.specs.Freeing.{AreGoing, Removes}
 use Rattle.blk_object.specs.Owning.{LoadsWith}

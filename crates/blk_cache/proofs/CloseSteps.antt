@@ -5,9 +5,9 @@ use Rattle.std.specs.Prelude.{IfSome, OnOk, if◌then◌else◌, is_some, nat_le
 use Rattle.std.specs.Option.{ForSome, option_map}
 use Rattle.std.proofs.lemmas.Bool.{cases_Bool}
 use Rattle.std.proofs.lemmas.Bool.Decides.{nat_tests}
-use Rattle.blk_image.specs.Image.{AreBytes, Image}
-use Rattle.blk_image.specs.Told.{Applies, Passes, Stays, TellsBytes, Told}
-use Rattle.blk_image.proofs.Runs.{passes_weaker, some_inj}
+use Rattle.spec_image.specs.Image.{AreBytes, Image}
+use Rattle.spec_image.specs.Told.{Applies, Passes, Stays, TellsBytes, Told}
+use Rattle.spec_image.proofs.Runs.{passes_weaker, some_inj}
 use Rattle.blk_model.specs.Items.{main}
 use Rattle.blk_model.specs.Refusals.{refusals, refused}
 use Rattle.blk_model.specs.Reply.{answer_of}
@@ -17,11 +17,11 @@ use Rattle.blk_model.specs.State.{Object, State, is_named, named_by}
 use Rattle.blk_model.specs.Step.{reply, step}
 use Rattle.blk_model.specs.declared.Answer.TheVariants as answer
 use Rattle.blk_model.specs.declared.Refusal.TheVariants as refusal
-use Rattle.blk_format.specs.BlockFiles.{IsWellFormed}
-use Rattle.blk_format.specs.Sealed.{RecordChecks}
-use Rattle.blk_volume.specs.Loads.{Loaded}
-use Rattle.blk_volume.specs.View.{list_of}
-use Rattle.blk_laws.specs.CommandLaws.{marked, turned}
+use Rattle.spec_format.specs.BlockFiles.{IsWellFormed}
+use Rattle.spec_format.specs.Sealed.{RecordChecks}
+use Rattle.spec_folder.specs.Loads.{Loaded}
+use Rattle.spec_folder.specs.View.{list_of}
+use Rattle.law_folder.specs.CommandLaws.{marked, turned}
 use Rattle.blk_disk.specs.declared.tables.BlockFiles.{BlockFiles}
 use Rattle.blk_disk.specs.Open.{IsOpen}
 use Rattle.blk_disk.specs.Tables.{is_node_among, is_record_among}
@@ -33,15 +33,15 @@ use Rattle.blk_handles.specs.declared.open_object.OpenObject.{OpenObject}
 use Rattle.blk_handles.specs.declared.open_object.Released.{Released}
 use Rattle.blk_handles.specs.declared.open_object.Released.TheVariants as released
 use Rattle.blk_handles.specs.Bindings.{Binding, Bindings, binding_of, is_open, open_object}
-use Rattle.blk_kept.specs.Commands.{Does, MayStop, MayStopAtEach}
-use Rattle.blk_kept.specs.CommandStates.{IsLast}
-use Rattle.blk_kept.specs.Keeping.{Keeps}
-use Rattle.blk_kept.specs.RecordLaws.{IsMarked, IsMarking}
-use Rattle.blk_kept.proofs.CommandEnding.{closes-free, closes-settle, passed}
-use Rattle.blk_kept.proofs.Dirtying.{leaves}
-use Rattle.blk_kept.proofs.NextStates.{closes-next, closes-of-many-next}
-use Rattle.blk_kept.proofs.OneCalls.{closes-end-by-mark, closes-stop-by-mark}
-use Rattle.blk_kept.proofs.Stopping.{nothing-stops}
+use Rattle.law_state.specs.Commands.{Does, MayStop, MayStopAtEach}
+use Rattle.law_state.specs.CommandStates.{IsLast}
+use Rattle.law_state.specs.Keeping.{Keeps}
+use Rattle.law_state.specs.RecordLaws.{IsMarked, IsMarking}
+use Rattle.law_state.proofs.CommandEnding.{closes-free, closes-settle, passed}
+use Rattle.law_state.proofs.Dirtying.{leaves}
+use Rattle.law_state.proofs.NextStates.{closes-next, closes-of-many-next}
+use Rattle.law_state.proofs.OneCalls.{closes-end-by-mark, closes-stop-by-mark}
+use Rattle.law_state.proofs.Stopping.{nothing-stops}
 use Rattle.blk_object.proofs.KeptMarks.{being-set, check-as-records, marks-set, nodes-check}
 use Rattle.blk_cache.specs.declared.cache.Cache.{Cache}
 use Rattle.blk_cache.specs.BoundNames.{AreBoundAmong}

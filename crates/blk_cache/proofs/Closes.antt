@@ -2,7 +2,7 @@
 use Rattle.std.proofs.Common.{◌≡◌, ◌≢◌, ℕ, zero, suc, ◌+◌, ◌-◌, ◌<◌, ◌≤◌, Bool, true, false, List, [], ◌∷◌, length, length-set, set, get_or, get_or-set_other, Option, Some, None, refl, sym, ap, subst, ◌∙◌, arith, cond}
 use Rattle.std.specs.Prelude.{◌==◌, IfSome, if◌then◌else◌, sum_by}
 use Rattle.std.proofs.lemmas.Bool.{eqb-true}
-use Rattle.blk_image.specs.Image.{Image, Index, byte}
+use Rattle.spec_image.specs.Image.{Image, Index, byte}
 use Rattle.blk_model.specs.Bounds.{bounds_of}
 use Rattle.blk_model.specs.Charge.{part_charge}
 use Rattle.blk_model.specs.Effects.{with_slot}
@@ -10,16 +10,16 @@ use Rattle.blk_model.specs.Items.{PartValue, main, signature_of}
 use Rattle.blk_model.specs.Room.{charge, item_count, items, of_slot, own_charge, total}
 use Rattle.blk_model.specs.State.{IsObject, Object, State, is_named, named_by}
 use Rattle.std.proofs.lemmas.List.Sums.{sum_by-cons}
-use Rattle.blk_format.specs.Headers.{this_id_of}
-use Rattle.blk_volume.specs.Layout.{Layout}
-use Rattle.blk_laws.specs.CommandLaws.{dirtied, turned}
-use Rattle.blk_laws.proofs.states.Changing.{at-elsewhere}
+use Rattle.spec_format.specs.Headers.{this_id_of}
+use Rattle.spec_folder.specs.Layout.{Layout}
+use Rattle.law_folder.specs.CommandLaws.{dirtied, turned}
+use Rattle.law_folder.proofs.states.Changing.{at-elsewhere}
 use Rattle.blk_handles.specs.Bindings.{Binding, Bindings, binding_of, is_open, open_count}
 use Rattle.blk_disk.specs.declared.tables.BlockFiles.{BlockFiles}
 use Rattle.blk_disk.specs.Tables.{Agrees}
-use Rattle.blk_kept.specs.CommandStates.{with_names}
-use Rattle.blk_kept.specs.GoneLaws.{layout_without}
-use Rattle.blk_kept.specs.Keeping.{Keeps, KeepsUncounted}
+use Rattle.law_state.specs.CommandStates.{with_names}
+use Rattle.law_state.specs.GoneLaws.{layout_without}
+use Rattle.law_state.specs.Keeping.{Keeps, KeepsUncounted}
 use Rattle.blk_object.specs.Writing.{node_of_object}
 use Rattle.blk_cache.specs.declared.cache.Cache.{Cache}
 use Rattle.blk_cache.specs.CacheKeeping.{IsBoundAs, IsBoundTo, KeepsState, named_objects}

@@ -1,11 +1,11 @@
 -- The parts that a command covers: none, and what is pinned where some are.
 use Rattle.std.proofs.Common.{◌≡◌, ℕ, ◌+◌, Bool, true, false, ◌||◌, List, [], ◌∷◌, refl, sym, ap, subst, arith}
 use Rattle.std.specs.List.{list_any}
-use Rattle.blk_image.specs.Told.{Told}
+use Rattle.spec_image.specs.Told.{Told}
 use Rattle.blk_model.specs.Items.{Item, main, part, same_item}
 use Rattle.blk_model.specs.Room.{is_pinned}
 use Rattle.blk_model.specs.State.{State}
-use Rattle.blk_kept.specs.Commands.{ForKept}
+use Rattle.law_state.specs.Commands.{ForKept}
 use Rattle.blk_items.specs.RoomLaws.{AreOfNamed}
 use Rattle.blk_cache.specs.declared.cache.Cache.{Cache}
 use Rattle.blk_cache.specs.declared.covered.Covered.{Covered}

@@ -1,9 +1,9 @@
 -- A Create, from the making of its object.
 use Rattle.std.proofs.Common.{◌≡◌, ℕ, ◌<◌, ◌^◌, List, None, sym, ap, subst, ◌∙◌, arith}
 use Rattle.std.specs.Option.{ForSome}
-use Rattle.blk_image.specs.Image.{Image}
-use Rattle.blk_image.specs.Told.{Passes, Told}
-use Rattle.blk_image.proofs.Runs.{passes_weaker}
+use Rattle.spec_image.specs.Image.{Image}
+use Rattle.spec_image.specs.Told.{Passes, Told}
+use Rattle.spec_image.proofs.Runs.{passes_weaker}
 use Rattle.blk_model.specs.Effects.{created}
 use Rattle.blk_model.specs.Holding.{rest}
 use Rattle.blk_model.specs.Items.{IsBytes}
@@ -13,11 +13,11 @@ use Rattle.blk_model.specs.Request.{to_create}
 use Rattle.blk_model.specs.State.{Bounds, State}
 use Rattle.blk_model.specs.Step.{reply, step}
 use Rattle.blk_model.specs.declared.Answer.TheVariants as answer
-use Rattle.blk_kept.specs.Changes.{Finds}
-use Rattle.blk_kept.specs.Commands.{IsDone, MayStop}
-use Rattle.blk_kept.specs.CommandStates.{with_room}
-use Rattle.blk_kept.proofs.CommandEnding.{creates-end, passed}
-use Rattle.blk_kept.proofs.Orders.{left-stops, room-left}
+use Rattle.law_state.specs.Changes.{Finds}
+use Rattle.law_state.specs.Commands.{IsDone, MayStop}
+use Rattle.law_state.specs.CommandStates.{with_room}
+use Rattle.law_state.proofs.CommandEnding.{creates-end, passed}
+use Rattle.law_state.proofs.Orders.{left-stops, room-left}
 use Rattle.blk_object.specs.Making.{CanHaveNew}
 use Rattle.blk_cache.specs.declared.cache.Cache.{Cache}
 use Rattle.blk_cache.specs.CacheKeeping.{KeepsState}

@@ -1,7 +1,7 @@
 -- Why a Create of a cache that keeps a state is refused.
 use Rattle.std.proofs.Common.{◌≡◌, ℕ, Bool, true, false, List, [], ◌∷◌, Option, Some, None, refl, ap, subst, ◌∙◌}
 use Rattle.std.specs.Prelude.{if◌then◌else◌, is_some}
-use Rattle.blk_image.specs.Image.{Image}
+use Rattle.spec_image.specs.Image.{Image}
 use Rattle.blk_model.specs.Refusals.{first_refusal, names_one, no_key, no_name, no_room, refusals, refused}
 use Rattle.blk_model.specs.Request.{to_create}
 use Rattle.blk_model.specs.State.{State, live_with}

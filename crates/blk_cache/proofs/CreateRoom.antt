@@ -26,7 +26,7 @@ use Rattle.blk_model.proofs.Slots.{first_with_found, owners-has}
 use Rattle.blk_model.proofs.States.{has_main, main_owner}
 use Rattle.blk_model.proofs.Steps.{none_comes}
 use Rattle.blk_model.proofs.Times.{same_item-sym, times-cons}
-use Rattle.blk_kept.specs.CommandStates.{with_room}
+use Rattle.law_state.specs.CommandStates.{with_room}
 use Rattle.blk_object.proofs.MakingCreates.{creates-can}
 use Rattle.blk_cache.specs.CreatingLaws.{CreatesHaveRoom, CreatesWantRoomForOneItem}
 use Rattle.blk_cache.proofs.Creates.{items-after, total-after}

@@ -5,7 +5,7 @@ use Rattle.std.specs.List.{list_any}
 use Rattle.std.specs.Option.{option_map}
 use Rattle.std.proofs.lemmas.Bool.{cases_Bool, cases_eq}
 use Rattle.std.proofs.lemmas.List.Sums.{sum_by_push}
-use Rattle.blk_image.specs.Image.{Image, Index, byte}
+use Rattle.spec_image.specs.Image.{Image, Index, byte}
 use Rattle.blk_model.specs.Bounds.{bounds_of}
 use Rattle.blk_model.specs.Effects.{created, new_object}
 use Rattle.blk_model.specs.Holding.{owner}
@@ -15,18 +15,18 @@ use Rattle.blk_model.specs.State.{Bounds, Object, State, is_named, is_number, na
 use Rattle.blk_model.proofs.Each.{push_at}
 use Rattle.blk_model.proofs.Same.{one_item, same_item_self}
 use Rattle.blk_model.proofs.States.{some_of}
-use Rattle.blk_format.specs.Headers.{this_id_of}
-use Rattle.blk_volume.specs.Creation.{with_new}
-use Rattle.blk_volume.specs.Layout.{Layout}
-use Rattle.blk_volume.specs.Loads.{Loaded}
-use Rattle.blk_laws.proofs.states.Changing.{at-elsewhere, at-itself}
-use Rattle.blk_laws.proofs.states.Settling.{main-owned}
+use Rattle.spec_format.specs.Headers.{this_id_of}
+use Rattle.spec_folder.specs.Creation.{with_new}
+use Rattle.spec_folder.specs.Layout.{Layout}
+use Rattle.spec_folder.specs.Loads.{Loaded}
+use Rattle.law_folder.proofs.states.Changing.{at-elsewhere, at-itself}
+use Rattle.law_folder.proofs.states.Settling.{main-owned}
 use Rattle.blk_handles.specs.Bindings.{Binding, Bindings, binding_for, binding_of, is_open, open_count, open_with}
 use Rattle.blk_handles.proofs.Basics.{apart}
 use Rattle.blk_handles.proofs.BindingLemmas.{open_with-named, open_with_told}
 use Rattle.blk_disk.specs.declared.tables.BlockFiles.{BlockFiles}
 use Rattle.blk_disk.specs.Tables.{Agrees}
-use Rattle.blk_kept.specs.Keeping.{KeepsUncounted}
+use Rattle.law_state.specs.Keeping.{KeepsUncounted}
 use Rattle.blk_object.specs.declared.making.Made.{Made}
 use Rattle.blk_object.specs.Making.{CanHaveNew, HasNewObject}
 use Rattle.blk_object.specs.Writing.{node_of_object}

@@ -3,22 +3,22 @@ use Rattle.std.proofs.Common.{◌≡◌, ◌⊎◌, inl, inr, ℕ, ◌+◌, ◌*
 use Rattle.std.specs.Prelude.{◌==◌, if◌then◌else◌, unwrap_or}
 use Rattle.std.specs.List.{sum_by}
 use Rattle.std.specs.Option.{ForSome}
-use Rattle.blk_image.specs.Bytes.{content, word_at, word_bytes, zeros}
-use Rattle.blk_image.specs.Image.{Image, Index, bytes_of, byte, word}
-use Rattle.blk_image.specs.Steps.{TrailStep, after, with_word, with_words, word_step}
-use Rattle.blk_image.specs.Told.{Told, Applies}
-use Rattle.blk_image.proofs.Cuts.{after-append}
-use Rattle.blk_image.proofs.Images.{bytes_of-written}
-use Rattle.blk_image.proofs.Runs.{some_inj, told_whole}
-use Rattle.blk_image.proofs.Splices.{length-zeros}
-use Rattle.blk_image.proofs.Words.{length-with_word, length-with_words, word-beside, word-there}
-use Rattle.blk_format.specs.Headers.{create_time_of, index_length, index_magic, table_length, version}
-use Rattle.blk_format.specs.NewFolder.{IsMade, new_index_words}
-use Rattle.blk_volume.specs.Found.{charge_of, kept}
-use Rattle.blk_laws.proofs.states.Bare.{bare-sound}
-use Rattle.blk_laws.proofs.states.NewFolders.{Neighbours, new-bare, words_beside}
-use Rattle.blk_repair_laws.specs.Mended.{IsMended}
-use Rattle.blk_repair_laws.proofs.SoundFolders.{sound-mended}
+use Rattle.spec_image.specs.Bytes.{content, word_at, word_bytes, zeros}
+use Rattle.spec_image.specs.Image.{Image, Index, bytes_of, byte, word}
+use Rattle.spec_image.specs.Steps.{TrailStep, after, with_word, with_words, word_step}
+use Rattle.spec_image.specs.Told.{Told, Applies}
+use Rattle.spec_image.proofs.Cuts.{after-append}
+use Rattle.spec_image.proofs.Images.{bytes_of-written}
+use Rattle.spec_image.proofs.Runs.{some_inj, told_whole}
+use Rattle.spec_image.proofs.Splices.{length-zeros}
+use Rattle.spec_image.proofs.Words.{length-with_word, length-with_words, word-beside, word-there}
+use Rattle.spec_format.specs.Headers.{create_time_of, index_length, index_magic, table_length, version}
+use Rattle.spec_format.specs.NewFolder.{IsMade, new_index_words}
+use Rattle.spec_folder.specs.Found.{charge_of, kept}
+use Rattle.law_folder.proofs.states.Bare.{bare-sound}
+use Rattle.law_folder.proofs.states.NewFolders.{Neighbours, new-bare, words_beside}
+use Rattle.law_recovery.specs.Mended.{IsMended}
+use Rattle.law_recovery.proofs.SoundFolders.{sound-mended}
 use Rattle.blk_scan.specs.declared.scan.Scan.{Scan}
 use Rattle.blk_scan.specs.Scans.{IsEmptyScan}
 use Rattle.blk_repair.specs.Counters.{counted_words, crash_place, index_steps, index_word_steps, index_words_steps}

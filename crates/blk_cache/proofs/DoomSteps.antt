@@ -3,9 +3,9 @@ use Rattle.std.proofs.Common.{◌≡◌, ⊎_elim, ℕ, ◌<◌, Bool, true, fal
 use Rattle.std.specs.Prelude.{◌^◌, IfSome, if◌then◌else◌, is_none, nat_le}
 use Rattle.std.specs.Option.{ForSome, option_map, option_map_or}
 use Rattle.std.proofs.lemmas.Bool.Decides.{nat_tests}
-use Rattle.blk_image.specs.Image.{Image}
-use Rattle.blk_image.specs.Told.{Passes, Told}
-use Rattle.blk_image.proofs.Runs.{passes_weaker, some_inj}
+use Rattle.spec_image.specs.Image.{Image}
+use Rattle.spec_image.specs.Told.{Passes, Told}
+use Rattle.spec_image.proofs.Runs.{passes_weaker, some_inj}
 use Rattle.blk_model.specs.Effects.{doomed}
 use Rattle.blk_model.specs.Items.{IsBytes, main}
 use Rattle.blk_model.specs.Refusals.{first_refusal, no_key, refusals, refused}
@@ -15,13 +15,13 @@ use Rattle.blk_model.specs.State.{Object, State, is_named, live_with, named_by, 
 use Rattle.blk_model.specs.Step.{reply, step}
 use Rattle.blk_model.specs.declared.Answer.TheVariants as answer
 use Rattle.blk_model.specs.declared.Refusal.TheVariants as refusal
-use Rattle.blk_volume.specs.Layout.{Layout}
+use Rattle.spec_folder.specs.Layout.{Layout}
 use Rattle.blk_handles.specs.declared.open_object.OpenObject.{OpenObject}
 use Rattle.blk_handles.specs.Bindings.{Binding, Bindings, binding_of, open_object}
-use Rattle.blk_kept.specs.Commands.{Does, IsDone, MayStop, MayStopAtEach}
-use Rattle.blk_kept.specs.CommandStates.{IsDoomOf}
-use Rattle.blk_kept.proofs.CommandEnding.{dooms-end, passed}
-use Rattle.blk_kept.proofs.WordStops.{dooms-stop}
+use Rattle.law_state.specs.Commands.{Does, IsDone, MayStop, MayStopAtEach}
+use Rattle.law_state.specs.CommandStates.{IsDoomOf}
+use Rattle.law_state.proofs.CommandEnding.{dooms-end, passed}
+use Rattle.law_state.proofs.WordStops.{dooms-stop}
 use Rattle.blk_object.specs.RemovingObjects.{FindsEither}
 use Rattle.blk_object.specs.Writing.{node_of_object}
 use Rattle.blk_cache.specs.declared.cache.Cache.{Cache}

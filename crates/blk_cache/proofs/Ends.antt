@@ -1,24 +1,24 @@
 -- Where a cache keeps a state its folder may be written, and ends sound where no name is bound.
 use Rattle.std.proofs.Common.{◌≡◌, inr, ℕ, Option, Some, None, refl, subst, arith, false}
 use Rattle.std.specs.Option.{ForSome}
-use Rattle.blk_image.specs.Image.{Image, Index, word}
-use Rattle.blk_image.specs.Steps.{after, word_step}
-use Rattle.blk_image.specs.Told.{Told, Applies}
-use Rattle.blk_image.proofs.Images.{word-after_same}
-use Rattle.blk_image.proofs.Runs.{told_whole}
-use Rattle.blk_format.specs.Headers.{HasWholeIndex}
-use Rattle.blk_image.specs.Footprint.{SameOutside, one_word}
+use Rattle.spec_image.specs.Image.{Image, Index, word}
+use Rattle.spec_image.specs.Steps.{after, word_step}
+use Rattle.spec_image.specs.Told.{Told, Applies}
+use Rattle.spec_image.proofs.Images.{word-after_same}
+use Rattle.spec_image.proofs.Runs.{told_whole}
+use Rattle.spec_format.specs.Headers.{HasWholeIndex}
+use Rattle.spec_image.specs.Footprint.{SameOutside, one_word}
 use Rattle.blk_model.specs.State.{State, is_named, named_by}
-use Rattle.blk_format.proofs.Finished.{whole_index}
-use Rattle.blk_volume.specs.Layout.{Layout}
-use Rattle.blk_kept.proofs.Keeping.{kept-sound}
-use Rattle.blk_repair_laws.specs.Mended.{IsMended}
-use Rattle.blk_repair_laws.specs.MendedChanges.{KeepsMendedLinks}
-use Rattle.blk_repair_laws.proofs.Mended.{mended-sound}
-use Rattle.blk_repair_laws.proofs.MendedChanges.{hidden-change}
-use Rattle.blk_repair_laws.proofs.MendedParts.{counters-left, files-mended, words-leave}
-use Rattle.blk_repair_laws.proofs.RecordSeals.{words-behind}
-use Rattle.blk_repair_laws.proofs.SoundFolders.{sound-mended}
+use Rattle.spec_format.proofs.Finished.{whole_index}
+use Rattle.spec_folder.specs.Layout.{Layout}
+use Rattle.law_state.proofs.Keeping.{kept-sound}
+use Rattle.law_recovery.specs.Mended.{IsMended}
+use Rattle.law_recovery.specs.MendedChanges.{KeepsMendedLinks}
+use Rattle.law_recovery.proofs.Mended.{mended-sound}
+use Rattle.law_recovery.proofs.MendedChanges.{hidden-change}
+use Rattle.law_recovery.proofs.MendedParts.{counters-left, files-mended, words-leave}
+use Rattle.law_recovery.proofs.RecordSeals.{words-behind}
+use Rattle.law_recovery.proofs.SoundFolders.{sound-mended}
 use Rattle.blk_handles.specs.Bindings.{Binding}
 use Rattle.blk_cache.specs.declared.cache.Cache.{Cache}
 use Rattle.blk_cache.specs.BoundNames.{AreAllFree}

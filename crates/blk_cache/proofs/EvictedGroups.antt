@@ -1,9 +1,9 @@
 -- What a cache keeps once a group is out of its folder.
 use Rattle.std.proofs.Common.{◌≡◌, ◌-◌, [], ◌∷◌, ap, ◌∙◌, arith}
-use Rattle.blk_image.specs.Image.{Image}
+use Rattle.spec_image.specs.Image.{Image}
 use Rattle.blk_model.specs.Room.{without}
 use Rattle.blk_model.specs.State.{State}
-use Rattle.blk_volume.specs.Layout.{Layout}
+use Rattle.spec_folder.specs.Layout.{Layout}
 use Rattle.blk_disk.specs.Tables.{Agrees}
 use Rattle.blk_cache.specs.declared.cache.Cache.{Cache}
 use Rattle.blk_sparse.specs.declared.dropping.Gone.{Gone}

@@ -7,10 +7,10 @@ use Rattle.std.proofs.lemmas.Bool.{and_parts, cases_Bool}
 use Rattle.std.proofs.lemmas.Grind.{flat_map-append}
 use Rattle.std.proofs.lemmas.List.Elements.{filter-append}
 use Rattle.std.proofs.lemmas.List.Sums.{sum_by-cons}
-use Rattle.blk_image.specs.Image.{Image}
-use Rattle.blk_image.specs.Steps.{after}
-use Rattle.blk_image.specs.Told.{Passes, Told}
-use Rattle.blk_image.proofs.Runs.{passes_none, passes_stayed, passes_then, passes_weaker, some_inj}
+use Rattle.spec_image.specs.Image.{Image}
+use Rattle.spec_image.specs.Steps.{after}
+use Rattle.spec_image.specs.Told.{Passes, Told}
+use Rattle.spec_image.proofs.Runs.{passes_none, passes_stayed, passes_then, passes_weaker, some_inj}
 use Rattle.blk_io.specs.declared.fault.Damage.{Damage}
 use Rattle.blk_io.specs.declared.fault.Fault.{Fault}
 use Rattle.blk_io.specs.declared.fault.Fault.TheVariants.{Damaged, Device}
@@ -23,12 +23,12 @@ use Rattle.blk_model.specs.Room.{Group, evicted_until, is_out, is_pinned, items,
 use Rattle.blk_model.specs.State.{IsValidState, State}
 use Rattle.blk_model.proofs.Same.{bytes_eq_self, one_item, same_bytes, same_item_self}
 use Rattle.blk_script.specs.Reply.{evicted_line, evicted_text}
-use Rattle.blk_volume.specs.Layout.{Layout, is_in, is_listed}
-use Rattle.blk_laws.proofs.commands.Removing.{in-filter}
+use Rattle.spec_folder.specs.Layout.{Layout, is_in, is_listed}
+use Rattle.law_folder.proofs.commands.Removing.{in-filter}
 use Rattle.blk_lru.specs.Lists.{first_node_of}
-use Rattle.blk_kept.specs.Changes.{Finds}
-use Rattle.blk_kept.proofs.CommandEnding.{groups-turn}
-use Rattle.blk_kept.proofs.Keeping.{kept-found}
+use Rattle.law_state.specs.Changes.{Finds}
+use Rattle.law_state.proofs.CommandEnding.{groups-turn}
+use Rattle.law_state.proofs.Keeping.{kept-found}
 use Rattle.blk_object.specs.RemovingObjects.{FindsEither}
 use Rattle.blk_object.proofs.MakingRoom.{uses-few}
 use Rattle.blk_cache.specs.declared.cache.Cache.{Cache}

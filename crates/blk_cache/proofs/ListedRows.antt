@@ -2,7 +2,7 @@
 use Rattle.std.proofs.Common.{◌≡◌, ℕ, suc, true, List, [], ◌∷◌, length, Option, Some, None, refl, sym, ap, ◌∙◌}
 use Rattle.std.specs.List.{cons_option, filter_map}
 use Rattle.std.proofs.lemmas.Bool.{or_left, or_right}
-use Rattle.blk_image.specs.Image.{Image, Index, word}
+use Rattle.spec_image.specs.Image.{Image, Index, word}
 use Rattle.blk_model.specs.Holding.{row_of, rows}
 use Rattle.blk_model.specs.Items.{Item, Row, same_item}
 use Rattle.blk_model.specs.Refusals.{evicted, refusals}
@@ -13,8 +13,8 @@ use Rattle.blk_model.specs.Step.{outcome, reply, step}
 use Rattle.blk_model.specs.declared.Answer.TheVariants as answer
 use Rattle.blk_model.specs.State.{State}
 use Rattle.blk_model.proofs.Same.{same_item_self}
-use Rattle.blk_volume.specs.Layout.{Layout, is_in}
-use Rattle.blk_kept.specs.Keeping.{Keeps}
+use Rattle.spec_folder.specs.Layout.{Layout, is_in}
+use Rattle.law_state.specs.Keeping.{Keeps}
 use Rattle.blk_cache.specs.declared.cache.Cache.{Cache}
 use Rattle.blk_cache.specs.CacheKeeping.{KeepsState}
 use Rattle.blk_items.specs.ItemRows.{HasState}

@@ -3,18 +3,18 @@ use Rattle.std.proofs.Common.{◌≡◌, ◌⊎◌, inl, inr, ℕ, zero, suc, �
 use Rattle.std.specs.Prelude.{All}
 use Rattle.std.specs.Option.{ForSome, option_map}
 use Rattle.std.proofs.lemmas.List.Elements.{All-cons, All-head, All-nil, All-tail}
-use Rattle.blk_image.specs.Bytes.{word_bytes}
-use Rattle.blk_image.specs.Image.{File, Image, Index, Block, External, same_file}
-use Rattle.blk_image.specs.Order.{IsBefore, IsNextFile, file_number, file_rank}
-use Rattle.blk_image.specs.Steps.{TrailStep, Word, SetLength, Delete, after, applied, word_step, word_steps}
-use Rattle.blk_image.specs.Told.{Told, Along, Applies, AppliesPrefix, IsQuiet}
-use Rattle.blk_image.proofs.Cuts.{after-append}
-use Rattle.blk_image.proofs.Images.{with_file-other}
-use Rattle.blk_image.proofs.Runs.{part_whole, quiet-append, quiet_front, some_inj, until-append, until_front, until_last, until_weaker2}
-use Rattle.blk_image.proofs.WordSteps.{along_over, along_put, quiet-word_steps}
-use Rattle.blk_format.specs.Address.{header_size}
-use Rattle.blk_format.specs.Headers.{IsUnfinished, index_magic}
-use Rattle.blk_format.specs.NewFolder.{new_file_words, new_index_words, words_before_magic}
+use Rattle.spec_image.specs.Bytes.{word_bytes}
+use Rattle.spec_image.specs.Image.{File, Image, Index, Block, External, same_file}
+use Rattle.spec_image.specs.Order.{IsBefore, IsNextFile, file_number, file_rank}
+use Rattle.spec_image.specs.Steps.{TrailStep, Word, SetLength, Delete, after, applied, word_step, word_steps}
+use Rattle.spec_image.specs.Told.{Told, Along, Applies, AppliesPrefix, IsQuiet}
+use Rattle.spec_image.proofs.Cuts.{after-append}
+use Rattle.spec_image.proofs.Images.{with_file-other}
+use Rattle.spec_image.proofs.Runs.{part_whole, quiet-append, quiet_front, some_inj, until-append, until_front, until_last, until_weaker2}
+use Rattle.spec_image.proofs.WordSteps.{along_over, along_put, quiet-word_steps}
+use Rattle.spec_format.specs.Address.{header_size}
+use Rattle.spec_format.specs.Headers.{IsUnfinished, index_magic}
+use Rattle.spec_format.specs.NewFolder.{new_file_words, new_index_words, words_before_magic}
 use Rattle.blk_index.specs.Index.{HasNoMagic, IsMagicless}
 use Rattle.blk_index.specs.Making.{IsBlank, Lists, MakesPrefix, blank_steps, deletions, files_steps, first_file_steps, folder_steps}
 use Rattle.blk_index.proofs.Blank.{blank_is, blank_unfinished, cut_unfinished, no_magic-with_word}

@@ -2,11 +2,11 @@
 use Rattle.std.proofs.Common.{◌≡◌, ℕ, zero, suc, ◌/◌, ◌%◌, ◌^◌, List, [], ◌∷◌, ◌++◌, false, refl}
 use Rattle.std.specs.Prelude.{All}
 use Rattle.std.proofs.lemmas.List.Elements.{All-cons, All-nil}
-use Rattle.blk_image.specs.Image.{File, Index, Block}
-use Rattle.blk_image.specs.Steps.{TrailStep, SetLength, word_steps}
-use Rattle.blk_format.specs.Address.{header_size}
-use Rattle.blk_format.specs.Headers.{index_length, index_magic, table_length, version}
-use Rattle.blk_format.specs.NewFolder.{new_file_words, new_index_words}
+use Rattle.spec_image.specs.Image.{File, Index, Block}
+use Rattle.spec_image.specs.Steps.{TrailStep, SetLength, word_steps}
+use Rattle.spec_format.specs.Address.{header_size}
+use Rattle.spec_format.specs.Headers.{index_length, index_magic, table_length, version}
+use Rattle.spec_format.specs.NewFolder.{new_file_words, new_index_words}
 use Rattle.blk_index.specs.Making.{blank_steps, deletions, files_steps, first_file_steps, folder_steps}
 use Rattle.blk_repair.specs.Counters.{is_in_crash_word}
 use Rattle.blk_repair.proofs.CrashWord.{IsOther, SpareIt, spare-append, spare-blocks, spare-deletions, spare-places}

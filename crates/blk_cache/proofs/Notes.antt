@@ -1,10 +1,10 @@
 -- The note behind the steps of a command.
 use Rattle.std.proofs.Common.{◌≡◌, ℕ, [], ◌∷◌, Option, Some, None, inl, inr, refl, sym, ap, subst, ◌∙◌}
 use Rattle.std.specs.Option.{ForSome, option_map}
-use Rattle.blk_image.specs.Image.{Image}
-use Rattle.blk_image.specs.Steps.{Note, after}
-use Rattle.blk_image.specs.Told.{Applies, Passes, Stays, Told}
-use Rattle.blk_image.proofs.Runs.{grows_then}
+use Rattle.spec_image.specs.Image.{Image}
+use Rattle.spec_image.specs.Steps.{Note, after}
+use Rattle.spec_image.specs.Told.{Applies, Passes, Stays, Told}
+use Rattle.spec_image.proofs.Runs.{grows_then}
 use Rattle.blk_model.specs.Bounds.{bounds_of}
 use Rattle.blk_model.specs.Reply.{answer_of}
 use Rattle.blk_model.specs.Request.{Request}
@@ -15,8 +15,8 @@ use Rattle.blk_disk.specs.declared.tables.BlockFiles.{BlockFiles}
 use Rattle.blk_disk.specs.Open.{IsOpen}
 use Rattle.blk_disk.specs.Tables.{Agrees}
 use Rattle.blk_handles.specs.Bindings.{Bindings, binding_of, open_count}
-use Rattle.blk_kept.specs.Commands.{Does, ForKept, IsDone, IsNoted, IsStepped, MayStop, MayStopAtEach}
-use Rattle.blk_kept.proofs.Keeping.{kept-stands}
+use Rattle.law_state.specs.Commands.{Does, ForKept, IsDone, IsNoted, IsStepped, MayStop, MayStopAtEach}
+use Rattle.law_state.proofs.Keeping.{kept-stands}
 use Rattle.blk_cache.specs.declared.cache.Cache.{Cache}
 use Rattle.blk_cache.specs.CacheKeeping.{IsBoundAs, KeepsState}
 use Rattle.blk_cache.specs.CommandClauses.{IsRefused, OnlyNotesChange}

@@ -2,27 +2,27 @@
 use Rattle.std.proofs.Common.{◌≡◌, ◌⊎◌, inl, inr, ⊎_elim, ℕ, Bool, true, List, [], length, Option, Some, None, Result, Err, refl, sym, ap, subst, ◌∙◌, lit≤}
 use Rattle.std.specs.Prelude.{All, IsErrAnd, IsTrue, if◌then◌else◌, unwrap_or}
 use Rattle.std.specs.Option.{ForSome, option_map}
-use Rattle.blk_image.specs.Steps.{after}
+use Rattle.spec_image.specs.Steps.{after}
 use Rattle.std.proofs.lemmas.List.Elements.{All-nil}
-use Rattle.blk_image.specs.Bytes.{content, word_at, zeros}
-use Rattle.blk_image.specs.Image.{Image, Index, AreBytes, byte, word}
-use Rattle.blk_image.specs.Checks.{Damage}
-use Rattle.blk_image.specs.Told.{Told, Passes, PassesTo}
-use Rattle.blk_image.proofs.Runs.{passes_weaker, some_inj}
-use Rattle.blk_image.proofs.Words.{word-zeros}
+use Rattle.spec_image.specs.Bytes.{content, word_at, zeros}
+use Rattle.spec_image.specs.Image.{Image, Index, AreBytes, byte, word}
+use Rattle.spec_image.specs.Checks.{Damage}
+use Rattle.spec_image.specs.Told.{Told, Passes, PassesTo}
+use Rattle.spec_image.proofs.Runs.{passes_weaker, some_inj}
+use Rattle.spec_image.proofs.Words.{word-zeros}
 use Rattle.blk_model.specs.Items.{Row}
 use Rattle.blk_model.specs.Holding.{open_state}
 use Rattle.blk_model.specs.Room.{items, total}
-use Rattle.blk_kept.specs.Keeping.{KeepsSome}
-use Rattle.blk_format.specs.BlockFiles.{first_damage, IsWellFormed}
-use Rattle.blk_format.specs.Headers.{index_length, IsUnfinished, this_id_of, unfinished}
-use Rattle.blk_format.specs.NewFolder.{IsMade, new_index_words}
-use Rattle.blk_format.proofs.Finished.{finished_whole, well_formed-finished}
-use Rattle.blk_format.proofs.HeaderLemmas.{unfinished_agrees}
-use Rattle.blk_volume.specs.Found.{found}
-use Rattle.blk_volume.specs.StandsFor.{StandsFor}
-use Rattle.blk_laws.proofs.states.Bare.{bare-found}
-use Rattle.blk_laws.proofs.states.NewFolders.{new-bare, words_beside}
+use Rattle.law_state.specs.Keeping.{KeepsSome}
+use Rattle.spec_format.specs.BlockFiles.{first_damage, IsWellFormed}
+use Rattle.spec_format.specs.Headers.{index_length, IsUnfinished, this_id_of, unfinished}
+use Rattle.spec_format.specs.NewFolder.{IsMade, new_index_words}
+use Rattle.spec_format.proofs.Finished.{finished_whole, well_formed-finished}
+use Rattle.spec_format.proofs.HeaderLemmas.{unfinished_agrees}
+use Rattle.spec_folder.specs.Found.{found}
+use Rattle.spec_folder.specs.StandsFor.{StandsFor}
+use Rattle.law_folder.proofs.states.Bare.{bare-found}
+use Rattle.law_folder.proofs.states.NewFolders.{new-bare, words_beside}
 use Rattle.blk_io.specs.declared.fault.Damage as blk
 use Rattle.blk_io.specs.declared.fault.Fault.{Fault}
 use Rattle.blk_io.specs.declared.fault.Fault.TheVariants as fault
@@ -34,7 +34,7 @@ use Rattle.blk_disk.specs.Open.{IsOpen}
 use Rattle.blk_disk.specs.declared.tables.BlockFiles.{BlockFiles}
 use Rattle.blk_disk.specs.Tables.{Agrees, is_node_among}
 use Rattle.blk_audit.specs.Sealable.{CanBeSealed}
-use Rattle.blk_repair_laws.specs.MendedChanges.{IsMidRepair}
+use Rattle.law_recovery.specs.MendedChanges.{IsMidRepair}
 use Rattle.blk_scan.specs.declared.chains.KeptChains.{KeptChains}
 use Rattle.blk_scan.specs.declared.scan.Scan.{Scan}
 use Rattle.blk_scan.specs.Scans.{ChainsStandIf, IsEmptyScan, IsScanOf, StandAmong}

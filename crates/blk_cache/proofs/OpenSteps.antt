@@ -1,9 +1,9 @@
 -- An Open, from the moments of its touch.
 use Rattle.std.proofs.Common.{◌≡◌, ℕ, ◌<◌, ◌^◌, List, [], ◌∷◌, ◌++◌, length, set, length-set, true, false, Option, Some, None, sym, ap, subst, ◌∙◌, arith}
 use Rattle.std.specs.Option.{ForSome}
-use Rattle.blk_image.specs.Image.{Image}
-use Rattle.blk_image.specs.Told.{Applies, Passes, TellsBytes, Told}
-use Rattle.blk_image.proofs.Runs.{passes_weaker, some_inj}
+use Rattle.spec_image.specs.Image.{Image}
+use Rattle.spec_image.specs.Told.{Applies, Passes, TellsBytes, Told}
+use Rattle.spec_image.proofs.Runs.{passes_weaker, some_inj}
 use Rattle.blk_model.specs.Effects.{used}
 use Rattle.blk_model.specs.Items.{IsBytes, main}
 use Rattle.blk_model.specs.Refusals.{refused}
@@ -12,28 +12,28 @@ use Rattle.blk_model.specs.Request.{to_open}
 use Rattle.blk_model.specs.State.{State}
 use Rattle.blk_model.specs.Step.{reply, step}
 use Rattle.blk_model.specs.declared.Answer.TheVariants as answer
-use Rattle.blk_format.specs.BlockFiles.{is_among}
-use Rattle.blk_volume.specs.Layout.{Layout, is_listed, order}
-use Rattle.blk_volume.specs.ListImages.{HasListAtRest, steps_of_touch, walked}
-use Rattle.blk_volume.specs.ListPlans.{touch_writes}
-use Rattle.blk_volume.specs.ListSteps.{IsTouched}
-use Rattle.blk_volume.specs.ListView.{IsList}
-use Rattle.blk_volume.specs.View.{list_of, view_of}
-use Rattle.blk_laws.proofs.commands.Opening.{first-some}
-use Rattle.blk_laws.proofs.states.Central.{walk-order}
-use Rattle.blk_laws.proofs.states.Laid.{is_among-node}
+use Rattle.spec_format.specs.BlockFiles.{is_among}
+use Rattle.spec_folder.specs.Layout.{Layout, is_listed, order}
+use Rattle.spec_folder.specs.ListImages.{HasListAtRest, steps_of_touch, walked}
+use Rattle.spec_folder.specs.ListPlans.{touch_writes}
+use Rattle.spec_folder.specs.ListSteps.{IsTouched}
+use Rattle.spec_folder.specs.ListView.{IsList}
+use Rattle.spec_folder.specs.View.{list_of, view_of}
+use Rattle.law_folder.proofs.commands.Opening.{first-some}
+use Rattle.law_folder.proofs.states.Central.{walk-order}
+use Rattle.law_folder.proofs.states.Laid.{is_among-node}
 use Rattle.blk_disk.specs.Open.{IsOpen}
 use Rattle.blk_handles.specs.Bindings.{AreShared, Bindings, binding_for, is_open, open_with}
 use Rattle.blk_lru.specs.Lists.{IsListed}
 use Rattle.blk_lru.specs.Moments.{IsMidTouch}
-use Rattle.blk_kept.specs.Commands.{Does, MayStop, MayStopAtEach}
-use Rattle.blk_kept.specs.CommandStates.{in_order, with_names}
-use Rattle.blk_kept.specs.Keeping.{Keeps, KeepsUncounted}
-use Rattle.blk_kept.specs.ListLaws.{IsTouchDone}
-use Rattle.blk_kept.proofs.CommandEnding.{opens-end, passed}
-use Rattle.blk_kept.proofs.OneCalls.{opens-end-by-touch}
-use Rattle.blk_kept.proofs.Touched.{leaves}
-use Rattle.blk_kept.proofs.Touching.{opens-stop}
+use Rattle.law_state.specs.Commands.{Does, MayStop, MayStopAtEach}
+use Rattle.law_state.specs.CommandStates.{in_order, with_names}
+use Rattle.law_state.specs.Keeping.{Keeps, KeepsUncounted}
+use Rattle.law_state.specs.ListLaws.{IsTouchDone}
+use Rattle.law_state.proofs.CommandEnding.{opens-end, passed}
+use Rattle.law_state.proofs.OneCalls.{opens-end-by-touch}
+use Rattle.law_state.proofs.Touched.{leaves}
+use Rattle.law_state.proofs.Touching.{opens-stop}
 use Rattle.blk_object.specs.KeptLists.{IsAmidList}
 use Rattle.blk_object.proofs.KeptLists.{listed-amid, touches-done, touches-partly}
 use Rattle.blk_cache.specs.declared.cache.Cache.{Cache}

@@ -5,40 +5,40 @@ use Rattle.std.specs.List.{flat_map, sum_by}
 use Rattle.std.proofs.lemmas.Bool.{eq-eqb}
 use Rattle.std.proofs.lemmas.List.{length-map}
 use Rattle.std.proofs.lemmas.List.Elements.{All-nil}
-use Rattle.blk_image.specs.Image.{Image, Index}
-use Rattle.blk_image.specs.Footprint.{one_word}
-use Rattle.blk_image.proofs.Footprints.{outside-refl}
+use Rattle.spec_image.specs.Image.{Image, Index}
+use Rattle.spec_image.specs.Footprint.{one_word}
+use Rattle.spec_image.proofs.Footprints.{outside-refl}
 use Rattle.blk_model.specs.Items.{IsValidHolding, Row}
 use Rattle.blk_model.specs.Room.{items, total}
 use Rattle.blk_model.specs.State.{State, Object, Bounds, is_named, object_at}
 use Rattle.blk_model.specs.Holding.{open_state}
 use Rattle.blk_model.proofs.Opened.{open_valid}
-use Rattle.blk_format.specs.BlockFiles.{is_among}
-use Rattle.blk_format.proofs.Finished.{well_formed-finished}
-use Rattle.blk_volume.specs.Audit.{kept_by}
-use Rattle.blk_volume.specs.Found.{charge_of, found, kept, row_of_loaded}
-use Rattle.blk_volume.specs.ListImages.{completed_walk}
-use Rattle.blk_volume.specs.Loads.{Loaded, listed_rule}
-use Rattle.blk_volume.specs.Sound.{words_of}
-use Rattle.blk_volume.specs.Tidy.{HasState}
-use Rattle.blk_volume.specs.View.{list_of, view_of}
-use Rattle.blk_laws.specs.BareLaws.{HasNoEntries}
-use Rattle.blk_laws.specs.ChargeLaws.{AreOpenedTotals}
-use Rattle.blk_laws.proofs.states.Bare.{bare-found, bare-sound}
-use Rattle.blk_laws.proofs.states.Central.{walk-idle}
-use Rattle.blk_laws.proofs.states.Charges.{opened-totals}
-use Rattle.blk_laws.proofs.states.NewFolders.{new-bare}
-use Rattle.blk_kept.specs.Keeping.{IsInSession, KeepsSome}
-use Rattle.blk_kept.proofs.Opened.{opened-kept}
-use Rattle.blk_repair_laws.specs.ChainRepair.{is_kept_record}
-use Rattle.blk_repair_laws.specs.Mended.{IsMended}
-use Rattle.blk_repair_laws.specs.MendedLinks.{kept_layout}
-use Rattle.blk_repair_laws.proofs.FoundHolding.{found-holding}
-use Rattle.blk_repair_laws.proofs.LinkRepair.{kept-walked}
-use Rattle.blk_repair_laws.proofs.Mended.{listed-same}
-use Rattle.blk_repair_laws.proofs.MendedLinks.{mended-represents}
-use Rattle.blk_repair_laws.proofs.MendedStates.{mended-state}
-use Rattle.blk_repair_laws.proofs.SoundFolders.{sound-mended}
+use Rattle.spec_format.specs.BlockFiles.{is_among}
+use Rattle.spec_format.proofs.Finished.{well_formed-finished}
+use Rattle.spec_folder.specs.Audit.{kept_by}
+use Rattle.spec_folder.specs.Found.{charge_of, found, kept, row_of_loaded}
+use Rattle.spec_folder.specs.ListImages.{completed_walk}
+use Rattle.spec_folder.specs.Loads.{Loaded, listed_rule}
+use Rattle.spec_folder.specs.Sound.{words_of}
+use Rattle.spec_folder.specs.Tidy.{HasState}
+use Rattle.spec_folder.specs.View.{list_of, view_of}
+use Rattle.law_folder.specs.BareLaws.{HasNoEntries}
+use Rattle.law_folder.specs.ChargeLaws.{AreOpenedTotals}
+use Rattle.law_folder.proofs.states.Bare.{bare-found, bare-sound}
+use Rattle.law_folder.proofs.states.Central.{walk-idle}
+use Rattle.law_folder.proofs.states.Charges.{opened-totals}
+use Rattle.law_folder.proofs.states.NewFolders.{new-bare}
+use Rattle.law_state.specs.Keeping.{IsInSession, KeepsSome}
+use Rattle.law_state.proofs.Opened.{opened-kept}
+use Rattle.law_recovery.specs.ChainRepair.{is_kept_record}
+use Rattle.law_recovery.specs.Mended.{IsMended}
+use Rattle.law_recovery.specs.MendedLinks.{kept_layout}
+use Rattle.law_recovery.proofs.FoundHolding.{found-holding}
+use Rattle.law_recovery.proofs.LinkRepair.{kept-walked}
+use Rattle.law_recovery.proofs.Mended.{listed-same}
+use Rattle.law_recovery.proofs.MendedLinks.{mended-represents}
+use Rattle.law_recovery.proofs.MendedStates.{mended-state}
+use Rattle.law_recovery.proofs.SoundFolders.{sound-mended}
 use Rattle.blk_addr.specs.Claims.{IsClaimsOf}
 use Rattle.blk_scan.specs.declared.chains.KeptChains.{KeptChains}
 use Rattle.blk_scan.specs.declared.scan.Dropped.{Dropped}

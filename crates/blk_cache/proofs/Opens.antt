@@ -3,20 +3,20 @@ use Rattle.std.proofs.Common.{◌≡◌, ⊎_elim, ℕ, ◌+◌, ◌<◌, ◌^�
 use Rattle.std.specs.Prelude.{◌&&◌, IfSome, if◌then◌else◌, is_some, not, sum_by, unwrap_or}
 use Rattle.std.specs.Option.{ForSome, option_map}
 use Rattle.std.proofs.lemmas.Bool.{cases_Bool}
-use Rattle.blk_image.specs.Image.{Image, Index, byte}
-use Rattle.blk_image.proofs.Runs.{some_inj}
+use Rattle.spec_image.specs.Image.{Image, Index, byte}
+use Rattle.spec_image.proofs.Runs.{some_inj}
 use Rattle.blk_model.specs.Bounds.{bounds_of}
 use Rattle.blk_model.specs.Items.{Item, main}
 use Rattle.blk_model.specs.Room.{own_charge}
 use Rattle.blk_model.specs.State.{Object, State, is_named, named_by}
-use Rattle.blk_format.specs.Headers.{this_id_of}
-use Rattle.blk_laws.proofs.claims.Owner.{IsOwned, its-key, live, owned}
+use Rattle.spec_format.specs.Headers.{this_id_of}
+use Rattle.law_folder.proofs.claims.Owner.{IsOwned, its-key, live, owned}
 use Rattle.blk_handles.specs.Bindings.{Binding, Bindings, binding_for, binding_of, is_open, open_count, open_with}
 use Rattle.blk_handles.proofs.BindingLemmas.{open_with-named, open_with_told}
 use Rattle.blk_disk.specs.declared.tables.BlockFiles.{BlockFiles}
 use Rattle.blk_disk.specs.Tables.{Agrees}
-use Rattle.blk_kept.specs.CommandStates.{in_order, with_names}
-use Rattle.blk_kept.specs.Keeping.{Keeps, KeepsUncounted}
+use Rattle.law_state.specs.CommandStates.{in_order, with_names}
+use Rattle.law_state.specs.Keeping.{Keeps, KeepsUncounted}
 use Rattle.blk_object.specs.Writing.{node_of_object}
 use Rattle.blk_cache.specs.declared.cache.Cache.{Cache}
 use Rattle.blk_items.specs.declared.looking.Live.{Live}

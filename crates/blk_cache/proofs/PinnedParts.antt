@@ -12,17 +12,17 @@ use Rattle.std.specs.Str.{bytes_eq}
 use Rattle.std.proofs.lemmas.Bool.{cases_Bool, eq-eqb, eqb-true, or_right}
 use Rattle.std.proofs.lemmas.Bool.Decides.{nat_tests}
 use Rattle.std.proofs.lemmas.List.Sums.{sum_by-cons}
-use Rattle.blk_image.proofs.Runs.{some_inj}
+use Rattle.spec_image.proofs.Runs.{some_inj}
 use Rattle.blk_model.specs.Charge.{part_charge}
 use Rattle.blk_model.specs.Holding.{owner, row_of}
 use Rattle.blk_model.specs.Items.{Item, PartValue, main, part, same_item, signature_of}
 use Rattle.blk_model.specs.Room.{charge, count_of, item_count, of_slot, own_charge, pinned, pinned_from, pinned_of, total_of}
 use Rattle.blk_model.specs.State.{IsObject, IsValidState, Object, State, is_named, object_at, part_at}
 use Rattle.blk_model.proofs.Same.{bytes_eq_self, one_item, same_bytes}
-use Rattle.blk_volume.specs.Layout.{IsLayoutOf, Layout, is_listed}
-use Rattle.blk_volume.specs.Found.{row_of_loaded}
-use Rattle.blk_laws.proofs.states.Changing.{same-place}
-use Rattle.blk_laws.proofs.states.Settling.{main-owned}
+use Rattle.spec_folder.specs.Layout.{IsLayoutOf, Layout, is_listed}
+use Rattle.spec_folder.specs.Found.{row_of_loaded}
+use Rattle.law_folder.proofs.states.Changing.{same-place}
+use Rattle.law_folder.proofs.states.Settling.{main-owned}
 use Rattle.blk_object.proofs.WrittenParts.{part-listed}
 use Rattle.blk_sparse.specs.Measuring.{charge_there, node_there}
 use Rattle.blk_sparse.proofs.FoundParts.{row-has}

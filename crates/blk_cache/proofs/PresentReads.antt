@@ -1,7 +1,7 @@
 -- The bytes of a live sparse object that a handle names, where they are all present.
 use Rattle.std.proofs.Common.{◌≡◌, ℕ, Bool, true, false, List, [], length, Option, Some, None, refl, sym, ap, subst, ◌∙◌}
 use Rattle.std.specs.Prelude.{not}
-use Rattle.blk_image.specs.Image.{Image}
+use Rattle.spec_image.specs.Image.{Image}
 use Rattle.blk_model.specs.Items.{is_sparse}
 use Rattle.blk_model.specs.Sparse.{sparse_bytes}
 use Rattle.blk_model.specs.State.{Object, State}

@@ -2,7 +2,7 @@
 use Rattle.std.proofs.Common.{◌≡◌, ℕ, ◌-◌, ◌<◌, Bool, true, false, List, [], ◌∷◌, length, take, drop, Some, None, refl, sym, ap, ◌∙◌, arith}
 use Rattle.std.specs.Prelude.{◌&&◌, min, nat_lt, not}
 use Rattle.std.proofs.lemmas.List.{length-drop, length-take, take_min}
-use Rattle.blk_image.specs.Image.{AreBytes, Image}
+use Rattle.spec_image.specs.Image.{AreBytes, Image}
 use Rattle.blk_model.specs.Bytes.{bytes_from}
 use Rattle.blk_model.specs.Effects.{stream_of}
 use Rattle.blk_model.specs.Items.{is_sparse}
@@ -10,10 +10,10 @@ use Rattle.blk_model.specs.Refusals.{first_refusal, is_kept_from_streams, names_
 use Rattle.blk_model.specs.State.{Object, State}
 use Rattle.blk_model.specs.declared.Refusal.{Refusal}
 use Rattle.blk_model.specs.declared.Refusal.TheVariants as refusal
-use Rattle.blk_volume.specs.Entries.{stream}
+use Rattle.spec_folder.specs.Entries.{stream}
 use Rattle.blk_stream.specs.Streams.{StreamsCanBeRead, streams_at}
 use Rattle.blk_handles.specs.Bindings.{Binding}
-use Rattle.blk_kept.specs.OneCallLaws.{Names}
+use Rattle.law_state.specs.OneCallLaws.{Names}
 use Rattle.blk_cache.specs.declared.asking.NamedStream.{NamedStream}
 use Rattle.blk_cache.specs.declared.cache.Cache.{Cache}
 use Rattle.blk_items.specs.declared.range_printing.StreamRange.{StreamRange}

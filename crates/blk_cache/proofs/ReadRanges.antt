@@ -3,18 +3,18 @@ use Rattle.std.proofs.Common.{◌≡◌, ℕ, ◌+◌, ◌-◌, ◌≤◌, ◌<�
 use Rattle.std.specs.Prelude.{◌&&◌, is_some, nat_le, nat_lt}
 use Rattle.std.proofs.lemmas.Bool.{lt-ltb}
 use Rattle.std.proofs.lemmas.Bool.Decides.{nat_tests}
-use Rattle.blk_image.specs.Image.{AreBytes, Image}
+use Rattle.spec_image.specs.Image.{AreBytes, Image}
 use Rattle.blk_model.specs.Bytes.{bytes_from}
 use Rattle.blk_model.specs.Effects.{stream_of}
 use Rattle.blk_model.specs.Refusals.{first_refusal, is_kept_from_streams, names_none, no_stream}
 use Rattle.blk_model.specs.State.{Object, State}
 use Rattle.blk_model.specs.declared.Refusal.{Refusal}
 use Rattle.blk_model.specs.declared.Refusal.TheVariants as refusal
-use Rattle.blk_volume.specs.Entries.{stream}
+use Rattle.spec_folder.specs.Entries.{stream}
 use Rattle.blk_handles.specs.Bindings.{Binding, binding_of}
 use Rattle.blk_stream.specs.Streams.{StreamsCanBeRead, address_word, size_word, streams_at}
 use Rattle.blk_stream.proofs.StreamPlaces.{may_parts, stream_facts}
-use Rattle.blk_kept.specs.OneCallLaws.{Names}
+use Rattle.law_state.specs.OneCallLaws.{Names}
 use Rattle.blk_cache.specs.declared.asking.NamedStream.{NamedStream}
 use Rattle.blk_cache.specs.declared.cache.Cache.{Cache}
 use Rattle.blk_cache.specs.Asking.{IsNamedStream, stream_refusal}

@@ -4,9 +4,9 @@ use Rattle.std.specs.Prelude.{OnOk, if◌then◌else◌, min, not, sum_by}
 use Rattle.std.specs.Option.{ForSome}
 use Rattle.std.proofs.lemmas.Bool.{cases_Bool}
 use Rattle.std.proofs.lemmas.List.{length-drop, length-take}
-use Rattle.blk_image.specs.Image.{Image, Index, byte}
-use Rattle.blk_image.specs.Told.{Applies, Passes, TellsBytes, Told}
-use Rattle.blk_image.proofs.Runs.{passes_weaker, some_inj}
+use Rattle.spec_image.specs.Image.{Image, Index, byte}
+use Rattle.spec_image.specs.Told.{Applies, Passes, TellsBytes, Told}
+use Rattle.spec_image.proofs.Runs.{passes_weaker, some_inj}
 use Rattle.blk_io.specs.declared.fault.Fault.{Fault}
 use Rattle.blk_model.specs.Effects.{object_of, stream_of, used_all}
 use Rattle.blk_model.specs.Items.{Item, main}
@@ -19,25 +19,25 @@ use Rattle.blk_model.specs.State.{Object, State, named_by}
 use Rattle.blk_model.specs.Step.{reply, step}
 use Rattle.blk_model.specs.declared.Answer.TheVariants as answer
 use Rattle.blk_model.specs.declared.Refusal.{Refusal}
-use Rattle.blk_format.specs.Headers.{this_id_of}
-use Rattle.blk_volume.specs.Layout.{Layout, is_listed}
-use Rattle.blk_volume.specs.ListImages.{steps_of_touch}
-use Rattle.blk_volume.specs.ListPlans.{touch_writes}
-use Rattle.blk_volume.specs.ListSteps.{IsTouched}
-use Rattle.blk_volume.specs.View.{list_of}
-use Rattle.blk_laws.proofs.states.Settling.{main-listed}
+use Rattle.spec_format.specs.Headers.{this_id_of}
+use Rattle.spec_folder.specs.Layout.{Layout, is_listed}
+use Rattle.spec_folder.specs.ListImages.{steps_of_touch}
+use Rattle.spec_folder.specs.ListPlans.{touch_writes}
+use Rattle.spec_folder.specs.ListSteps.{IsTouched}
+use Rattle.spec_folder.specs.View.{list_of}
+use Rattle.law_folder.proofs.states.Settling.{main-listed}
 use Rattle.blk_disk.specs.Open.{IsOpen}
 use Rattle.blk_disk.specs.Tables.{Agrees}
 use Rattle.blk_handles.specs.Bindings.{Binding, binding_of}
 use Rattle.blk_lru.specs.Lists.{IsListed}
-use Rattle.blk_kept.specs.Commands.{Does, MayStop, MayStopAtEach}
-use Rattle.blk_kept.specs.CommandStates.{in_order}
-use Rattle.blk_kept.specs.Keeping.{Keeps}
-use Rattle.blk_kept.specs.ListLaws.{IsTouchDone}
-use Rattle.blk_kept.proofs.CommandEnding.{passed, uses-end}
-use Rattle.blk_kept.proofs.OneCalls.{doomed-reads-end, reads-end-by-touch, reads-stop}
-use Rattle.blk_kept.proofs.Stopping.{nothing-stops, refusals-done}
-use Rattle.blk_kept.proofs.Touched.{leaves}
+use Rattle.law_state.specs.Commands.{Does, MayStop, MayStopAtEach}
+use Rattle.law_state.specs.CommandStates.{in_order}
+use Rattle.law_state.specs.Keeping.{Keeps}
+use Rattle.law_state.specs.ListLaws.{IsTouchDone}
+use Rattle.law_state.proofs.CommandEnding.{passed, uses-end}
+use Rattle.law_state.proofs.OneCalls.{doomed-reads-end, reads-end-by-touch, reads-stop}
+use Rattle.law_state.proofs.Stopping.{nothing-stops, refusals-done}
+use Rattle.law_state.proofs.Touched.{leaves}
 use Rattle.blk_object.specs.KeptLists.{IsAmidList}
 use Rattle.blk_object.proofs.KeptLists.{listed-amid, touches-done, touches-partly}
 use Rattle.blk_cache.specs.declared.asking.NamedStream.{NamedStream}

@@ -2,16 +2,16 @@
 use Rattle.std.proofs.Common.{◌≡◌, ℕ, ◌<◌, Bool, true, false, List, [], ◌∷◌, Option, Some, None, refl, sym, ap, subst, ◌∙◌, arith}
 use Rattle.std.specs.Prelude.{if◌then◌else◌, is_none, is_some, nat_le}
 use Rattle.std.proofs.lemmas.Bool.Decides.{nat_tests}
-use Rattle.blk_image.specs.Image.{Image}
+use Rattle.spec_image.specs.Image.{Image}
 use Rattle.blk_model.specs.Refusals.{first_refusal, names_one, no_key, no_name, refusals, refused}
 use Rattle.blk_model.specs.Request.{to_open}
 use Rattle.blk_model.specs.State.{State, live_with, named_by}
 use Rattle.blk_model.specs.declared.Refusal.{Refusal}
 use Rattle.blk_model.specs.declared.Refusal.TheVariants as refusal
 use Rattle.blk_model.proofs.States.{none_of}
-use Rattle.blk_volume.specs.Layout.{Layout}
+use Rattle.spec_folder.specs.Layout.{Layout}
 use Rattle.blk_handles.specs.Bindings.{Binding, binding_of}
-use Rattle.blk_kept.specs.CommandLaws.{SaysKept}
+use Rattle.law_state.specs.CommandLaws.{SaysKept}
 use Rattle.blk_cache.specs.declared.cache.Cache.{Cache}
 use Rattle.blk_cache.specs.CacheKeeping.{IsBoundAs, KeepsState}
 use Rattle.blk_cache.specs.CommandClauses.{open_refusal}

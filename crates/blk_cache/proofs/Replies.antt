@@ -3,8 +3,8 @@ use Rattle.std.proofs.Common.{◌≡◌, ℕ, Bool, true, false, List, [], ◌�
 use Rattle.std.specs.Prelude.{◌||◌, IsSome, is_none, min}
 use Rattle.std.specs.List.{flat_map}
 use Rattle.std.proofs.lemmas.List.{length-drop, length-take}
-use Rattle.blk_image.specs.Image.{Image}
-use Rattle.blk_image.specs.Told.{Told}
+use Rattle.spec_image.specs.Image.{Image}
+use Rattle.spec_image.specs.Told.{Told}
 use Rattle.blk_model.specs.Bounds.{bounds_of}
 use Rattle.blk_model.specs.Bytes.{bytes_from}
 use Rattle.blk_model.specs.Effects.{effect, object_of, sparse_used, stream_of}
@@ -25,7 +25,7 @@ use Rattle.blk_script.specs.Reply.{reply_text, row_line}
 use Rattle.blk_disk.specs.declared.tables.BlockFiles.{BlockFiles}
 use Rattle.blk_disk.specs.Tables.{Agrees}
 use Rattle.blk_handles.specs.Bindings.{Bindings, binding_of, open_count}
-use Rattle.blk_kept.specs.OneCallLaws.{Names}
+use Rattle.law_state.specs.OneCallLaws.{Names}
 use Rattle.blk_cache.specs.declared.cache.Cache.{Cache}
 use Rattle.blk_cache.specs.Asking.{stream_refusal}
 use Rattle.blk_cache.specs.CacheKeeping.{IsBoundAs, KeepsState}

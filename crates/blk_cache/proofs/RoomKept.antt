@@ -7,7 +7,7 @@ use Rattle.std.proofs.lemmas.List.Sums.{sum_by-cons}
 use Rattle.blk_model.specs.Room.{Group, is_pinned, left_of, own_charge, without}
 use Rattle.blk_model.specs.State.{Object, State, IsValidState, is_named, named_by, object_at}
 use Rattle.blk_model.proofs.Evicted.{IsLoose, kept_parts, named_left}
-use Rattle.blk_volume.specs.Layout.{Layout}
+use Rattle.spec_folder.specs.Layout.{Layout}
 use Rattle.blk_model.specs.Bounds.{bounds_of}
 use Rattle.blk_handles.specs.Bindings.{Binding, Bindings, binding_of, open_count}
 use Rattle.blk_cache.specs.CacheKeeping.{IsBoundAs, named_from, named_objects}

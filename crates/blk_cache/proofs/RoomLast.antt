@@ -2,20 +2,20 @@
 use Rattle.std.proofs.Common.{◌≡◌, ℕ, suc, ◌+◌, ◌≤◌, Bool, ◌||◌, List, [], ◌∷◌, ◌++◌, length, Option, Some, None, true, false, refl, sym, ap, subst, ◌∙◌, arith, append_assoc}
 use Rattle.std.specs.List.{AllByRecursion}
 use Rattle.std.proofs.lemmas.List.{length-map, map-append}
-use Rattle.blk_image.specs.Image.{Image}
-use Rattle.blk_image.proofs.Runs.{some_inj}
+use Rattle.spec_image.specs.Image.{Image}
+use Rattle.spec_image.proofs.Runs.{some_inj}
 use Rattle.blk_model.specs.Items.{Item}
 use Rattle.blk_model.specs.Room.{is_pinned}
 use Rattle.blk_model.specs.State.{State}
-use Rattle.blk_format.specs.Address.{rankings}
-use Rattle.blk_volume.specs.Layout.{Layout, is_in, is_listed, nodes_of, order, rule_of}
-use Rattle.blk_volume.specs.ListImages.{HasListAtRest}
-use Rattle.blk_volume.specs.ListView.{last_or}
-use Rattle.blk_volume.specs.Loads.{Loaded}
-use Rattle.blk_volume.specs.View.{NodeFields, node_at, node_fields_at, stands_as, store_of}
-use Rattle.blk_laws.proofs.walks.Loads.{load-then}
+use Rattle.spec_format.specs.Address.{rankings}
+use Rattle.spec_folder.specs.Layout.{Layout, is_in, is_listed, nodes_of, order, rule_of}
+use Rattle.spec_folder.specs.ListImages.{HasListAtRest}
+use Rattle.spec_folder.specs.ListView.{last_or}
+use Rattle.spec_folder.specs.Loads.{Loaded}
+use Rattle.spec_folder.specs.View.{NodeFields, node_at, node_fields_at, stands_as, store_of}
+use Rattle.law_folder.proofs.walks.Loads.{load-then}
 use Rattle.blk_handles.specs.Bindings.{is_open}
-use Rattle.blk_kept.proofs.Free.{standing-at}
+use Rattle.law_state.proofs.Free.{standing-at}
 use Rattle.blk_lru.specs.Lists.{last_node_of}
 use Rattle.blk_object.specs.ListedParts.{LoadsAt}
 use Rattle.blk_cache.specs.declared.cache.Cache.{Cache}

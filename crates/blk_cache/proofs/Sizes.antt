@@ -2,7 +2,7 @@
 use Rattle.std.proofs.Common.{◌≡◌, ℕ, [], length, Option, Some, None, refl, sym, ap, ◌∙◌}
 use Rattle.std.specs.Prelude.{unwrap_or}
 use Rattle.std.specs.Option.{ForSome}
-use Rattle.blk_image.specs.Told.{Told}
+use Rattle.spec_image.specs.Told.{Told}
 use Rattle.blk_model.specs.Effects.{new_object, object_of, stream_of}
 use Rattle.blk_model.specs.Refusals.{refusals, refused}
 use Rattle.blk_model.specs.Reply.{answer_of}
@@ -11,10 +11,10 @@ use Rattle.blk_model.specs.State.{Object, State, object_at}
 use Rattle.blk_model.specs.Step.{reply, step}
 use Rattle.blk_model.specs.declared.Answer.TheVariants as answer
 use Rattle.blk_model.specs.declared.Refusal.{Refusal}
-use Rattle.blk_kept.specs.Commands.{Does}
-use Rattle.blk_kept.specs.OneCallLaws.{Names}
-use Rattle.blk_kept.proofs.CommandEnding.{passed}
-use Rattle.blk_kept.proofs.Stopping.{nothing-done, quiet-keep, refusals-done}
+use Rattle.law_state.specs.Commands.{Does}
+use Rattle.law_state.specs.OneCallLaws.{Names}
+use Rattle.law_state.proofs.CommandEnding.{passed}
+use Rattle.law_state.proofs.Stopping.{nothing-done, quiet-keep, refusals-done}
 use Rattle.blk_cache.specs.declared.asking.NamedStream.{NamedStream}
 use Rattle.blk_cache.specs.declared.cache.Cache.{Cache}
 use Rattle.blk_cache.specs.Asking.{IsNamedStream, stream_refusal}

@@ -5,21 +5,21 @@ use Rattle.std.specs.Int.{cast_unsigned, w64}
 use Rattle.std.specs.Option.{ForSome, option_map_or}
 use Rattle.std.proofs.lemmas.Bool.{eq-eqb, eqb-true}
 use Rattle.std.proofs.lemmas.Bool.Decides.{nat_tests}
-use Rattle.blk_image.specs.Image.{Image}
+use Rattle.spec_image.specs.Image.{Image}
 use Rattle.blk_model.specs.Effects.{stream_in}
 use Rattle.blk_model.specs.Items.{Row, Shape, is_sparse, main, main_row, plain, sparse}
 use Rattle.blk_model.specs.Refusals.{first_refusal, has_one_stream, is_doomed, names_none, past_end}
 use Rattle.blk_model.specs.State.{Object, State}
 use Rattle.blk_model.specs.declared.Refusal.{Refusal}
 use Rattle.blk_model.specs.declared.Refusal.TheVariants as refusal
-use Rattle.blk_format.specs.SparseIndex.{ParentIndex}
-use Rattle.blk_volume.specs.Entries.{IsParent, IsPart, IsPlain, Role}
-use Rattle.blk_volume.specs.Found.{row_with}
-use Rattle.blk_volume.specs.Loads.{Loaded}
+use Rattle.spec_format.specs.SparseIndex.{ParentIndex}
+use Rattle.spec_folder.specs.Entries.{IsParent, IsPart, IsPlain, Role}
+use Rattle.spec_folder.specs.Found.{row_with}
+use Rattle.spec_folder.specs.Loads.{Loaded}
 use Rattle.blk_handles.specs.Bindings.{Binding, Bindings, binding_of}
 use Rattle.blk_entry.specs.declared.keys.Head.{Head}
 use Rattle.blk_entry.specs.Keys.{IsRecordHead}
-use Rattle.blk_kept.specs.OneCallLaws.{Names}
+use Rattle.law_state.specs.OneCallLaws.{Names}
 use Rattle.blk_object.specs.Owning.{LoadsWith}
 use Rattle.blk_object.specs.Writing.{node_of_object}
 use Rattle.blk_sparse.specs.Parents.{LoadsAsParent}

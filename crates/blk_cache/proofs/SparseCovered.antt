@@ -11,7 +11,7 @@ use Rattle.blk_model.specs.Items.{Item, PartValue, Shape, is_sparse, main, part,
 use Rattle.blk_model.specs.Room.{count_of, is_pinned, pinned, total_of}
 use Rattle.blk_model.specs.Sparse.{covered_parts}
 use Rattle.blk_model.specs.State.{IsObject, IsValidState, Object, State, is_named, object_at, part_at}
-use Rattle.blk_volume.specs.Layout.{IsLayoutOf, Layout, is_listed}
+use Rattle.spec_folder.specs.Layout.{IsLayoutOf, Layout, is_listed}
 use Rattle.blk_sparse.specs.declared.measuring.Measured.{Measured}
 use Rattle.blk_sparse.specs.declared.storing.Target.{Target}
 use Rattle.blk_sparse.specs.Measuring.{IsMeasured, charge_there, node_there, nodes_there}

@@ -2,9 +2,9 @@
 use Rattle.std.proofs.Common.{◌≡◌, ℕ, ◌-◌, Bool, true, List, [], ◌∷◌, ◌++◌, set, Option, Some, None, refl, sym, ap, ap₂, subst, ◌∙◌, arith}
 use Rattle.std.specs.Prelude.{if◌then◌else◌, sum_by}
 use Rattle.std.specs.Option.{ForSome}
-use Rattle.blk_image.specs.Image.{Image}
-use Rattle.blk_image.specs.Told.{Applies, Passes, TellsBytes, Told}
-use Rattle.blk_image.proofs.Runs.{passes_weaker, some_inj}
+use Rattle.spec_image.specs.Image.{Image}
+use Rattle.spec_image.specs.Told.{Applies, Passes, TellsBytes, Told}
+use Rattle.spec_image.proofs.Runs.{passes_weaker, some_inj}
 use Rattle.blk_model.specs.Effects.{effect, sparse_after, used}
 use Rattle.blk_model.specs.Items.{main}
 use Rattle.blk_model.specs.ListSteps.{dooms, uses_of}
@@ -17,23 +17,23 @@ use Rattle.blk_model.specs.State.{Object, State, object_at}
 use Rattle.blk_model.specs.Step.{reply, step}
 use Rattle.blk_model.specs.declared.Answer.TheVariants as answer
 use Rattle.blk_model.specs.declared.Refusal.TheVariants as refusal
-use Rattle.blk_volume.specs.Layout.{Layout, is_listed}
-use Rattle.blk_volume.specs.ListImages.{HasListAtRest, steps_of_touch}
-use Rattle.blk_volume.specs.ListPlans.{touch_writes}
-use Rattle.blk_volume.specs.ListSteps.{IsTouched}
-use Rattle.blk_volume.specs.View.{list_of}
-use Rattle.blk_laws.proofs.states.Settling.{main-listed}
+use Rattle.spec_folder.specs.Layout.{Layout, is_listed}
+use Rattle.spec_folder.specs.ListImages.{HasListAtRest, steps_of_touch}
+use Rattle.spec_folder.specs.ListPlans.{touch_writes}
+use Rattle.spec_folder.specs.ListSteps.{IsTouched}
+use Rattle.spec_folder.specs.View.{list_of}
+use Rattle.law_folder.proofs.states.Settling.{main-listed}
 use Rattle.blk_disk.specs.Open.{IsOpen}
 use Rattle.blk_lru.specs.Lists.{IsListed}
 use Rattle.blk_lru.specs.Moments.{IsMidTouch}
-use Rattle.blk_kept.specs.CommandEnds.{IsNamedBy}
-use Rattle.blk_kept.specs.Commands.{Does, MayStop, MayStopAtEach}
-use Rattle.blk_kept.specs.CommandStates.{in_order, with_room}
-use Rattle.blk_kept.specs.Keeping.{KeepsUncounted}
-use Rattle.blk_kept.specs.ListLaws.{IsTouchDone}
-use Rattle.blk_kept.proofs.CommandEnding.{empty-sparse-writes-end, passed}
-use Rattle.blk_kept.proofs.Touched.{leaves, touch-counts}
-use Rattle.blk_kept.proofs.WordStops.{uses-stop}
+use Rattle.law_state.specs.CommandEnds.{IsNamedBy}
+use Rattle.law_state.specs.Commands.{Does, MayStop, MayStopAtEach}
+use Rattle.law_state.specs.CommandStates.{in_order, with_room}
+use Rattle.law_state.specs.Keeping.{KeepsUncounted}
+use Rattle.law_state.specs.ListLaws.{IsTouchDone}
+use Rattle.law_state.proofs.CommandEnding.{empty-sparse-writes-end, passed}
+use Rattle.law_state.proofs.Touched.{leaves, touch-counts}
+use Rattle.law_state.proofs.WordStops.{uses-stop}
 use Rattle.blk_object.specs.KeptLists.{IsAmidList}
 use Rattle.blk_object.proofs.KeptLists.{listed-amid, touches-done, touches-partly}
 use Rattle.blk_sparse.specs.declared.storing.Target.{Target}

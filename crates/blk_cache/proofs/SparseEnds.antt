@@ -2,9 +2,9 @@
 use Rattle.std.proofs.Common.{◌≡◌, ⊎_elim, inl, inr, ℕ, zero, suc, ◌+◌, ◌<◌, ◌≤◌, ◌^◌, ◌%◌, Bool, true, false, List, [], ◌∷◌, length, map, set, get_or, Option, Some, None, Result, refl, sym, ap, ap₂, subst, ◌∙◌, arith}
 use Rattle.std.specs.Prelude.{◌⊎◌, IsSome}
 use Rattle.std.specs.Option.{ForSome}
-use Rattle.blk_image.specs.Image.{Image}
-use Rattle.blk_image.specs.Told.{Passes, Told}
-use Rattle.blk_image.proofs.Runs.{passes_then, passes_weaker}
+use Rattle.spec_image.specs.Image.{Image}
+use Rattle.spec_image.specs.Told.{Passes, Told}
+use Rattle.spec_image.proofs.Runs.{passes_then, passes_weaker}
 use Rattle.blk_io.specs.Faults.{IfDamaged}
 use Rattle.blk_io.specs.declared.fault.Fault.{Fault}
 use Rattle.blk_model.specs.Effects.{effect, made_sparse, number_of, object_of, sparse_after, sparse_written, used_all, used_sparse, with_slot}
@@ -20,15 +20,15 @@ use Rattle.blk_model.specs.State.{IsValidState, Object, State, named_by, object_
 use Rattle.blk_model.specs.Step.{reply, step}
 use Rattle.blk_model.specs.declared.Answer.TheVariants as answer
 use Rattle.blk_model.proofs.Written.{without_names}
-use Rattle.blk_laws.specs.CommandLaws.{marked}
-use Rattle.blk_kept.specs.Changes.{Finds}
-use Rattle.blk_kept.specs.CommandEnds.{IsNamedBy}
-use Rattle.blk_kept.specs.Commands.{IsDone, MayStop}
-use Rattle.blk_kept.specs.CommandStates.{Unsettles, amidst, with_room}
-use Rattle.blk_kept.specs.OneCallLaws.{Names}
-use Rattle.blk_kept.proofs.CommandEnding.{passed, sparse-writes-unsettle}
-use Rattle.blk_kept.proofs.Dirtying.{set-at}
-use Rattle.blk_kept.proofs.WordStops.{unsettling-stops}
+use Rattle.law_folder.specs.CommandLaws.{marked}
+use Rattle.law_state.specs.Changes.{Finds}
+use Rattle.law_state.specs.CommandEnds.{IsNamedBy}
+use Rattle.law_state.specs.Commands.{IsDone, MayStop}
+use Rattle.law_state.specs.CommandStates.{Unsettles, amidst, with_room}
+use Rattle.law_state.specs.OneCallLaws.{Names}
+use Rattle.law_state.proofs.CommandEnding.{passed, sparse-writes-unsettle}
+use Rattle.law_state.proofs.Dirtying.{set-at}
+use Rattle.law_state.proofs.WordStops.{unsettling-stops}
 use Rattle.blk_sparse.specs.declared.storing.Target.{Target}
 use Rattle.blk_sparse.specs.SparseWrites.{object_written, signature_to, sparse_state}
 use Rattle.blk_cache.specs.declared.cache.Cache.{Cache}

@@ -14,8 +14,8 @@ use Rattle.blk_model.proofs.Evicted.{IsLoose, kept_part_at, kept_parts, left_is_
 use Rattle.blk_model.proofs.Same.{same_item_self}
 use Rattle.blk_model.proofs.Steps.{room_is_loose}
 use Rattle.blk_model.proofs.Written.{without_names}
-use Rattle.blk_kept.specs.CommandStates.{with_room}
-use Rattle.blk_kept.specs.OneCallLaws.{Names}
+use Rattle.law_state.specs.CommandStates.{with_room}
+use Rattle.law_state.specs.OneCallLaws.{Names}
 use Rattle.blk_sparse.specs.declared.storing.Target.{Target}
 use Rattle.blk_cache.specs.SparseWriting.{IsRaisedBy, IsSignedBy, IsTargetOf}
 use Rattle.blk_cache.proofs.BoundObjects.{named-at}

@@ -14,14 +14,14 @@ use Rattle.blk_model.specs.Request.{to_sparse_write}
 use Rattle.blk_model.specs.Room.{charge, item_count, items, of_slot, own_charge, total}
 use Rattle.blk_model.specs.Sparse.{covered_parts, empty_part}
 use Rattle.blk_model.specs.State.{IsObject, Object, State, part_at}
-use Rattle.blk_volume.specs.Layout.{Layout}
+use Rattle.spec_folder.specs.Layout.{Layout}
 use Rattle.blk_sparse.specs.declared.measuring.Measured.{Measured}
 use Rattle.blk_sparse.specs.declared.storing.Target.{Target}
 use Rattle.blk_sparse.specs.Measuring.{IsMeasured, charge_there, charge_up_to, end_in}
 use Rattle.blk_sparse.specs.SparseObjects.{missing_parts, with_signature}
 use Rattle.blk_sparse.specs.SparseWrites.{object_written, signature_to}
 use Rattle.blk_sparse.proofs.PartCharges.{IsMore, more-written}
-use Rattle.blk_kept.specs.OneCallLaws.{Names}
+use Rattle.law_state.specs.OneCallLaws.{Names}
 use Rattle.blk_cache.specs.SparseWriting.{IsRaisedBy, IsSignedBy, IsTargetOf, SparseWritesRaiseAsMeasured, index_charge}
 use Rattle.blk_cache.proofs.ChangedObjects.{sum-changed}
 use Rattle.blk_cache.proofs.SparseEnds.{after-is, effect-same, sparse-written-is}

@@ -10,8 +10,8 @@ use Rattle.blk_model.specs.State.{Object, State}
 use Rattle.blk_model.specs.declared.Refusal.{Refusal}
 use Rattle.blk_model.specs.declared.Refusal.TheVariants as refusal
 use Rattle.blk_model.proofs.Steps.{none_comes}
-use Rattle.blk_volume.specs.Layout.{Layout}
-use Rattle.blk_kept.specs.OneCallLaws.{Names}
+use Rattle.spec_folder.specs.Layout.{Layout}
+use Rattle.law_state.specs.OneCallLaws.{Names}
 use Rattle.blk_sparse.specs.declared.storing.Target.{Target}
 use Rattle.blk_cache.specs.SparseAsking.{sparse_refusal}
 use Rattle.blk_cache.specs.SparseTargets.{IsTargetNamed}

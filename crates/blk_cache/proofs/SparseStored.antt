@@ -6,9 +6,9 @@ use Rattle.std.specs.FinMap.{is_sorted}
 use Rattle.std.specs.Ordering.{nat_cmp}
 use Rattle.std.specs.Option.{ForSome}
 use Rattle.std.proofs.lemmas.Bool.{cases_eq}
-use Rattle.blk_image.specs.Image.{Image, Index, byte}
-use Rattle.blk_image.specs.Told.{Passes, Told}
-use Rattle.blk_image.proofs.Runs.{some_inj}
+use Rattle.spec_image.specs.Image.{Image, Index, byte}
+use Rattle.spec_image.specs.Told.{Passes, Told}
+use Rattle.spec_image.proofs.Runs.{some_inj}
 use Rattle.blk_io.specs.Faults.{IfDamaged}
 use Rattle.blk_io.specs.declared.fault.Fault.{Fault}
 use Rattle.blk_model.specs.Bounds.{bounds_of}
@@ -19,19 +19,19 @@ use Rattle.blk_model.specs.Items.{Row, Shape, main, main_row, part_row, plain, s
 use Rattle.blk_model.specs.Room.{item_count, items, own_charge, total}
 use Rattle.blk_model.specs.Sparse.{covered_parts}
 use Rattle.blk_model.specs.State.{IsObject, Object, State, named_by, object_at}
-use Rattle.blk_format.specs.Headers.{this_id_of}
-use Rattle.blk_volume.specs.Entries.{IsParent, IsPart, IsPlain, Role, stream}
-use Rattle.blk_format.specs.Names.{Name}
-use Rattle.blk_format.specs.SparseIndex.{ParentIndex, PartIndex}
-use Rattle.blk_volume.specs.Found.{row_of_loaded, row_with}
-use Rattle.blk_volume.specs.Layout.{Layout}
-use Rattle.blk_volume.specs.Loads.{Loaded}
+use Rattle.spec_format.specs.Headers.{this_id_of}
+use Rattle.spec_folder.specs.Entries.{IsParent, IsPart, IsPlain, Role, stream}
+use Rattle.spec_format.specs.Names.{Name}
+use Rattle.spec_format.specs.SparseIndex.{ParentIndex, PartIndex}
+use Rattle.spec_folder.specs.Found.{row_of_loaded, row_with}
+use Rattle.spec_folder.specs.Layout.{Layout}
+use Rattle.spec_folder.specs.Loads.{Loaded}
 use Rattle.blk_disk.specs.Tables.{Agrees}
 use Rattle.blk_handles.specs.Bindings.{Binding, Bindings, binding_of, open_count}
-use Rattle.blk_kept.specs.Changes.{Finds}
-use Rattle.blk_kept.specs.Keeping.{Keeps}
-use Rattle.blk_kept.specs.OneCallLaws.{Names}
-use Rattle.blk_kept.proofs.Dirtying.{set-at, set-else}
+use Rattle.law_state.specs.Changes.{Finds}
+use Rattle.law_state.specs.Keeping.{Keeps}
+use Rattle.law_state.specs.OneCallLaws.{Names}
+use Rattle.law_state.proofs.Dirtying.{set-at, set-else}
 use Rattle.blk_object.specs.Writing.{node_of_object}
 use Rattle.blk_object.proofs.WrittenObjects.{object-row}
 use Rattle.blk_sparse.specs.declared.storing.Target.{Target}

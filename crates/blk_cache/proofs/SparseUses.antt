@@ -3,9 +3,9 @@ use Rattle.std.proofs.Common.{◌≡◌, ◌⊎◌, ℕ, Bool, true, false, List
 use Rattle.std.specs.Prelude.{◌==◌, if◌then◌else◌, nat_lt, not}
 use Rattle.std.specs.Int.{cast_unsigned, w64}
 use Rattle.std.specs.Option.{ForSome}
-use Rattle.blk_image.specs.Image.{Image, Index, byte}
-use Rattle.blk_image.specs.Told.{Passes, Told}
-use Rattle.blk_image.proofs.Runs.{passes_stayed, passes_weaker}
+use Rattle.spec_image.specs.Image.{Image, Index, byte}
+use Rattle.spec_image.specs.Told.{Passes, Told}
+use Rattle.spec_image.proofs.Runs.{passes_stayed, passes_weaker}
 use Rattle.blk_model.specs.Effects.{object_of, used_all}
 use Rattle.blk_model.specs.Items.{Item, is_sparse, main, plain, sparse}
 use Rattle.blk_model.specs.ListSteps.{uses_of}
@@ -20,12 +20,12 @@ use Rattle.blk_model.specs.declared.Answer.TheVariants as answer
 use Rattle.blk_model.specs.declared.Refusal.{Refusal}
 use Rattle.blk_model.specs.declared.Refusal.TheVariants as refusal
 use Rattle.blk_disk.specs.Open.{IsOpen}
-use Rattle.blk_kept.specs.Commands.{Does, MayStop, MayStopAtEach}
-use Rattle.blk_kept.specs.CommandStates.{in_order}
-use Rattle.blk_kept.specs.CommandEnds.{OnlyUses}
-use Rattle.blk_kept.proofs.CommandEnding.{only-uses-left, passed, uses-end}
-use Rattle.blk_kept.proofs.Orders.{left-stops}
-use Rattle.blk_kept.proofs.Stopping.{refusals-done}
+use Rattle.law_state.specs.Commands.{Does, MayStop, MayStopAtEach}
+use Rattle.law_state.specs.CommandStates.{in_order}
+use Rattle.law_state.specs.CommandEnds.{OnlyUses}
+use Rattle.law_state.proofs.CommandEnding.{only-uses-left, passed, uses-end}
+use Rattle.law_state.proofs.Orders.{left-stops}
+use Rattle.law_state.proofs.Stopping.{refusals-done}
 use Rattle.blk_sparse.specs.SparseObjects.{FindsUsed, ForEachKeptParent, KeepsParent, KeepsParentUsed, parts_used}
 use Rattle.blk_sparse.specs.declared.children.Parent.{Parent}
 use Rattle.blk_sparse.proofs.FrontRuns.{front-bytes}

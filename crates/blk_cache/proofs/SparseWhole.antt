@@ -2,8 +2,8 @@
 use Rattle.std.proofs.Common.{◌≡◌, ℕ, ◌<◌, ◌≤◌, ◌^◌, Bool, true, false, List, length, Some, None, refl, sym, ap, subst, ◌∙◌, arith}
 use Rattle.std.specs.Prelude.{IsSome}
 use Rattle.std.specs.Option.{ForSome}
-use Rattle.blk_image.specs.Image.{Image}
-use Rattle.blk_image.specs.Told.{Told}
+use Rattle.spec_image.specs.Image.{Image}
+use Rattle.spec_image.specs.Told.{Told}
 use Rattle.blk_model.specs.Items.{Item}
 use Rattle.blk_model.specs.Refusals.{covered, evicted, is_full, refused}
 use Rattle.blk_model.specs.Request.{to_sparse_write}
@@ -11,10 +11,10 @@ use Rattle.blk_model.specs.Room.{Group, room}
 use Rattle.blk_model.specs.State.{State}
 use Rattle.blk_model.specs.declared.Refusal.{Refusal}
 use Rattle.blk_model.specs.declared.Refusal.TheVariants as refusal
-use Rattle.blk_kept.specs.Commands.{ForKept}
-use Rattle.blk_kept.specs.CommandStates.{with_room}
+use Rattle.law_state.specs.Commands.{ForKept}
+use Rattle.law_state.specs.CommandStates.{with_room}
 use Rattle.blk_sparse.specs.declared.storing.Target.{Target}
-use Rattle.blk_volume.specs.Layout.{Layout}
+use Rattle.spec_folder.specs.Layout.{Layout}
 use Rattle.blk_cache.specs.declared.cache.Cache.{Cache}
 use Rattle.blk_disk.specs.declared.tables.BlockFiles.{BlockFiles}
 use Rattle.blk_handles.specs.Bindings.{Bindings, binding_of}

@@ -1,13 +1,13 @@
 -- A cache that was just started keeps the state that was found.
 use Rattle.std.proofs.Common.{◌≡◌, ℕ, List, [], length, sum_by, Option, Some, None, refl, sym, ap, subst, ◌∙◌}
-use Rattle.blk_image.specs.Image.{Image}
+use Rattle.spec_image.specs.Image.{Image}
 use Rattle.blk_model.specs.Bounds.{bounds_of}
 use Rattle.blk_model.specs.Holding.{open_state}
 use Rattle.blk_model.specs.Room.{own_charge}
 use Rattle.blk_model.specs.State.{Bounds, Object, State, named_by}
-use Rattle.blk_volume.specs.Found.{found}
-use Rattle.blk_volume.specs.Layout.{Layout}
-use Rattle.blk_kept.specs.Keeping.{KeepsSome}
+use Rattle.spec_folder.specs.Found.{found}
+use Rattle.spec_folder.specs.Layout.{Layout}
+use Rattle.law_state.specs.Keeping.{KeepsSome}
 use Rattle.blk_disk.specs.declared.tables.BlockFiles.{BlockFiles}
 use Rattle.blk_disk.specs.Tables.{Agrees}
 use Rattle.blk_handles.specs.Bindings.{Binding, Bindings, all_free, binding_of, open_count}

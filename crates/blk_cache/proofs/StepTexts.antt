@@ -1,9 +1,9 @@
 -- What a step prints: the lines of what goes, and then its reply.
 use Rattle.std.proofs.Common.{◌≡◌, ℕ, Bool, false, List, [], ◌++◌, Option, Some, None, refl, sym, ap, subst, ◌∙◌, append_assoc}
 use Rattle.std.specs.Option.{ForSome, option_map}
-use Rattle.blk_image.specs.Image.{Image}
-use Rattle.blk_image.specs.Steps.{after}
-use Rattle.blk_image.specs.Told.{Told}
+use Rattle.spec_image.specs.Image.{Image}
+use Rattle.spec_image.specs.Steps.{after}
+use Rattle.spec_image.specs.Told.{Told}
 use Rattle.blk_io.specs.Streams.{Appends}
 use Rattle.blk_model.specs.Refusals.{evicted, refused}
 use Rattle.blk_model.specs.Request.{Request, to_close, to_doom, to_doom_key, to_list, to_open, to_read, to_size, to_sparse_range, to_sparse_read, to_total}
@@ -12,7 +12,7 @@ use Rattle.blk_model.specs.State.{State}
 use Rattle.blk_model.specs.Step.{outcome, step}
 use Rattle.blk_model.specs.declared.Answer.{Answer}
 use Rattle.blk_model.specs.declared.Refusal.{Refusal}
-use Rattle.blk_kept.specs.Commands.{Does, ForKept, MayStopAtEach}
+use Rattle.law_state.specs.Commands.{Does, ForKept, MayStopAtEach}
 use Rattle.blk_script.specs.Reply.{evicted_text, reply_text}
 use Rattle.blk_cache.specs.declared.cache.Cache.{Cache}
 use Rattle.blk_cache.specs.CacheKeeping.{KeepsState}

@@ -1,9 +1,9 @@
 -- A Trim, from the eviction down to so many bytes.
 use Rattle.std.proofs.Common.{◌≡◌, ℕ, Bool, List, [], Option, None, refl, sym, ap, subst, ◌∙◌}
 use Rattle.std.specs.Option.{ForSome}
-use Rattle.blk_image.specs.Image.{Image}
-use Rattle.blk_image.specs.Told.{Passes, Told}
-use Rattle.blk_image.proofs.Runs.{passes_weaker}
+use Rattle.spec_image.specs.Image.{Image}
+use Rattle.spec_image.specs.Told.{Passes, Told}
+use Rattle.spec_image.proofs.Runs.{passes_weaker}
 use Rattle.blk_io.specs.Streams.{Appends}
 use Rattle.blk_model.specs.Refusals.{evicted, refusals, refused}
 use Rattle.blk_model.specs.Effects.{effect}
@@ -14,9 +14,9 @@ use Rattle.blk_model.specs.State.{State}
 use Rattle.blk_model.specs.Step.{outcome, reply, step}
 use Rattle.blk_model.specs.declared.Answer.TheVariants as answer
 use Rattle.blk_model.specs.declared.Refusal.{Refusal}
-use Rattle.blk_kept.specs.Commands.{Does, ForKept, MayStop, MayStopAtEach}
-use Rattle.blk_kept.proofs.CommandEnding.{passed}
-use Rattle.blk_kept.proofs.Stopping.{stop-evicted}
+use Rattle.law_state.specs.Commands.{Does, ForKept, MayStop, MayStopAtEach}
+use Rattle.law_state.proofs.CommandEnding.{passed}
+use Rattle.law_state.proofs.Stopping.{stop-evicted}
 use Rattle.blk_script.specs.Reply.{evicted_text}
 use Rattle.blk_cache.specs.declared.cache.Cache.{Cache}
 use Rattle.blk_cache.specs.declared.goal.Goal.TheVariants as goal

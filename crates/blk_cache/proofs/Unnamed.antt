@@ -11,10 +11,10 @@ use Rattle.blk_model.specs.Holding.{open_state, row_of, rows}
 use Rattle.blk_model.specs.Room.{items}
 use Rattle.blk_model.specs.Totals.{is_doomed_slot}
 use Rattle.blk_model.proofs.Sums.{totals_are_sums}
-use Rattle.blk_image.specs.Image.{Image}
-use Rattle.blk_volume.specs.Layout.{Layout, order}
-use Rattle.blk_kept.specs.Keeping.{KeepsUncounted}
-use Rattle.blk_kept.specs.KeepingLaws.{AllAreAtRest}
+use Rattle.spec_image.specs.Image.{Image}
+use Rattle.spec_folder.specs.Layout.{Layout, order}
+use Rattle.law_state.specs.Keeping.{KeepsUncounted}
+use Rattle.law_state.specs.KeepingLaws.{AllAreAtRest}
 use Rattle.blk_handles.specs.Bindings.{Binding, all_free, binding_of, distinct_count, entries_of, open_count}
 use Rattle.blk_cache.specs.CacheKeeping.{named_from, named_objects}
 

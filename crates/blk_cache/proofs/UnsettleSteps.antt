@@ -2,17 +2,17 @@
 use Rattle.std.proofs.Common.{◌≡◌, ℕ, ◌<◌, ◌^◌, Bool, true, false, not, [], inl, Option, Some, None, Result, refl, sym, ap, subst, ◌∙◌}
 use Rattle.std.specs.Prelude.{◌⊎◌, ◌==◌, IfSome, IsSome, OnOk, if◌then◌else◌}
 use Rattle.std.specs.Option.{ForSome, option_map}
-use Rattle.blk_image.specs.Image.{Image, Index, byte}
-use Rattle.blk_image.specs.Told.{Applies, Passes, TellsBytes, Told}
-use Rattle.blk_image.proofs.Words.{word-fits}
-use Rattle.blk_image.proofs.Runs.{passes_none, passes_weaker, some_inj}
+use Rattle.spec_image.specs.Image.{Image, Index, byte}
+use Rattle.spec_image.specs.Told.{Applies, Passes, TellsBytes, Told}
+use Rattle.spec_image.proofs.Words.{word-fits}
+use Rattle.spec_image.proofs.Runs.{passes_none, passes_weaker, some_inj}
 use Rattle.blk_io.specs.declared.fault.Fault.{Fault}
 use Rattle.blk_model.specs.Holding.{rest}
 use Rattle.blk_model.specs.State.{Object, State}
-use Rattle.blk_format.specs.BlockFiles.{IsWellFormed}
-use Rattle.blk_format.specs.Sealed.{RecordChecks}
-use Rattle.blk_volume.specs.View.{list_of}
-use Rattle.blk_laws.specs.CommandLaws.{marked}
+use Rattle.spec_format.specs.BlockFiles.{IsWellFormed}
+use Rattle.spec_format.specs.Sealed.{RecordChecks}
+use Rattle.spec_folder.specs.View.{list_of}
+use Rattle.law_folder.specs.CommandLaws.{marked}
 use Rattle.blk_disk.specs.declared.tables.BlockFiles.{BlockFiles}
 use Rattle.blk_disk.specs.Open.{IsOpen}
 use Rattle.blk_disk.specs.Tables.{is_node_among, is_record_among}
@@ -20,10 +20,10 @@ use Rattle.blk_lru.proofs.NodeWords.{node_kind}
 use Rattle.blk_entry.specs.Marks.{SetsDirty, mark_steps}
 use Rattle.blk_handles.specs.Bindings.{Binding, Bindings, binding_of, with_change, with_status}
 use Rattle.blk_handles.proofs.BindingLemmas.{binding_of-change}
-use Rattle.blk_kept.specs.Changes.{Finds}
-use Rattle.blk_kept.specs.OneCallLaws.{Names}
-use Rattle.blk_kept.specs.RecordLaws.{IsMarked, IsMarking}
-use Rattle.blk_kept.proofs.Keeping.{kept-found}
+use Rattle.law_state.specs.Changes.{Finds}
+use Rattle.law_state.specs.OneCallLaws.{Names}
+use Rattle.law_state.specs.RecordLaws.{IsMarked, IsMarking}
+use Rattle.law_state.proofs.Keeping.{kept-found}
 use Rattle.blk_object.proofs.KeptMarks.{being-set, check-as-records, marks-set, nodes-check}
 use Rattle.blk_cache.specs.declared.cache.Cache.{Cache}
 use Rattle.blk_cache.specs.BoundNames.{AreBoundAmong}

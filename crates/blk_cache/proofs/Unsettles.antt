@@ -2,7 +2,7 @@
 use Rattle.std.proofs.Common.{◌≡◌, ◌≢◌, ℕ, zero, suc, ◌+◌, Bool, true, false, not, List, [], ◌∷◌, set, get_or, Option, Some, None, inl, inr, refl, sym, ap, subst, ◌∙◌, arith, cond}
 use Rattle.std.specs.Prelude.{◌⊎◌, ◌==◌, ◌&&◌, if◌then◌else◌, IfSome}
 use Rattle.std.proofs.lemmas.Bool.{cases_eq, eq-eqb, eqb-true}
-use Rattle.blk_image.specs.Image.{Image, Index, byte}
+use Rattle.spec_image.specs.Image.{Image, Index, byte}
 use Rattle.blk_model.specs.Effects.{with_slot}
 use Rattle.blk_model.specs.Holding.{rest}
 use Rattle.blk_model.specs.Items.{Item, main, part}
@@ -12,22 +12,22 @@ use Rattle.blk_model.proofs.Doomed.{bound_name, contrary, still_there}
 use Rattle.blk_model.proofs.Each.{Each-set}
 use Rattle.blk_model.proofs.Slots.{owners-set}
 use Rattle.blk_model.proofs.States.{if_some_is}
-use Rattle.blk_format.specs.Headers.{this_id_of}
-use Rattle.blk_volume.specs.Layout.{Layout}
-use Rattle.blk_volume.specs.Loads.{Loaded}
-use Rattle.blk_laws.specs.CommandLaws.{IsPlacedAsDoomed, IsPlacedAsLive, dirtied, marked}
-use Rattle.blk_laws.proofs.states.Changing.{at-elsewhere, at-itself}
+use Rattle.spec_format.specs.Headers.{this_id_of}
+use Rattle.spec_folder.specs.Layout.{Layout}
+use Rattle.spec_folder.specs.Loads.{Loaded}
+use Rattle.law_folder.specs.CommandLaws.{IsPlacedAsDoomed, IsPlacedAsLive, dirtied, marked}
+use Rattle.law_folder.proofs.states.Changing.{at-elsewhere, at-itself}
 use Rattle.blk_disk.specs.declared.tables.BlockFiles.{BlockFiles}
 use Rattle.blk_disk.specs.Tables.{Agrees}
 use Rattle.blk_handles.specs.Bindings.{Binding, Bindings, binding_of, distinct_count, open_count, with_change, with_status}
-use Rattle.blk_kept.specs.Changes.{Finds}
-use Rattle.blk_kept.specs.Keeping.{Keeps, KeepsUncounted}
-use Rattle.blk_kept.specs.ObjectLaws.{layout_after}
-use Rattle.blk_kept.specs.OneCallLaws.{Names}
-use Rattle.blk_kept.specs.RecordLaws.{IsMarked, IsMarking}
-use Rattle.blk_kept.proofs.Dirtying.{leaves, marking-counts, marking-finds}
-use Rattle.blk_kept.proofs.DoomedMarks.{doomed-marking-counts, doomed-marking-finds}
-use Rattle.blk_kept.proofs.NotAtRest.{within-slots}
+use Rattle.law_state.specs.Changes.{Finds}
+use Rattle.law_state.specs.Keeping.{Keeps, KeepsUncounted}
+use Rattle.law_state.specs.ObjectLaws.{layout_after}
+use Rattle.law_state.specs.OneCallLaws.{Names}
+use Rattle.law_state.specs.RecordLaws.{IsMarked, IsMarking}
+use Rattle.law_state.proofs.Dirtying.{leaves, marking-counts, marking-finds}
+use Rattle.law_state.proofs.DoomedMarks.{doomed-marking-counts, doomed-marking-finds}
+use Rattle.law_state.proofs.NotAtRest.{within-slots}
 use Rattle.blk_object.specs.Writing.{node_of_object}
 use Rattle.blk_cache.specs.declared.cache.Cache.{Cache}
 use Rattle.blk_cache.specs.CacheKeeping.{IsBoundAs, IsBoundTo, KeepsState}

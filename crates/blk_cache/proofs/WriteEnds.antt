@@ -2,9 +2,9 @@
 use Rattle.std.proofs.Common.{◌≡◌, ⊎_elim, inl, inr, ℕ, zero, suc, ◌+◌, ◌/◌, ◌<◌, ◌≤◌, Bool, true, false, List, [], ◌∷◌, length, set, get_or, Option, Some, None, Result, refl, sym, ap, ap₂, subst, ◌∙◌}
 use Rattle.std.specs.Prelude.{◌⊎◌, IsSome, is_none, nat_lt}
 use Rattle.std.specs.Option.{ForSome}
-use Rattle.blk_image.specs.Image.{Image}
-use Rattle.blk_image.specs.Told.{Passes, Told}
-use Rattle.blk_image.proofs.Runs.{passes_then, passes_weaker}
+use Rattle.spec_image.specs.Image.{Image}
+use Rattle.spec_image.specs.Told.{Passes, Told}
+use Rattle.spec_image.proofs.Runs.{passes_then, passes_weaker}
 use Rattle.blk_io.specs.Faults.{IfDamaged}
 use Rattle.blk_io.specs.declared.fault.Fault.{Fault}
 use Rattle.blk_model.specs.Bounds.{bounds_of}
@@ -21,18 +21,18 @@ use Rattle.blk_model.specs.declared.Answer.TheVariants as answer
 use Rattle.blk_model.specs.declared.Refusal.{Refusal}
 use Rattle.blk_model.specs.declared.Refusal.TheVariants as refusal
 use Rattle.blk_model.proofs.Written.{without_names}
-use Rattle.blk_laws.specs.CommandLaws.{marked}
+use Rattle.law_folder.specs.CommandLaws.{marked}
 use Rattle.blk_handles.specs.Bindings.{Binding, binding_of}
-use Rattle.blk_kept.specs.Changes.{Finds}
-use Rattle.blk_kept.specs.CommandEnds.{IsNamedBy, after_write}
-use Rattle.blk_kept.specs.Commands.{IsDone, MayStop}
-use Rattle.blk_kept.specs.CommandStates.{with_room}
-use Rattle.blk_kept.specs.OneCallLaws.{Names}
-use Rattle.blk_kept.proofs.CommandEnding.{passed, writes-unsettle}
-use Rattle.blk_kept.proofs.Dirtying.{set-at}
-use Rattle.blk_kept.proofs.NotAtRest.{doomed-rest}
-use Rattle.blk_kept.proofs.Orders.{left-stops, room-left}
-use Rattle.blk_kept.proofs.WordStops.{unsettling-stops}
+use Rattle.law_state.specs.Changes.{Finds}
+use Rattle.law_state.specs.CommandEnds.{IsNamedBy, after_write}
+use Rattle.law_state.specs.Commands.{IsDone, MayStop}
+use Rattle.law_state.specs.CommandStates.{with_room}
+use Rattle.law_state.specs.OneCallLaws.{Names}
+use Rattle.law_state.proofs.CommandEnding.{passed, writes-unsettle}
+use Rattle.law_state.proofs.Dirtying.{set-at}
+use Rattle.law_state.proofs.NotAtRest.{doomed-rest}
+use Rattle.law_state.proofs.Orders.{left-stops, room-left}
+use Rattle.law_state.proofs.WordStops.{unsettling-stops}
 use Rattle.blk_cache.specs.declared.cache.Cache.{Cache}
 use Rattle.blk_cache.specs.CacheKeeping.{KeepsState}
 use Rattle.blk_cache.specs.CommandClauses.{KeepsAny, OnlyNamesChange}

@@ -1,7 +1,7 @@
 -- Why a Write of a cache that keeps a state is refused.
 use Rattle.std.proofs.Common.{◌≡◌, ℕ, ◌+◌, ◌/◌, Bool, true, false, List, [], ◌∷◌, length, Option, Some, None, refl, sym, ap, ap₂, subst, ◌∙◌}
 use Rattle.std.specs.Prelude.{if◌then◌else◌, is_none, nat_lt}
-use Rattle.blk_image.specs.Image.{Image}
+use Rattle.spec_image.specs.Image.{Image}
 use Rattle.blk_model.specs.Refusals.{first_refusal, is_kept_from_streams, names_none, no_room, no_stream, refusals, refused, stream_limit}
 use Rattle.blk_model.specs.Request.{to_write}
 use Rattle.blk_model.specs.State.{Bounds, State}

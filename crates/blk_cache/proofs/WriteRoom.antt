@@ -18,9 +18,9 @@ use Rattle.blk_model.proofs.States.{Named, named_object}
 use Rattle.blk_model.proofs.Steps.{none_comes, room_for_is_loose}
 use Rattle.blk_model.proofs.Written.{object_left}
 use Rattle.blk_stream.specs.Writing.{size_after}
-use Rattle.blk_kept.specs.CommandEnds.{after_write}
-use Rattle.blk_kept.specs.CommandStates.{amidst, with_room}
-use Rattle.blk_kept.specs.OneCallLaws.{Names}
+use Rattle.law_state.specs.CommandEnds.{after_write}
+use Rattle.law_state.specs.CommandStates.{amidst, with_room}
+use Rattle.law_state.specs.OneCallLaws.{Names}
 use Rattle.blk_cache.specs.WritingLaws.{WritesWantRoomForTheRise}
 use Rattle.blk_cache.proofs.ChangedObjects.{sum-changed}
 use Rattle.blk_cache.proofs.CreateRoom.{HasEnough, limits-without, room-enough}

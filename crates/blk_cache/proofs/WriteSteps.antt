@@ -2,26 +2,26 @@
 use Rattle.std.proofs.Common.{◌≡◌, ℕ, ◌-◌, ◌<◌, ◌^◌, Bool, true, false, not, List, [], ◌++◌, ◌∷◌, Option, Some, None, Result, refl, sym, ap, subst, ◌∙◌}
 use Rattle.std.specs.Prelude.{length}
 use Rattle.std.specs.Option.{ForSome}
-use Rattle.blk_image.specs.Image.{Image}
-use Rattle.blk_image.specs.Told.{Passes, Told}
-use Rattle.blk_image.proofs.Runs.{passes_end, passes_none, passes_then, passes_weaker, some_inj}
+use Rattle.spec_image.specs.Image.{Image}
+use Rattle.spec_image.specs.Told.{Passes, Told}
+use Rattle.spec_image.proofs.Runs.{passes_end, passes_none, passes_then, passes_weaker, some_inj}
 use Rattle.blk_io.specs.Faults.{IfDamaged}
 use Rattle.blk_io.specs.declared.fault.Fault.{Fault}
 use Rattle.blk_model.specs.Effects.{written}
 use Rattle.blk_model.specs.Holding.{rest}
 use Rattle.blk_model.specs.Items.{IsBytes, Row, main}
 use Rattle.blk_model.specs.State.{Object, State}
-use Rattle.blk_laws.proofs.states.Settling.{main-listed}
-use Rattle.blk_volume.specs.Layout.{Layout, is_listed}
+use Rattle.law_folder.proofs.states.Settling.{main-listed}
+use Rattle.spec_folder.specs.Layout.{Layout, is_listed}
 use Rattle.blk_disk.specs.Open.{IsOpen}
 use Rattle.blk_disk.specs.Tables.{Agrees}
 use Rattle.blk_handles.specs.Bindings.{Binding, Bindings, binding_of}
 use Rattle.blk_lru.specs.Lists.{IsListed}
 use Rattle.blk_stream.specs.Writing.{size_after}
-use Rattle.blk_kept.specs.Changes.{Finds}
-use Rattle.blk_kept.specs.CommandEnds.{after_write}
-use Rattle.blk_kept.specs.CommandStates.{amidst}
-use Rattle.blk_kept.specs.ObjectLaws.{layout_after}
+use Rattle.law_state.specs.Changes.{Finds}
+use Rattle.law_state.specs.CommandEnds.{after_write}
+use Rattle.law_state.specs.CommandStates.{amidst}
+use Rattle.law_state.specs.ObjectLaws.{layout_after}
 use Rattle.blk_object.specs.Writing.{ForEachUnsettled, IsWrittenUncounted, RisesAreCounted, UsesLeaveTheRise, node_of_object, with_written}
 use Rattle.blk_cache.specs.declared.cache.Cache.{Cache}
 use Rattle.blk_cache.specs.CacheKeeping.{IsBoundTo, KeepsState}

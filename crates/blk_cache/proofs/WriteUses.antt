@@ -2,11 +2,11 @@
 use Rattle.std.proofs.Common.{◌≡◌, ℕ, ◌+◌, ◌<◌, Bool, true, false, List, [], ◌∷◌, ◌++◌, set, Option, Some, None, Result, Ok, Err, refl, sym, ap, subst, ◌∙◌, arith}
 use Rattle.std.specs.Prelude.{OnOk, if◌then◌else◌, nat_lt}
 use Rattle.std.specs.Option.{ForSome, option_map}
-use Rattle.blk_image.specs.Bytes.{word_at}
-use Rattle.blk_image.specs.Image.{Image, Index, byte}
-use Rattle.blk_image.specs.Steps.{after}
-use Rattle.blk_image.specs.Told.{Applies, Passes, TellsBytes, Told}
-use Rattle.blk_image.proofs.Runs.{passes_end, passes_then, passes_weaker, some_inj}
+use Rattle.spec_image.specs.Bytes.{word_at}
+use Rattle.spec_image.specs.Image.{Image, Index, byte}
+use Rattle.spec_image.specs.Steps.{after}
+use Rattle.spec_image.specs.Told.{Applies, Passes, TellsBytes, Told}
+use Rattle.spec_image.proofs.Runs.{passes_end, passes_then, passes_weaker, some_inj}
 use Rattle.blk_io.specs.Faults.{IfDamaged}
 use Rattle.blk_io.specs.declared.fault.Fault.{Fault}
 use Rattle.blk_io.specs.declared.fault.Fault.TheVariants as fault
@@ -14,24 +14,24 @@ use Rattle.blk_model.specs.Effects.{used}
 use Rattle.blk_model.specs.Holding.{rest}
 use Rattle.blk_model.specs.Items.{Item, Row, main}
 use Rattle.blk_model.specs.State.{IsValidState, Object, State, object_at}
-use Rattle.blk_volume.specs.Layout.{Layout, is_listed}
-use Rattle.blk_volume.specs.ListImages.{HasListAtRest, steps_of_touch}
-use Rattle.blk_volume.specs.ListPlans.{touch_writes}
-use Rattle.blk_volume.specs.ListSteps.{IsTouched}
-use Rattle.blk_volume.specs.View.{list_of}
-use Rattle.blk_laws.proofs.states.Settling.{main-listed}
-use Rattle.blk_laws.proofs.states.Tidying.{counter-same}
+use Rattle.spec_folder.specs.Layout.{Layout, is_listed}
+use Rattle.spec_folder.specs.ListImages.{HasListAtRest, steps_of_touch}
+use Rattle.spec_folder.specs.ListPlans.{touch_writes}
+use Rattle.spec_folder.specs.ListSteps.{IsTouched}
+use Rattle.spec_folder.specs.View.{list_of}
+use Rattle.law_folder.proofs.states.Settling.{main-listed}
+use Rattle.law_folder.proofs.states.Tidying.{counter-same}
 use Rattle.blk_disk.specs.declared.tables.BlockFiles.{BlockFiles}
 use Rattle.blk_disk.specs.Open.{IsOpen}
 use Rattle.blk_lru.specs.Moments.{IsMidTouch}
-use Rattle.blk_kept.specs.Changes.{Finds, KeepsWith, SameCounters}
-use Rattle.blk_kept.specs.CommandStates.{IsUnsettled, KeepsOtherKeys, amidst}
-use Rattle.blk_kept.specs.Keeping.{KeepsUncounted}
-use Rattle.blk_kept.specs.ListLaws.{IsTouchDone, with_used}
-use Rattle.blk_kept.proofs.Keeping.{kept-found}
-use Rattle.blk_kept.proofs.NotAtRest.{own-uses, unsettled-rest}
-use Rattle.blk_kept.proofs.Touched.{touch-keeps}
-use Rattle.blk_kept.proofs.Touching.{touches-find}
+use Rattle.law_state.specs.Changes.{Finds, KeepsWith, SameCounters}
+use Rattle.law_state.specs.CommandStates.{IsUnsettled, KeepsOtherKeys, amidst}
+use Rattle.law_state.specs.Keeping.{KeepsUncounted}
+use Rattle.law_state.specs.ListLaws.{IsTouchDone, with_used}
+use Rattle.law_state.proofs.Keeping.{kept-found}
+use Rattle.law_state.proofs.NotAtRest.{own-uses, unsettled-rest}
+use Rattle.law_state.proofs.Touched.{touch-keeps}
+use Rattle.law_state.proofs.Touching.{touches-find}
 use Rattle.blk_object.specs.KeptLists.{IsAmidList}
 use Rattle.blk_object.proofs.KeptLists.{listed-amid, touches-done, touches-partly}
 use Rattle.blk_object.specs.Writing.{IsRiseCounted}

@@ -2,9 +2,9 @@
 use Rattle.std.proofs.Common.{◌≡◌, ℕ, ◌-◌, Bool, true, false, List, [], ◌∷◌, ◌++◌, length, get_or, Option, Some, None, Result, Ok, Err, refl, sym, ap, subst, ◌∙◌}
 use Rattle.std.specs.Prelude.{◌||◌, IfOk, if◌then◌else◌, is_none}
 use Rattle.std.specs.Option.{ForSome, option_map}
-use Rattle.blk_image.specs.Image.{Image}
-use Rattle.blk_image.specs.Told.{Passes, Told}
-use Rattle.blk_image.proofs.Runs.{passes_then, passes_weaker, some_inj}
+use Rattle.spec_image.specs.Image.{Image}
+use Rattle.spec_image.specs.Told.{Passes, Told}
+use Rattle.spec_image.proofs.Runs.{passes_then, passes_weaker, some_inj}
 use Rattle.blk_io.specs.Faults.{IfDamaged}
 use Rattle.blk_io.specs.Streams.{Appends}
 use Rattle.blk_io.specs.declared.fault.Fault.{Fault}
@@ -22,12 +22,12 @@ use Rattle.blk_model.specs.declared.Refusal.TheVariants as refusal
 use Rattle.blk_model.proofs.States.{Named, named_object}
 use Rattle.blk_model.proofs.Written.{without_names}
 use Rattle.blk_stream.specs.Writing.{size_after}
-use Rattle.blk_kept.specs.Changes.{Finds}
-use Rattle.blk_kept.specs.Commands.{Does, ForKept, IsDone, MayStop, MayStopAtEach}
-use Rattle.blk_kept.specs.CommandStates.{with_room}
-use Rattle.blk_kept.specs.OneCallLaws.{Names}
-use Rattle.blk_kept.proofs.Stopping.{stop-before, stop-evicted}
-use Rattle.blk_kept.proofs.Unsettling.{room-valid}
+use Rattle.law_state.specs.Changes.{Finds}
+use Rattle.law_state.specs.Commands.{Does, ForKept, IsDone, MayStop, MayStopAtEach}
+use Rattle.law_state.specs.CommandStates.{with_room}
+use Rattle.law_state.specs.OneCallLaws.{Names}
+use Rattle.law_state.proofs.Stopping.{stop-before, stop-evicted}
+use Rattle.law_state.proofs.Unsettling.{room-valid}
 use Rattle.blk_script.specs.Reply.{evicted_text}
 use Rattle.blk_cache.specs.declared.asking.NamedStream.{NamedStream}
 use Rattle.blk_cache.specs.declared.cache.Cache.{Cache}

@@ -3,7 +3,7 @@ use Rattle.std.proofs.Common.{◌≡◌, ◌⊎◌, ⊎_elim, inl, inr, ℕ, zer
 use Rattle.std.specs.Prelude.{◌&&◌, ◌==◌, ◌||◌, IfSome, if◌then◌else◌, is_none, nat_le, nat_lt, sum_by}
 use Rattle.std.proofs.lemmas.Bool.{ltb-false}
 use Rattle.std.proofs.lemmas.Bool.Decides.{nat_tests}
-use Rattle.blk_image.specs.Image.{Image, Index, byte}
+use Rattle.spec_image.specs.Image.{Image, Index, byte}
 use Rattle.blk_model.specs.Effects.{new_object, stream_after, stream_in, stream_of, streams_with, used, with_slot, written}
 use Rattle.blk_model.specs.Items.{IsBytes, Item, Streams, is_sparse, main, part}
 use Rattle.blk_model.specs.Refusals.{is_kept_from_streams, names_none, no_name}
@@ -11,22 +11,22 @@ use Rattle.blk_model.specs.Room.{charge, of_slot, own_charge, total}
 use Rattle.blk_model.specs.State.{Bounds, IsObject, IsValidState, Object, State, has_item, is_named, named_by, object_at}
 use Rattle.blk_model.proofs.States.{if_some_is}
 use Rattle.blk_model.proofs.Written.{state_changed, state_written}
-use Rattle.blk_format.specs.Headers.{this_id_of}
-use Rattle.blk_volume.specs.Layout.{Layout, is_listed}
-use Rattle.blk_volume.specs.Loads.{Loaded}
-use Rattle.blk_laws.proofs.states.Changing.{at-elsewhere, at-itself}
-use Rattle.blk_laws.proofs.states.Settling.{main-listed}
+use Rattle.spec_format.specs.Headers.{this_id_of}
+use Rattle.spec_folder.specs.Layout.{Layout, is_listed}
+use Rattle.spec_folder.specs.Loads.{Loaded}
+use Rattle.law_folder.proofs.states.Changing.{at-elsewhere, at-itself}
+use Rattle.law_folder.proofs.states.Settling.{main-listed}
 use Rattle.blk_disk.specs.Tables.{Agrees}
 use Rattle.blk_handles.specs.Bindings.{Binding, Bindings, binding_of, open_count}
 use Rattle.blk_stream.specs.Writing.{size_after}
-use Rattle.blk_kept.specs.Changes.{SameCounters}
-use Rattle.blk_kept.specs.CommandEnds.{after_write}
-use Rattle.blk_kept.specs.CommandStates.{amidst}
-use Rattle.blk_kept.specs.Keeping.{CountsItems, Keeps, KeepsUncounted}
-use Rattle.blk_kept.specs.ListLaws.{with_used}
-use Rattle.blk_kept.specs.ObjectLaws.{layout_after}
-use Rattle.blk_kept.specs.OneCallLaws.{Names}
-use Rattle.blk_kept.proofs.Dirtying.{set-at}
+use Rattle.law_state.specs.Changes.{SameCounters}
+use Rattle.law_state.specs.CommandEnds.{after_write}
+use Rattle.law_state.specs.CommandStates.{amidst}
+use Rattle.law_state.specs.Keeping.{CountsItems, Keeps, KeepsUncounted}
+use Rattle.law_state.specs.ListLaws.{with_used}
+use Rattle.law_state.specs.ObjectLaws.{layout_after}
+use Rattle.law_state.specs.OneCallLaws.{Names}
+use Rattle.law_state.proofs.Dirtying.{set-at}
 use Rattle.blk_object.specs.Writing.{IsRisen, IsToBeWritten, IsWrittenUncounted, RisesAreCounted, UsesLeaveTheRise, node_of_object, with_written}
 use Rattle.blk_cache.specs.declared.cache.Cache.{Cache}
 use Rattle.blk_cache.specs.CacheKeeping.{IsBoundAs, IsBoundTo, KeepsState, named_objects}

@@ -2,7 +2,7 @@
 use Rattle.std.specs.Prelude.{◌≡◌, ◌<◌, ◌&&◌, ◌==◌, ℕ, Bool, [], ◌∷◌, is_none, length, nat_lt, not, true}
 use Rattle.std.specs.declared.option.Option.{Option}
 use Rattle.std.specs.declared.option.Option.TheVariants.{None, Some}
-use Rattle.blk_image.specs.Told.{Told}
+use Rattle.spec_image.specs.Told.{Told}
 use Rattle.blk_io.specs.declared.fault.Damage.{Damage}
 use Rattle.blk_model.specs.Effects.{stream_of}
 use Rattle.blk_model.specs.Refusals.{first_refusal, is_kept_from_streams, names_none, no_stream}
@@ -10,13 +10,13 @@ use Rattle.blk_model.specs.Sizes.{stream_count}
 use Rattle.blk_model.specs.State.{Object, State}
 use Rattle.blk_model.specs.declared.Refusal.{Refusal}
 use Rattle.blk_model.specs.declared.Refusal.TheVariants as refusal
-use Rattle.blk_volume.specs.Layout.{Layout}
-use Rattle.blk_volume.specs.Loads.{Loaded}
+use Rattle.spec_folder.specs.Layout.{Layout}
+use Rattle.spec_folder.specs.Loads.{Loaded}
 use Rattle.blk_disk.specs.declared.tables.BlockFiles.{BlockFiles}
 use Rattle.blk_disk.specs.Tables.{is_node_among, is_record_among}
 use Rattle.blk_handles.specs.Bindings.{Binding, Bindings, binding_of}
 use Rattle.blk_entry.specs.Keys.{IsHeadDamage}
-use Rattle.blk_kept.specs.OneCallLaws.{Names}
+use Rattle.law_state.specs.OneCallLaws.{Names}
 use Rattle.blk_object.specs.Writing.{node_of_object}
 use Rattle.blk_cache.specs.declared.asking.Asked.{Asked}
 use Rattle.blk_cache.specs.declared.asking.Asked.TheVariants as asked

@@ -2,15 +2,15 @@
 use Rattle.std.specs.Prelude.{◌≡◌, ◌≤◌, ℕ, ◌+◌, not, List, [], ◌∷◌, length, sum_by, if◌then◌else◌}
 use Rattle.std.specs.declared.option.Option.{Option}
 use Rattle.std.specs.declared.option.Option.TheVariants.{None, Some}
-use Rattle.blk_image.specs.Image.{Image, Index, byte}
+use Rattle.spec_image.specs.Image.{Image, Index, byte}
 use Rattle.blk_model.specs.State.{Object, State, is_named, named_by, object_at}
 use Rattle.blk_model.specs.Bounds.{bounds_of}
 use Rattle.blk_model.specs.Room.{items, own_charge, total}
 use Rattle.blk_model.specs.Sizes.{most_items}
-use Rattle.blk_format.specs.Headers.{this_id_of}
-use Rattle.blk_volume.specs.Layout.{Layout}
-use Rattle.blk_volume.specs.Loads.{Loaded}
-use Rattle.blk_kept.specs.Keeping.{Keeps}
+use Rattle.spec_format.specs.Headers.{this_id_of}
+use Rattle.spec_folder.specs.Layout.{Layout}
+use Rattle.spec_folder.specs.Loads.{Loaded}
+use Rattle.law_state.specs.Keeping.{Keeps}
 use Rattle.blk_disk.specs.Tables.{Agrees}
 use Rattle.blk_object.specs.Writing.{node_of_object}
 use Rattle.blk_handles.specs.Bindings.{Binding, binding_of, open_count}

@@ -5,7 +5,7 @@ use Rattle.blk_model.specs.Request.{IsRequest, to_create}
 use Rattle.blk_model.specs.Room.{room}
 use Rattle.blk_model.specs.Sizes.{most_items}
 use Rattle.blk_model.specs.State.{State, IsValidState}
-use Rattle.blk_kept.specs.CommandStates.{with_room}
+use Rattle.law_state.specs.CommandStates.{with_room}
 use Rattle.blk_cache.specs.Creating.{HasRoomFor}
 
 -- a Create wants room for the bytes of its key, and for one item

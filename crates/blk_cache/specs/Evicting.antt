@@ -1,11 +1,11 @@
 -- Groups are evicted one after another, until there is enough.
 use Rattle.std.specs.Prelude.{◌≡◌, ℕ, Bool, List, ◌++◌, length, nat_le, sum_by}
-use Rattle.blk_image.specs.Image.{Image}
+use Rattle.spec_image.specs.Image.{Image}
 use Rattle.blk_model.specs.Holding.{rest}
 use Rattle.blk_model.specs.Room.{Group, fits, items_of_group, low, total, without}
 use Rattle.blk_model.specs.State.{State}
-use Rattle.blk_volume.specs.Layout.{Layout}
-use Rattle.blk_kept.specs.Changes.{Finds}
+use Rattle.spec_folder.specs.Layout.{Layout}
+use Rattle.law_state.specs.Changes.{Finds}
 use Rattle.blk_cache.specs.declared.cache.Cache.{Cache}
 use Rattle.blk_cache.specs.declared.goal.Goal.{Goal}
 use Rattle.blk_cache.specs.declared.goal.Goal.TheVariants.{Bytes, Room}

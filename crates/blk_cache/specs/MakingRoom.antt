@@ -1,6 +1,6 @@
 -- Room that is made.
 use Rattle.std.specs.Prelude.{◌≡◌, ℕ, Bool, List, false, true}
-use Rattle.blk_image.specs.Told.{Told}
+use Rattle.spec_image.specs.Told.{Told}
 use Rattle.blk_model.specs.Refusals.{evicted_for, is_full}
 use Rattle.blk_model.specs.Room.{Group, room}
 use Rattle.blk_model.specs.State.{State}

@@ -1,16 +1,16 @@
 -- What an opening leaves, and what it may meet.
 use Rattle.std.specs.Prelude.{◌≡◌, ◌⊎◌, ℕ}
 use Rattle.std.specs.declared.option.Option.TheVariants.{Some}
-use Rattle.blk_image.specs.Image.{Image, Index, byte}
-use Rattle.blk_image.specs.Told.{Told}
+use Rattle.spec_image.specs.Image.{Image, Index, byte}
+use Rattle.spec_image.specs.Told.{Told}
 use Rattle.blk_model.specs.Holding.{open_state}
 use Rattle.blk_model.specs.Room.{items, total}
 use Rattle.blk_model.specs.State.{Bounds}
-use Rattle.blk_format.specs.BlockFiles.{first_damage}
-use Rattle.blk_format.specs.Headers.{IsUnfinished, this_id_of}
-use Rattle.blk_format.specs.NewFolder.{IsMade}
-use Rattle.blk_volume.specs.Found.{found}
-use Rattle.blk_kept.specs.Keeping.{KeepsSome}
+use Rattle.spec_format.specs.BlockFiles.{first_damage}
+use Rattle.spec_format.specs.Headers.{IsUnfinished, this_id_of}
+use Rattle.spec_format.specs.NewFolder.{IsMade}
+use Rattle.spec_folder.specs.Found.{found}
+use Rattle.law_state.specs.Keeping.{KeepsSome}
 use Rattle.blk_io.specs.declared.fault.Damage.{Damage}
 use Rattle.blk_io.specs.Faults.{damage_of}
 use Rattle.blk_index.specs.Start.{IsLookDamage}

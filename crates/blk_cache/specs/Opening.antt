@@ -1,14 +1,14 @@
 -- What the opening and the closing of a cache owe.
 use Rattle.std.specs.Prelude.{◌≡◌, ◌⊎◌, ℕ, Result, Ok, Err, if◌then◌else◌}
-use Rattle.blk_image.specs.Image.{Image, Index, byte}
-use Rattle.blk_image.specs.Told.{Told}
+use Rattle.spec_image.specs.Image.{Image, Index, byte}
+use Rattle.spec_image.specs.Told.{Told}
 use Rattle.blk_model.specs.Holding.{open_state}
 use Rattle.blk_model.specs.State.{Bounds}
-use Rattle.blk_format.specs.BlockFiles.{IsWellFormed}
-use Rattle.blk_format.specs.Headers.{IsUnfinished, crash_of, create_time_of, this_id_of, unfinished}
-use Rattle.blk_volume.specs.Found.{found}
-use Rattle.blk_volume.specs.Sound.{IsSound}
-use Rattle.blk_volume.specs.StandsFor.{StandsFor}
+use Rattle.spec_format.specs.BlockFiles.{IsWellFormed}
+use Rattle.spec_format.specs.Headers.{IsUnfinished, crash_of, create_time_of, this_id_of, unfinished}
+use Rattle.spec_folder.specs.Found.{found}
+use Rattle.spec_folder.specs.Sound.{IsSound}
+use Rattle.spec_folder.specs.StandsFor.{StandsFor}
 use Rattle.blk_io.specs.declared.fault.Damage.{Damage}
 use Rattle.blk_io.specs.declared.fault.Fault.{Fault}
 use Rattle.blk_io.specs.declared.fault.Fault.TheVariants as fault

@@ -1,14 +1,14 @@
 -- The laws of an opening and of an end.
 use Rattle.std.specs.Prelude.{◌≡◌, ℕ, length}
-use Rattle.blk_image.specs.Image.{Image, Index, AreBytes}
-use Rattle.blk_image.specs.Footprint.{SameOutside, one_word}
+use Rattle.spec_image.specs.Image.{Image, Index, AreBytes}
+use Rattle.spec_image.specs.Footprint.{SameOutside, one_word}
 use Rattle.blk_model.specs.Holding.{open_state}
 use Rattle.blk_model.specs.Room.{items, total}
 use Rattle.blk_model.specs.State.{State, Bounds}
-use Rattle.blk_format.specs.NewFolder.{IsMade}
-use Rattle.blk_volume.specs.Found.{found}
-use Rattle.blk_volume.specs.Sound.{IsSound}
-use Rattle.blk_kept.specs.Keeping.{KeepsSome}
+use Rattle.spec_format.specs.NewFolder.{IsMade}
+use Rattle.spec_folder.specs.Found.{found}
+use Rattle.spec_folder.specs.Sound.{IsSound}
+use Rattle.law_state.specs.Keeping.{KeepsSome}
 use Rattle.blk_disk.specs.Open.{IsOpen}
 use Rattle.blk_scan.specs.declared.scan.Scan.{Scan}
 use Rattle.blk_scan.specs.Scans.{IsEmptyScan, IsScanOf}

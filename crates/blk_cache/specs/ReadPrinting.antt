@@ -1,8 +1,8 @@
 -- The bytes of a Read, as they are printed.
 use Rattle.std.specs.Prelude.{◌≡◌, ◌≤◌, ◌+◌, ◌^◌, ◌&&◌, ℕ, Bool, List, length, nat_lt, true}
 use Rattle.std.specs.declared.option.Option.TheVariants.{None}
-use Rattle.blk_image.specs.Image.{Image}
-use Rattle.blk_image.specs.Told.{Told}
+use Rattle.spec_image.specs.Image.{Image}
+use Rattle.spec_image.specs.Told.{Told}
 use Rattle.blk_model.specs.Bytes.{bytes_from}
 use Rattle.blk_model.specs.Effects.{stream_of}
 use Rattle.blk_model.specs.Items.{is_sparse}
@@ -10,10 +10,10 @@ use Rattle.blk_model.specs.Reply.{gave}
 use Rattle.blk_model.specs.Sizes.{largest_offset, part_size, stream_count}
 use Rattle.blk_model.specs.Sparse.{sparse_bytes}
 use Rattle.blk_model.specs.State.{Object, State}
-use Rattle.blk_volume.specs.Entries.{stream}
+use Rattle.spec_folder.specs.Entries.{stream}
 use Rattle.blk_script.specs.Reply.{reply_text}
-use Rattle.blk_kept.specs.Commands.{ForKept}
-use Rattle.blk_kept.specs.OneCallLaws.{Names}
+use Rattle.law_state.specs.Commands.{ForKept}
+use Rattle.law_state.specs.OneCallLaws.{Names}
 use Rattle.blk_cache.specs.declared.cache.Cache.{Cache}
 use Rattle.blk_cache.specs.Asking.{stream_refusal}
 use Rattle.blk_cache.specs.CacheKeeping.{KeepsState}

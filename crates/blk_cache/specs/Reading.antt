@@ -2,12 +2,12 @@
 use Rattle.std.specs.Prelude.{◌≡◌, ◌⊎◌, ◌-◌, ◌++◌, ◌∷◌, ℕ, List, OnOk, false, min, true}
 use Rattle.std.specs.Option.{ForSome}
 use Rattle.std.specs.declared.result.Result.{Result}
-use Rattle.blk_image.specs.Told.{Applies, Passes, Stays, Told}
+use Rattle.spec_image.specs.Told.{Applies, Passes, Stays, Told}
 use Rattle.blk_io.specs.declared.fault.Damage.{Damage}
 use Rattle.blk_io.specs.declared.fault.Fault.{Fault}
-use Rattle.blk_volume.specs.ListImages.{HasListAtRest, steps_of_touch}
-use Rattle.blk_volume.specs.ListPlans.{touch_writes}
-use Rattle.blk_volume.specs.View.{list_of}
+use Rattle.spec_folder.specs.ListImages.{HasListAtRest, steps_of_touch}
+use Rattle.spec_folder.specs.ListPlans.{touch_writes}
+use Rattle.spec_folder.specs.View.{list_of}
 use Rattle.blk_disk.specs.declared.tables.BlockFiles.{BlockFiles}
 use Rattle.blk_handles.specs.Bindings.{Bindings}
 use Rattle.blk_lru.specs.Moments.{IsMidTouch}

@@ -1,8 +1,8 @@
 -- The reply of a command, as it is printed once the command is done and noted.
 use Rattle.std.specs.Prelude.{◌≡◌, ℕ, List, [], ◌++◌}
 use Rattle.std.specs.List.{flat_map}
-use Rattle.blk_image.specs.Image.{Image}
-use Rattle.blk_image.specs.Told.{Told}
+use Rattle.spec_image.specs.Image.{Image}
+use Rattle.spec_image.specs.Told.{Told}
 use Rattle.blk_model.specs.Bytes.{bytes_from}
 use Rattle.blk_model.specs.Effects.{object_of, stream_of}
 use Rattle.blk_model.specs.Holding.{rows}
@@ -14,7 +14,7 @@ use Rattle.blk_model.specs.Step.{step}
 use Rattle.blk_model.specs.declared.Answer.{Answer}
 use Rattle.blk_model.specs.declared.Answer.TheVariants as answer
 use Rattle.blk_script.specs.Reply.{reply_text, row_line}
-use Rattle.blk_kept.specs.Commands.{ForKept}
+use Rattle.law_state.specs.Commands.{ForKept}
 use Rattle.blk_cache.specs.declared.cache.Cache.{Cache}
 use Rattle.blk_cache.specs.CacheKeeping.{KeepsState}
 

@@ -1,15 +1,15 @@
 -- What a cache keeps once a group is evicted.
 use Rattle.std.specs.Prelude.{◌≡◌, ℕ, ◌+◌, List, [], ◌∷◌, length, sum_by}
-use Rattle.blk_image.specs.Image.{Image, Index, byte}
-use Rattle.blk_format.specs.Headers.{this_id_of}
+use Rattle.spec_image.specs.Image.{Image, Index, byte}
+use Rattle.spec_format.specs.Headers.{this_id_of}
 use Rattle.blk_model.specs.Items.{Item, main}
 use Rattle.blk_model.specs.Room.{Group, items_of_group, without}
 use Rattle.blk_model.specs.State.{State}
-use Rattle.blk_volume.specs.Layout.{Layout}
-use Rattle.blk_volume.specs.Removal.{is_of_another}
-use Rattle.blk_kept.specs.GroupLaws.{gone_nodes, layout_less}
-use Rattle.blk_kept.specs.Keeping.{Keeps}
-use Rattle.blk_kept.specs.RemovalLaws.{layout_removed}
+use Rattle.spec_folder.specs.Layout.{Layout}
+use Rattle.spec_folder.specs.Removal.{is_of_another}
+use Rattle.law_state.specs.GroupLaws.{gone_nodes, layout_less}
+use Rattle.law_state.specs.Keeping.{Keeps}
+use Rattle.law_state.specs.RemovalLaws.{layout_removed}
 use Rattle.blk_disk.specs.Tables.{Agrees}
 use Rattle.blk_cache.specs.declared.cache.Cache.{Cache}
 use Rattle.blk_cache.specs.CacheKeeping.{KeepsState}

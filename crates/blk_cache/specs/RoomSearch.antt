@@ -1,7 +1,7 @@
 -- A cache keeps a state in which the last item that isn't pinned is searched.
 use Rattle.std.specs.Prelude.{ℕ, List}
 use Rattle.std.specs.declared.option.Option.{Option}
-use Rattle.blk_image.specs.Image.{Image}
+use Rattle.spec_image.specs.Image.{Image}
 use Rattle.blk_model.specs.Items.{Item}
 use Rattle.blk_model.specs.State.{State}
 use Rattle.blk_items.specs.ListPlaces.{IsPinnedFrom}

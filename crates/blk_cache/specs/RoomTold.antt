@@ -1,6 +1,6 @@
 -- What is pinned where no part is covered, and how a cache tells from what it keeps where there is room.
 use Rattle.std.specs.Prelude.{◌≡◌, ℕ, ◌+◌, Bool, false, not, ◌&&◌, ◌||◌, ◌==◌, nat_lt, List, [], length, sum_by, if◌then◌else◌}
-use Rattle.blk_image.specs.Image.{Image}
+use Rattle.spec_image.specs.Image.{Image}
 use Rattle.blk_model.specs.Bounds.{bounds_of}
 use Rattle.blk_model.specs.Items.{Item}
 use Rattle.blk_model.specs.Refusals.{evicted_for, is_full}

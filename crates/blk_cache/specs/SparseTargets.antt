@@ -4,14 +4,14 @@ use Rattle.std.specs.Int.{cast_signed, w64}
 use Rattle.std.specs.Option.{ForSome}
 use Rattle.std.specs.declared.option.Option.{Option}
 use Rattle.std.specs.declared.option.Option.TheVariants.{None, Some}
-use Rattle.blk_image.specs.Told.{Told}
+use Rattle.spec_image.specs.Told.{Told}
 use Rattle.blk_model.specs.Refusals.{covered, refused}
 use Rattle.blk_model.specs.Request.{to_sparse_write}
 use Rattle.blk_model.specs.Sizes.{signatures}
 use Rattle.blk_model.specs.State.{State}
 use Rattle.blk_model.specs.declared.Refusal.{Refusal}
 use Rattle.blk_model.specs.declared.Refusal.TheVariants as refusal
-use Rattle.blk_volume.specs.Layout.{Layout}
+use Rattle.spec_folder.specs.Layout.{Layout}
 use Rattle.blk_disk.specs.declared.tables.BlockFiles.{BlockFiles}
 use Rattle.blk_disk.specs.Tables.{is_node_among, is_record_among}
 use Rattle.blk_sparse.specs.declared.children.Parent.{Parent}

@@ -1,7 +1,7 @@
 -- A SparseWrite: what is asked of its end, and what the cache counts then.
 use Rattle.std.specs.Prelude.{◌≡◌, ◌<◌, ◌≤◌, ◌+◌, ◌%◌, ◌^◌, ℕ, List, [], false, if◌then◌else◌, length, map, true}
 use Rattle.std.specs.declared.option.Option.TheVariants.{None, Some}
-use Rattle.blk_image.specs.Image.{Image}
+use Rattle.spec_image.specs.Image.{Image}
 use Rattle.blk_model.specs.Effects.{effect}
 use Rattle.blk_model.specs.Items.{part, plain, sparse}
 use Rattle.blk_model.specs.Refusals.{refused}
@@ -10,9 +10,9 @@ use Rattle.blk_model.specs.Room.{items, total}
 use Rattle.blk_model.specs.Sizes.{most_items, part_size, parts_index_charge, signatures}
 use Rattle.blk_model.specs.Sparse.{covered_parts}
 use Rattle.blk_model.specs.State.{IsValidState, Object, State}
-use Rattle.blk_volume.specs.Layout.{Layout}
-use Rattle.blk_kept.specs.CommandStates.{with_room}
-use Rattle.blk_kept.specs.OneCallLaws.{Names}
+use Rattle.spec_folder.specs.Layout.{Layout}
+use Rattle.law_state.specs.CommandStates.{with_room}
+use Rattle.law_state.specs.OneCallLaws.{Names}
 use Rattle.blk_sparse.specs.declared.measuring.Measured.{Measured}
 use Rattle.blk_sparse.specs.declared.storing.Target.{Target}
 use Rattle.blk_sparse.specs.Measuring.{IsMeasured}

@@ -1,8 +1,8 @@
 -- An open object that is settled is marked as one that isn't.
 use Rattle.std.specs.Prelude.{ℕ}
-use Rattle.blk_image.specs.Image.{Image}
+use Rattle.spec_image.specs.Image.{Image}
 use Rattle.blk_model.specs.State.{Object, State}
-use Rattle.blk_kept.specs.OneCallLaws.{Names}
+use Rattle.law_state.specs.OneCallLaws.{Names}
 use Rattle.blk_cache.specs.declared.cache.Cache.{Cache}
 use Rattle.blk_cache.specs.CacheKeeping.{KeepsState}
 

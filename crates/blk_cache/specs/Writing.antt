@@ -2,7 +2,7 @@
 use Rattle.std.specs.Prelude.{◌≡◌, ◌<◌, ◌≤◌, ◌+◌, ◌-◌, ◌/◌, ◌&&◌, ℕ, Bool, List, [], ◌∷◌, false, true, if◌then◌else◌, is_none, length, nat_lt}
 use Rattle.std.specs.declared.option.Option.{Option}
 use Rattle.std.specs.declared.option.Option.TheVariants.{None, Some}
-use Rattle.blk_image.specs.Image.{Image}
+use Rattle.spec_image.specs.Image.{Image}
 use Rattle.blk_model.specs.Effects.{stream_after, stream_of, written}
 use Rattle.blk_model.specs.Items.{is_sparse, main}
 use Rattle.blk_model.specs.Refusals.{first_refusal, no_room, no_stream, refused}
@@ -12,13 +12,13 @@ use Rattle.blk_model.specs.Sizes.{stream_share}
 use Rattle.blk_model.specs.State.{IsValidState, Object, State, object_at}
 use Rattle.blk_model.specs.declared.Refusal.{Refusal}
 use Rattle.blk_model.specs.declared.Refusal.TheVariants as refusal
-use Rattle.blk_volume.specs.Layout.{Layout}
+use Rattle.spec_folder.specs.Layout.{Layout}
 use Rattle.blk_handles.specs.Bindings.{binding_of}
-use Rattle.blk_kept.specs.Changes.{SameCounters}
-use Rattle.blk_kept.specs.CommandStates.{with_room}
-use Rattle.blk_kept.specs.Keeping.{KeepsUncounted}
-use Rattle.blk_kept.specs.ListLaws.{with_used}
-use Rattle.blk_kept.specs.OneCallLaws.{Names}
+use Rattle.law_state.specs.Changes.{SameCounters}
+use Rattle.law_state.specs.CommandStates.{with_room}
+use Rattle.law_state.specs.Keeping.{KeepsUncounted}
+use Rattle.law_state.specs.ListLaws.{with_used}
+use Rattle.law_state.specs.OneCallLaws.{Names}
 use Rattle.blk_object.specs.Writing.{IsRiseCounted}
 use Rattle.blk_cache.specs.declared.asking.Asked.{Asked}
 use Rattle.blk_cache.specs.declared.asking.Asked.TheVariants as asked

@@ -5,7 +5,7 @@ use Rattle.blk_model.specs.Refusals.{is_kept_from_streams, room_for}
 use Rattle.blk_model.specs.Request.{to_write}
 use Rattle.blk_model.specs.Room.{room}
 use Rattle.blk_model.specs.State.{Object, State}
-use Rattle.blk_kept.specs.OneCallLaws.{Names}
+use Rattle.law_state.specs.OneCallLaws.{Names}
 
 -- a Write wants room for the bytes by which its stream gets longer, and for no item
 abbrev pub WritesWantRoomForTheRise : Type 0

@@ -1,7 +1,7 @@
 // A new object in a cache.
 ghost use Rattle.std.specs.Prelude.{◌≡◌, ◌≤◌, ◌<◌, ℕ, Bool, IfOk, IfSome, IsTrue, List, None, Ok, OnOk, Option, Some, false, length, slice_set, true};
 ghost use Rattle.std.specs.Option.{ForSome};
-ghost use Rattle.blk_image.specs.Told.{Passes, Rises, Stays, Told};
+ghost use Rattle.spec_image.specs.Told.{Passes, Rises, Stays, Told};
 ghost use Rattle.blk_io.specs.Faults.{IfDamaged, IfDevice};
 ghost use Rattle.blk_model.specs.Effects.{created};
 ghost use Rattle.blk_model.specs.Holding.{rest};
@@ -14,8 +14,8 @@ ghost use Rattle.blk_model.specs.declared.Refusal.TheVariants as refusal;
 ghost use Rattle.blk_disk.specs.Open.{IsOpen};
 ghost use Rattle.blk_disk.specs.Tables.{is_node_among, is_record_among};
 ghost use Rattle.blk_handles.specs.Bindings.{AreShared, binding_for, binding_of, open_with};
-ghost use Rattle.blk_kept.specs.Changes.{Finds};
-ghost use Rattle.blk_kept.specs.Commands.{Does, IsDone, MayStop, MayStopAtEach};
+ghost use Rattle.law_state.specs.Changes.{Finds};
+ghost use Rattle.law_state.specs.Commands.{Does, IsDone, MayStop, MayStopAtEach};
 ghost use Rattle.blk_object.specs.FailedChecks.{IsFailedCheck};
 ghost use Rattle.blk_object.specs.Making.{CanHaveNew};
 ghost use Rattle.blk_cache.specs.CacheKeeping.{KeepsState};

@@ -1,9 +1,9 @@
 // The totals of a cache, and its end.
 ghost use Rattle.std.specs.Prelude.{◌≡◌, ◌≤◌, OnErr, OnOk};
 ghost use Rattle.std.specs.Option.{ForSome};
-ghost use Rattle.blk_image.specs.Image.{Image, Index as index};
-ghost use Rattle.blk_image.specs.Steps.{word_step};
-ghost use Rattle.blk_image.specs.Told.{Applies, AppliesPrefix, Passes, Rises};
+ghost use Rattle.spec_image.specs.Image.{Image, Index as index};
+ghost use Rattle.spec_image.specs.Steps.{word_step};
+ghost use Rattle.spec_image.specs.Told.{Applies, AppliesPrefix, Passes, Rises};
 ghost use Rattle.blk_model.specs.Room.{items as items_of, total};
 ghost use Rattle.blk_model.specs.State.{State};
 ghost use Rattle.blk_disk.specs.Open.{IsOpen};

@@ -1,6 +1,6 @@
 // How far a cache evicts.
 ghost use Rattle.std.specs.Prelude.{◌≡◌};
-ghost use Rattle.blk_image.specs.Image.{Image};
+ghost use Rattle.spec_image.specs.Image.{Image};
 ghost use Rattle.blk_model.specs.State.{State};
 ghost use Rattle.blk_cache.specs.CacheKeeping.{KeepsState};
 ghost use Rattle.blk_cache.specs.Evicting.{is_met};

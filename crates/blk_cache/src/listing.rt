@@ -2,13 +2,13 @@
 ghost use Rattle.std.specs.Prelude.{◌≡◌, ◌≤◌, ℕ, IfOk, None, OnOk};
 ghost use Rattle.std.specs.List.{flat_map};
 ghost use Rattle.std.specs.Option.{ForSome};
-ghost use Rattle.blk_image.specs.Told.{Rises, Stays};
+ghost use Rattle.spec_image.specs.Told.{Rises, Stays};
 ghost use Rattle.blk_io.specs.Faults.{IfDamaged, IfDevice, IsShort};
 ghost use Rattle.blk_io.specs.declared.folder.FileId.TheVariants as names;
 ghost use Rattle.blk_model.specs.Holding.{rows};
 ghost use Rattle.blk_model.specs.Request.{to_list};
 ghost use Rattle.blk_script.specs.Reply.{row_line};
-ghost use Rattle.blk_kept.specs.Commands.{Does, ForKept};
+ghost use Rattle.law_state.specs.Commands.{Does, ForKept};
 ghost use Rattle.blk_object.specs.FailedChecks.{IsFailedCheck};
 ghost use Rattle.blk_cache.specs.CacheKeeping.{KeepsState};
 ghost use Rattle.blk_cache.specs.CommandClauses.{IsRefused, KeepsAny};

@@ -1,17 +1,17 @@
 // A folder is opened: it is made or checked, and repaired by what it holds.
 ghost use Rattle.std.specs.Prelude.{◌≡◌, ◌≤◌, IfOk, None, OnOk, Some};
 ghost use Rattle.std.specs.Option.{ForSome};
-ghost use Rattle.blk_image.specs.Image.{Index as index, byte};
-ghost use Rattle.blk_image.specs.Told.{Rises, Stays};
-ghost use Rattle.blk_format.specs.BlockFiles.{first_damage, IsWellFormed};
-ghost use Rattle.blk_format.specs.Headers.{HasWholeIndex, IsUnfinished, create_time_of};
+ghost use Rattle.spec_image.specs.Image.{Index as index, byte};
+ghost use Rattle.spec_image.specs.Told.{Rises, Stays};
+ghost use Rattle.spec_format.specs.BlockFiles.{first_damage, IsWellFormed};
+ghost use Rattle.spec_format.specs.Headers.{HasWholeIndex, IsUnfinished, create_time_of};
 ghost use Rattle.blk_io.specs.Faults.{IfDamaged, IfDevice, damage_of};
 ghost use Rattle.blk_index.specs.Start.{IsFinished, IsLookDamage};
 ghost use Rattle.blk_disk.specs.Loading.{IsLoadDamage};
 ghost use Rattle.blk_disk.specs.Open.{IsOpen};
 ghost use Rattle.blk_repair.specs.Endings.{EndsOrBreaksOff, EndsWithCrashWord};
 ghost use Rattle.blk_repair.specs.Repair.{IsRepairDamage, IsRepairable, NeedsOnlyWords};
-ghost use Rattle.blk_repair_laws.specs.MendedChanges.{IsMidRepair};
+ghost use Rattle.law_recovery.specs.MendedChanges.{IsMidRepair};
 ghost use Rattle.blk_scan.specs.Scans.{StandAmong};
 ghost use Rattle.blk_cache.specs.Opened.{IsFirstDamage, IsJustMade, IsOpenedAs, IsOpeningDamage};
 ghost use Rattle.blk_cache.specs.Opening.{IfOpenDamaged, IfOpenDevice, IfOpenMemory, IsUsable, Opens, OpensOrBreaksOff, StandsOpened, WasMadeAt};

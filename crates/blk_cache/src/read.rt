@@ -1,13 +1,13 @@
 // The command Read.
 ghost use Rattle.std.specs.Prelude.{◌≡◌, ◌≤◌, IfOk, IfSome, IsTrue, None, Ok, false};
 ghost use Rattle.std.specs.Option.{ForSome};
-ghost use Rattle.blk_image.specs.Told.{Rises, Stays};
+ghost use Rattle.spec_image.specs.Told.{Rises, Stays};
 ghost use Rattle.blk_io.specs.Faults.{IfDamaged, IfDevice};
 ghost use Rattle.blk_model.specs.Request.{to_read};
 ghost use Rattle.blk_model.specs.declared.Answer.TheVariants as answer;
 ghost use Rattle.blk_disk.specs.Open.{IsOpen};
 ghost use Rattle.blk_disk.specs.Tables.{is_node_among};
-ghost use Rattle.blk_kept.specs.Commands.{Does, MayStopAtEach};
+ghost use Rattle.law_state.specs.Commands.{Does, MayStopAtEach};
 ghost use Rattle.blk_lru.specs.Damages.{IsTouchDamage};
 ghost use Rattle.blk_lru.specs.Lists.{IsListed};
 ghost use Rattle.blk_object.specs.FailedChecks.{IsFailedCheck};

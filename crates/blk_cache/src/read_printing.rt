@@ -1,7 +1,7 @@
 // The bytes of a Read are printed.
 ghost use Rattle.std.specs.Prelude.{◌≡◌, ◌≤◌, ◌<◌, None, OnOk};
 ghost use Rattle.std.specs.Option.{ForSome};
-ghost use Rattle.blk_image.specs.Told.{Rises, Stays};
+ghost use Rattle.spec_image.specs.Told.{Rises, Stays};
 ghost use Rattle.blk_io.specs.Faults.{IfDamaged, IfDevice};
 ghost use Rattle.blk_object.specs.FailedChecks.{IsFailedCheck};
 ghost use Rattle.blk_cache.specs.ReadPrinting.{ForRead, KeepsToRead, can_be_read};

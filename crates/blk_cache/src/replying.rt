@@ -1,7 +1,7 @@
 // The reply of a command.
 ghost use Rattle.std.specs.Prelude.{◌≡◌, ◌≢◌, ◌≤◌, ℕ, None, OnOk};
 ghost use Rattle.std.specs.Option.{ForSome};
-ghost use Rattle.blk_image.specs.Told.{Rises, Stays};
+ghost use Rattle.spec_image.specs.Told.{Rises, Stays};
 ghost use Rattle.blk_io.specs.Faults.{IfDamaged, IfDevice};
 ghost use Rattle.blk_model.specs.Reply.{answered};
 ghost use Rattle.blk_model.specs.Request.{request_of};

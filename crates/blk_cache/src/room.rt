@@ -1,6 +1,6 @@
 // Where there is room.
 ghost use Rattle.std.specs.Prelude.{◌≡◌, ◌&&◌, ◌+◌, ◌<◌, ◌==◌, ◌^◌, List, nat_le, nat_lt, not};
-ghost use Rattle.blk_image.specs.Image.{Image};
+ghost use Rattle.spec_image.specs.Image.{Image};
 ghost use Rattle.blk_model.specs.Items.{Item};
 ghost use Rattle.blk_model.specs.Refusals.{is_full};
 ghost use Rattle.blk_model.specs.Room.{fits, low, room};

@@ -1,11 +1,11 @@
 // The command Size.
 ghost use Rattle.std.specs.Prelude.{◌≡◌, ◌≤◌, ℕ, IfOk, IfSome, None, Ok};
 ghost use Rattle.std.specs.Option.{ForSome};
-ghost use Rattle.blk_image.specs.Told.{Rises, Stays};
+ghost use Rattle.spec_image.specs.Told.{Rises, Stays};
 ghost use Rattle.blk_io.specs.Faults.{IfDamaged, IfDevice};
 ghost use Rattle.blk_model.specs.Request.{to_size};
 ghost use Rattle.blk_model.specs.declared.Answer.TheVariants as answer;
-ghost use Rattle.blk_kept.specs.Commands.{Does};
+ghost use Rattle.law_state.specs.Commands.{Does};
 ghost use Rattle.blk_object.specs.FailedChecks.{IsFailedCheck};
 ghost use Rattle.blk_cache.specs.Asking.{IsAskDamage, early_stream_refusal};
 ghost use Rattle.blk_cache.specs.CacheKeeping.{KeepsState};

@@ -1,7 +1,7 @@
 // The end of a SparseWrite: its object is unsettled, and then the bytes are stored and counted.
 ghost use Rattle.std.specs.Prelude.{◌≡◌, ◌≤◌, ◌<◌, ◌+◌, IfOk, IsSome, None, OnOk, length};
 ghost use Rattle.std.specs.Option.{ForSome};
-ghost use Rattle.blk_image.specs.Told.{Passes, Rises};
+ghost use Rattle.spec_image.specs.Told.{Passes, Rises};
 ghost use Rattle.blk_io.specs.Faults.{IfDamaged, IfDevice};
 ghost use Rattle.blk_model.specs.Holding.{rest};
 ghost use Rattle.blk_model.specs.Request.{to_sparse_write};
@@ -10,8 +10,8 @@ ghost use Rattle.blk_model.specs.State.{State};
 ghost use Rattle.blk_model.specs.declared.Answer.TheVariants as answer;
 ghost use Rattle.blk_disk.specs.Open.{IsOpen};
 ghost use Rattle.blk_handles.specs.Bindings.{binding_of};
-ghost use Rattle.blk_kept.specs.Changes.{Finds};
-ghost use Rattle.blk_kept.specs.Commands.{IsDone, MayStop};
+ghost use Rattle.law_state.specs.Changes.{Finds};
+ghost use Rattle.law_state.specs.Commands.{IsDone, MayStop};
 ghost use Rattle.blk_object.specs.FailedChecks.{IsFailedCheck};
 ghost use Rattle.blk_sparse.specs.SparseWrites.{signature_to, sparse_state};
 ghost use Rattle.blk_cache.specs.CacheKeeping.{KeepsState};

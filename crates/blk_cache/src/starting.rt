@@ -1,12 +1,12 @@
 // A cache is opened.
 ghost use Rattle.std.specs.Prelude.{◌≡◌, ◌≤◌, IfOk, None, OnOk};
 ghost use Rattle.std.specs.Option.{ForSome};
-ghost use Rattle.blk_image.specs.Image.{Index as index, byte};
-ghost use Rattle.blk_image.specs.Told.{Rises, Stays};
+ghost use Rattle.spec_image.specs.Image.{Index as index, byte};
+ghost use Rattle.spec_image.specs.Told.{Rises, Stays};
 ghost use Rattle.blk_model.specs.Bounds.{bounds_of};
 ghost use Rattle.blk_model.specs.Holding.{open_state};
-ghost use Rattle.blk_format.specs.Headers.{IsUnfinished, this_id_of};
-ghost use Rattle.blk_volume.specs.Found.{found};
+ghost use Rattle.spec_format.specs.Headers.{IsUnfinished, this_id_of};
+ghost use Rattle.spec_folder.specs.Found.{found};
 ghost use Rattle.blk_cache.specs.BoundNames.{AreAllFree};
 ghost use Rattle.blk_cache.specs.CacheKeeping.{KeepsState};
 ghost use Rattle.blk_cache.specs.Opened.{IsFirstDamage, IsOpeningDamage};

@@ -1,15 +1,15 @@
 // Commands with their notes, and what they print.
 ghost use Rattle.std.specs.Prelude.{◌≡◌, ◌≤◌, ◌+◌, ◌∷◌, ◌++◌, ◌⊎◌, [], IfOk, IfSome, None, OnErr, OnOk, is_some, position, slice_set};
 ghost use Rattle.std.specs.Option.{ForSome, option_map};
-ghost use Rattle.blk_image.specs.Steps.{Note};
-ghost use Rattle.blk_image.specs.Told.{Applies, Rises, Stays};
+ghost use Rattle.spec_image.specs.Steps.{Note};
+ghost use Rattle.spec_image.specs.Told.{Applies, Rises, Stays};
 ghost use Rattle.blk_io.specs.Faults.{IfDamaged, IfDevice};
 ghost use Rattle.blk_io.specs.Streams.{Appends};
 ghost use Rattle.blk_model.specs.Reply.{answer_of};
 ghost use Rattle.blk_model.specs.Request.{request_of, to_close};
 ghost use Rattle.blk_model.specs.Step.{step};
 ghost use Rattle.blk_disk.specs.Open.{IsOpen};
-ghost use Rattle.blk_kept.specs.Commands.{Does, ForKept, IsNoted, IsStepped, MayStopAtEach, note_number};
+ghost use Rattle.law_state.specs.Commands.{Does, ForKept, IsNoted, IsStepped, MayStopAtEach, note_number};
 ghost use Rattle.blk_object.specs.FailedChecks.{IsFailedCheck};
 ghost use Rattle.blk_cache.specs.CacheKeeping.{KeepsState};
 ghost use Rattle.blk_cache.specs.CommandClauses.{IsRefused, KeepsAny, OnlyNotesChange};

@@ -1,9 +1,9 @@
 // The command Total.
 ghost use Rattle.std.specs.Prelude.{◌≡◌, ℕ};
-ghost use Rattle.blk_image.specs.Told.{Told};
+ghost use Rattle.spec_image.specs.Told.{Told};
 ghost use Rattle.blk_model.specs.Request.{to_total};
 ghost use Rattle.blk_model.specs.declared.Answer.TheVariants as answer;
-ghost use Rattle.blk_kept.specs.Commands.{Does};
+ghost use Rattle.law_state.specs.Commands.{Does};
 ghost use Rattle.blk_cache.specs.CacheKeeping.{KeepsState};
 
 use crate::cache::Cache;

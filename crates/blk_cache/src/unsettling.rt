@@ -1,9 +1,9 @@
 // An open object that is settled is marked as one that isn't.
 ghost use Rattle.std.specs.Prelude.{◌≡◌, ◌≤◌, IsSome, None, OnOk, false};
 ghost use Rattle.std.specs.Option.{ForSome};
-ghost use Rattle.blk_image.specs.Told.{Passes, Rises};
+ghost use Rattle.spec_image.specs.Told.{Passes, Rises};
 ghost use Rattle.blk_io.specs.Faults.{IfDamaged, IfDevice};
-ghost use Rattle.blk_laws.specs.CommandLaws.{marked};
+ghost use Rattle.law_folder.specs.CommandLaws.{marked};
 ghost use Rattle.blk_disk.specs.Open.{IsOpen};
 ghost use Rattle.blk_handles.specs.Bindings.{binding_of};
 ghost use Rattle.blk_object.specs.FailedChecks.{IsFailedCheck};

@@ -2,9 +2,9 @@
 use Rattle.std.proofs.Common.{◌≡◌, ◌≢◌, ⊎_elim, ℕ, Bool, true, false, List, [], ◌∷◌, ◌++◌, map, refl, sym, ◌∙◌, ap}
 use Rattle.std.specs.Prelude.{◌==◌}
 use Rattle.std.proofs.lemmas.Bool.{or_cases, or_left, or_right, eq-eqb, eqb-true}
-use Rattle.blk_format.specs.BlockFiles.{is_among}
-use Rattle.blk_volume.specs.ListView.{Distinct}
-use Rattle.blk_volume.specs.Chains.{file_and_block}
+use Rattle.spec_format.specs.BlockFiles.{is_among}
+use Rattle.spec_folder.specs.ListView.{Distinct}
+use Rattle.spec_folder.specs.Chains.{file_and_block}
 
 -- a word's first block is among those of the words
 pub among-blocks : (words : List ℕ) (x : ℕ) → is_among words x ≡ true → is_among (map file_and_block words) (file_and_block x) ≡ true

@@ -2,23 +2,23 @@
 use Rattle.std.proofs.Common.{◌≡◌, ℕ, true, false, List, [], ◌∷◌, length, Some, None, refl, sym, subst, lit≤, ⊎_elim}
 use Rattle.std.specs.Prelude.{◌==◌, ◌≤◌}
 use Rattle.std.proofs.lemmas.Bool.{or_cases, eqb-true}
-use Rattle.blk_image.specs.Bytes.{zeros, spliced, range_at, words_at}
-use Rattle.blk_image.specs.Steps.{with_word}
-use Rattle.blk_image.specs.Image.{Image}
-use Rattle.blk_format.specs.Address.{is_address, is_initialized, names_external, names_blocks, kind_of, reserved_bits, block_count, file_selector, first_block, external_number, block_size, block_place, place, byte_size}
-use Rattle.blk_format.specs.BlockFiles.{is_among, next_file_in, max_entries_in, files_along, linked, kind_among}
-use Rattle.blk_format.specs.Hash.{hash, mixed, of_bytes, of_one}
-use Rattle.blk_format.specs.Records.{entry_in, entry_checks}
-use Rattle.blk_format.specs.Standing.{stands, stands_as_blocks}
-use Rattle.blk_format.specs.Storage.{entry_blocks}
-use Rattle.blk_volume.specs.Chains.{IsChain, bucket_of_hash}
-use Rattle.blk_volume.specs.Entries.{is_key_length}
-use Rattle.blk_volume.specs.View.{RecordFields, fields_at, entry_at, key_place_at, store_of}
-use Rattle.blk_laws.proofs.examples.SmallFolder.{small_records, folder_with}
+use Rattle.spec_image.specs.Bytes.{zeros, spliced, range_at, words_at}
+use Rattle.spec_image.specs.Steps.{with_word}
+use Rattle.spec_image.specs.Image.{Image}
+use Rattle.spec_format.specs.Address.{is_address, is_initialized, names_external, names_blocks, kind_of, reserved_bits, block_count, file_selector, first_block, external_number, block_size, block_place, place, byte_size}
+use Rattle.spec_format.specs.BlockFiles.{is_among, next_file_in, max_entries_in, files_along, linked, kind_among}
+use Rattle.spec_format.specs.Hash.{hash, mixed, of_bytes, of_one}
+use Rattle.spec_format.specs.Records.{entry_in, entry_checks}
+use Rattle.spec_format.specs.Standing.{stands, stands_as_blocks}
+use Rattle.spec_format.specs.Storage.{entry_blocks}
+use Rattle.spec_folder.specs.Chains.{IsChain, bucket_of_hash}
+use Rattle.spec_folder.specs.Entries.{is_key_length}
+use Rattle.spec_folder.specs.View.{RecordFields, fields_at, entry_at, key_place_at, store_of}
+use Rattle.law_folder.proofs.examples.SmallFolder.{small_records, folder_with}
 use Rattle.blk_entry.specs.Keys.{HasReadableKey}
 use Rattle.blk_chain.specs.Examples.{SomeChainIsSearched}
 use Rattle.blk_chain.specs.Finding.{CanBeSearched, IsFound}
-use Rattle.blk_volume.specs.Searches.{bucket_of_key, chained_for, HasKey}
+use Rattle.spec_folder.specs.Searches.{bucket_of_key, chained_for, HasKey}
 use Rattle.blk_chain.specs.Unlinking.{StandsBehind}
 use Rattle.blk_chain.proofs.Pairs.{chain-words}
 use Rattle.blk_chain.proofs.Searches.{found-linked}

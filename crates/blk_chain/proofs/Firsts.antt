@@ -2,32 +2,32 @@
 use Rattle.std.proofs.Common.{◌≡◌, ℕ, ◌+◌, ◌%◌, ◌^◌, ◌<◌, Bool, List, ◌∷◌, Option, Some, None, refl, sym, ◌∙◌, ap, ap₂, subst}
 use Rattle.std.specs.Prelude.{◌↔◌}
 use Rattle.std.specs.Option.{ForSome}
-use Rattle.blk_image.specs.Image.{AreBytes, Index, Block, Image, byte, length_of, word}
-use Rattle.blk_image.specs.Steps.{after, word_step}
-use Rattle.blk_image.specs.Told.{Told, TellsBytes, Applies, AppliesPrefix, Commits}
-use Rattle.blk_image.proofs.Footprints.{outside-refl}
-use Rattle.blk_image.proofs.Runs.{some_inj, told_whole}
-use Rattle.blk_image.proofs.Words.{word-fits}
-use Rattle.blk_image.proofs.WordSteps.{quiet-word_step}
-use Rattle.blk_format.specs.Address.{file_selector, place}
-use Rattle.blk_format.specs.Records.{entry_in}
-use Rattle.blk_format.specs.Headers.{place_of_bucket}
-use Rattle.blk_volume.specs.ListView.{put}
-use Rattle.blk_volume.specs.View.{StoreView, RecordFields, store_of}
-use Rattle.blk_volume.specs.Chains.{chain, IsChain, bucket_at}
-use Rattle.blk_laws.proofs.chains.ChainLinks.{first-leaves, others-stay}
-use Rattle.blk_laws.proofs.states.Changing.{at-itself}
-use Rattle.blk_laws.specs.IndexWrites.{IsIndexWord}
-use Rattle.blk_laws.proofs.updates.IndexWords.{buckets-written, buckets-unchecked}
+use Rattle.spec_image.specs.Image.{AreBytes, Index, Block, Image, byte, length_of, word}
+use Rattle.spec_image.specs.Steps.{after, word_step}
+use Rattle.spec_image.specs.Told.{Told, TellsBytes, Applies, AppliesPrefix, Commits}
+use Rattle.spec_image.proofs.Footprints.{outside-refl}
+use Rattle.spec_image.proofs.Runs.{some_inj, told_whole}
+use Rattle.spec_image.proofs.Words.{word-fits}
+use Rattle.spec_image.proofs.WordSteps.{quiet-word_step}
+use Rattle.spec_format.specs.Address.{file_selector, place}
+use Rattle.spec_format.specs.Records.{entry_in}
+use Rattle.spec_format.specs.Headers.{place_of_bucket}
+use Rattle.spec_folder.specs.ListView.{put}
+use Rattle.spec_folder.specs.View.{StoreView, RecordFields, store_of}
+use Rattle.spec_folder.specs.Chains.{chain, IsChain, bucket_at}
+use Rattle.law_folder.proofs.chains.ChainLinks.{first-leaves, others-stay}
+use Rattle.law_folder.proofs.states.Changing.{at-itself}
+use Rattle.law_folder.specs.IndexWrites.{IsIndexWord}
+use Rattle.law_folder.proofs.updates.IndexWords.{buckets-written, buckets-unchecked}
 use Rattle.blk_disk.specs.declared.tables.BlockFiles.{BlockFiles}
 use Rattle.blk_disk.specs.Tables.{Agrees}
-use Rattle.blk_volume.specs.Entries.{stored_key}
-use Rattle.blk_volume.specs.Searches.{HasKey}
+use Rattle.spec_folder.specs.Entries.{stored_key}
+use Rattle.spec_folder.specs.Searches.{HasKey}
 use Rattle.blk_chain.specs.Linking.{chained_with, place_of_front}
 use Rattle.blk_chain.specs.Unlinking.{CanBeUnlinked, IsStillLinked, IsUnlinked, next_record, unlink_range, unlink_steps}
 use Rattle.blk_chain.proofs.Links.{bucket_read, front_inside, index_agrees, index_word}
-use Rattle.blk_laws.proofs.chains.ChainWords.{IsShownOf, shown-of, shown-chain_next}
-use Rattle.blk_image.proofs.Commits.{commits_none, commits_prefix, commits_word}
+use Rattle.law_folder.proofs.chains.ChainWords.{IsShownOf, shown-of, shown-chain_next}
+use Rattle.spec_image.proofs.Commits.{commits_none, commits_prefix, commits_word}
 use Rattle.blk_chain.proofs.Unlinks.{next_read}
 
 -- no key is read in the table

@@ -3,9 +3,9 @@ use Rattle.std.proofs.Common.{◌≡◌, ℕ, zero, suc, ◌^◌, Bool, true, fa
 use Rattle.std.specs.Prelude.{not, ◌&&◌, ◌==◌, if◌then◌else◌}
 use Rattle.std.specs.Option.{option_map_or}
 use Rattle.std.proofs.lemmas.Bool.{and_parts}
-use Rattle.blk_format.specs.BlockFiles.{is_among}
-use Rattle.blk_volume.specs.View.{StoreView, RecordFields}
-use Rattle.blk_volume.specs.Chains.{Chain, chain, chain_from, is_reached, is_of_bucket, bucket_of_hash, file_and_block}
+use Rattle.spec_format.specs.BlockFiles.{is_among}
+use Rattle.spec_folder.specs.View.{StoreView, RecordFields}
+use Rattle.spec_folder.specs.Chains.{Chain, chain, chain_from, is_reached, is_of_bucket, bucket_of_hash, file_and_block}
 
 -- a choice by the same test
 choice : (r s : Bool) (a b x : Chain) → r ≡ s → (s ≡ true → a ≡ b) → (if r then a else x) ≡ (if s then b else x)

@@ -4,23 +4,23 @@ use Rattle.std.specs.Prelude.{◌==◌, ◌&&◌, not, if◌then◌else◌}
 use Rattle.std.proofs.Math.Bool.{beq}
 use Rattle.std.specs.Option.{option_and_then}
 use Rattle.std.proofs.lemmas.Bool.{and_parts, eqb-true, and_from}
-use Rattle.blk_image.specs.Image.{AreBytes, External, Image, has_file}
-use Rattle.blk_image.proofs.Runs.{some_inj}
-use Rattle.blk_format.specs.Address.{kind_of, is_address, external, external_number, blocks_256}
-use Rattle.blk_format.specs.BlockFiles.{stands_in_blocks}
-use Rattle.blk_format.specs.Standing.{stands}
-use Rattle.blk_volume.specs.Entries.{is_key_length, stored_key}
-use Rattle.blk_volume.specs.View.{RecordFields, fields_at, fields_of, entry_at, store_of}
+use Rattle.spec_image.specs.Image.{AreBytes, External, Image, has_file}
+use Rattle.spec_image.proofs.Runs.{some_inj}
+use Rattle.spec_format.specs.Address.{kind_of, is_address, external, external_number, blocks_256}
+use Rattle.spec_format.specs.BlockFiles.{stands_in_blocks}
+use Rattle.spec_format.specs.Standing.{stands}
+use Rattle.spec_folder.specs.Entries.{is_key_length, stored_key}
+use Rattle.spec_folder.specs.View.{RecordFields, fields_at, fields_of, entry_at, store_of}
 use Rattle.blk_disk.specs.declared.tables.BlockFiles.{BlockFiles}
-use Rattle.blk_format.specs.Sealed.{RecordChecks}
+use Rattle.spec_format.specs.Sealed.{RecordChecks}
 use Rattle.blk_disk.specs.Tables.{Agrees, is_record_among, names_among, stands_among}
 use Rattle.blk_disk.proofs.Ranges.{stands_agree}
 use Rattle.blk_entry.specs.Keys.{CanBeRead, HasReadableKey, HasRecord, IsEntryOf, key_at}
-use Rattle.blk_laws.proofs.updates.StillShown.{core-standing, standing-parts}
-use Rattle.blk_volume.specs.Searches.{HasKey}
+use Rattle.law_folder.proofs.updates.StillShown.{core-standing, standing-parts}
+use Rattle.spec_folder.specs.Searches.{HasKey}
 use Rattle.blk_entry.proofs.KeyPlaces.{key_by_bytes}
 use Rattle.blk_chain.specs.Finding.{IsFollowed, IsKeyed, IsSought}
-use Rattle.blk_laws.proofs.chains.ChainWords.{record_checks, shown-fields, shown-kind}
+use Rattle.law_folder.proofs.chains.ChainWords.{record_checks, shown-fields, shown-kind}
 
 -- a word that names a record that stands
 pub names-parts : (files : BlockFiles) (w : ℕ) → is_record_among files w ≡ true → (is_address w ≡ true) × ((kind_of w ≡ blocks_256) × (stands_among files w ≡ true))

@@ -3,21 +3,21 @@ use Rattle.std.proofs.Common.{◌≡◌, ◌≢◌, ⊎_elim, ℕ, ◌+◌, ◌*
 use Rattle.std.specs.Prelude.{◌==◌, ◌&&◌, ◌||◌, nat_le}
 use Rattle.std.proofs.lemmas.Bool.{and_parts, cases_Bool, eqb-true}
 use Rattle.std.proofs.lemmas.Bool.Decides.{nat_tests}
-use Rattle.blk_image.specs.Bytes.{range_at}
-use Rattle.blk_image.specs.Image.{Block, Image, byte, length_of}
-use Rattle.blk_image.specs.Footprint.{Footprint, SameOutside, range}
-use Rattle.blk_image.specs.Steps.{with_words}
-use Rattle.blk_format.specs.Address.{kind_of, block_count, block_size, block_word, file_selector, first_block, is_address, blocks_256, place, byte_size}
-use Rattle.blk_format.specs.Claims.{Claim, BlockOf, ExternalOf, same_claim, claims_of, has_claim}
-use Rattle.blk_format.specs.Standing.{is_linked_as, stands, stands_as_blocks}
-use Rattle.blk_format.specs.BlockFiles.{linked_as, max_entries_in, stands_in}
-use Rattle.blk_format.specs.Records.{entry_in, checks}
-use Rattle.blk_format.proofs.Words.{AreFields, AreFields-of, kind_of-block_word, block_count-block_word, file_selector-block_word, first_block-block_word, is_address-block_word}
-use Rattle.blk_volume.specs.Footprint.{IsClear}
-use Rattle.blk_volume.specs.View.{RecordFields, fields_of, fields_at, entry_at, stands_as, store_of}
-use Rattle.blk_format.specs.Sealed.{IsMidUpdate, record_at, record_size, seal_place, size_by_kind, seal_by_kind}
-use Rattle.blk_laws.proofs.updates.StillShown.{core-standing, standing-parts}
-use Rattle.blk_laws.proofs.chains.ChainWords.{record-at, shown-fields, shown-kind}
+use Rattle.spec_image.specs.Bytes.{range_at}
+use Rattle.spec_image.specs.Image.{Block, Image, byte, length_of}
+use Rattle.spec_image.specs.Footprint.{Footprint, SameOutside, range}
+use Rattle.spec_image.specs.Steps.{with_words}
+use Rattle.spec_format.specs.Address.{kind_of, block_count, block_size, block_word, file_selector, first_block, is_address, blocks_256, place, byte_size}
+use Rattle.spec_format.specs.Claims.{Claim, BlockOf, ExternalOf, same_claim, claims_of, has_claim}
+use Rattle.spec_format.specs.Standing.{is_linked_as, stands, stands_as_blocks}
+use Rattle.spec_format.specs.BlockFiles.{linked_as, max_entries_in, stands_in}
+use Rattle.spec_format.specs.Records.{entry_in, checks}
+use Rattle.spec_format.proofs.Words.{AreFields, AreFields-of, kind_of-block_word, block_count-block_word, file_selector-block_word, first_block-block_word, is_address-block_word}
+use Rattle.spec_folder.specs.Footprint.{IsClear}
+use Rattle.spec_folder.specs.View.{RecordFields, fields_of, fields_at, entry_at, stands_as, store_of}
+use Rattle.spec_format.specs.Sealed.{IsMidUpdate, record_at, record_size, seal_place, size_by_kind, seal_by_kind}
+use Rattle.law_folder.proofs.updates.StillShown.{core-standing, standing-parts}
+use Rattle.law_folder.proofs.chains.ChainWords.{record-at, shown-fields, shown-kind}
 
 -- the address of the first block of a record alone
 pub first_word : ℕ → ℕ

@@ -2,24 +2,24 @@
 use Rattle.std.proofs.Common.{◌≡◌, inr, ⊎_elim, ℕ, zero, suc, true, false, List, [], ◌∷◌, ◌++◌, None, Some, refl, sym, subst, ap, ◌∙◌, lit≤}
 use Rattle.std.specs.Prelude.{◌==◌}
 use Rattle.std.proofs.lemmas.Bool.{or_cases, eqb-true}
-use Rattle.blk_image.specs.Bytes.{zeros, spliced, range_at, words_at}
-use Rattle.blk_image.specs.Steps.{with_word, with_words}
-use Rattle.blk_image.specs.Image.{Image, Index, Block, byte}
-use Rattle.blk_image.proofs.Words.{word-zeros}
-use Rattle.blk_format.specs.Address.{is_address, is_initialized, names_external, names_blocks, kind_of, reserved_bits, block_count, file_selector, first_block, external_number, block_size, block_place, place, byte_size}
-use Rattle.blk_format.specs.BlockFiles.{is_among, next_file_in, max_entries_in, files_along, linked, kind_among}
-use Rattle.blk_format.specs.Hash.{hash, mixed, of_bytes, of_one, of_three}
-use Rattle.blk_format.specs.Headers.{bucket_of, index_length}
-use Rattle.blk_format.specs.NewFolder.{new_file_words, new_index, new_index_words}
-use Rattle.blk_format.specs.Records.{entry_in, entry_checks}
-use Rattle.blk_format.specs.Standing.{stands, stands_as_blocks}
-use Rattle.blk_volume.specs.Chains.{IsChain, bucket_at, bucket_of_hash}
-use Rattle.blk_volume.specs.View.{RecordFields, fields_at, entry_at, key_place_at, store_of}
-use Rattle.blk_laws.proofs.states.NewFolders.{words_beside}
-use Rattle.blk_laws.proofs.examples.SmallFolder.{folder_with}
+use Rattle.spec_image.specs.Bytes.{zeros, spliced, range_at, words_at}
+use Rattle.spec_image.specs.Steps.{with_word, with_words}
+use Rattle.spec_image.specs.Image.{Image, Index, Block, byte}
+use Rattle.spec_image.proofs.Words.{word-zeros}
+use Rattle.spec_format.specs.Address.{is_address, is_initialized, names_external, names_blocks, kind_of, reserved_bits, block_count, file_selector, first_block, external_number, block_size, block_place, place, byte_size}
+use Rattle.spec_format.specs.BlockFiles.{is_among, next_file_in, max_entries_in, files_along, linked, kind_among}
+use Rattle.spec_format.specs.Hash.{hash, mixed, of_bytes, of_one, of_three}
+use Rattle.spec_format.specs.Headers.{bucket_of, index_length}
+use Rattle.spec_format.specs.NewFolder.{new_file_words, new_index, new_index_words}
+use Rattle.spec_format.specs.Records.{entry_in, entry_checks}
+use Rattle.spec_format.specs.Standing.{stands, stands_as_blocks}
+use Rattle.spec_folder.specs.Chains.{IsChain, bucket_at, bucket_of_hash}
+use Rattle.spec_folder.specs.View.{RecordFields, fields_at, entry_at, key_place_at, store_of}
+use Rattle.law_folder.proofs.states.NewFolders.{words_beside}
+use Rattle.law_folder.proofs.examples.SmallFolder.{folder_with}
 use Rattle.blk_chain.specs.LinkExamples.{FirstCanBeLinked, NextCanBeLinked}
 use Rattle.blk_chain.specs.Linking.{CanBeLinked, chained_with}
-use Rattle.blk_volume.specs.Searches.{HasKey}
+use Rattle.spec_folder.specs.Searches.{HasKey}
 use Rattle.blk_chain.proofs.Pairs.{chain-words, one-name}
 use Rattle.blk_chain.proofs.SmallRecords.{Says, bare_fields, says-bucket, says-key, says-next, says-of_bucket, small-bucket}
 

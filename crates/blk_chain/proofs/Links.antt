@@ -3,32 +3,32 @@ use Rattle.std.proofs.Common.{◌≡◌, ⊎_elim, ℕ, ◌+◌, ◌%◌, ◌^�
 use Rattle.std.specs.Prelude.{◌==◌, ◌||◌, ◌/◌}
 use Rattle.std.specs.Option.{ForSome}
 use Rattle.std.proofs.lemmas.Bool.{and_parts, cases_Bool, eq-eqb, eqb-true}
-use Rattle.blk_image.specs.Bytes.{content, word_at, word_bytes}
-use Rattle.blk_image.specs.Image.{Index, Block, Image, bytes_of, length_of, word, word as word_of}
-use Rattle.blk_image.specs.Footprint.{one_word}
-use Rattle.blk_image.specs.Steps.{after, word_step}
-use Rattle.blk_image.specs.Told.{Told, Applies, AppliesPrefix, Commits}
-use Rattle.blk_image.proofs.Footprints.{outside_write}
-use Rattle.blk_image.proofs.Images.{bytes_of-written}
-use Rattle.blk_image.proofs.Runs.{some_inj, told_part, told_whole}
-use Rattle.blk_image.proofs.Words.{word-written}
-use Rattle.blk_image.proofs.WordSteps.{quiet-word_step}
-use Rattle.blk_format.specs.Address.{file_selector, is_address, is_initialized, names_blocks, names_external, place}
-use Rattle.blk_format.specs.Records.{entry_in}
-use Rattle.blk_format.specs.Headers.{place_of_bucket}
-use Rattle.blk_format.specs.BlockFiles.{is_among}
-use Rattle.blk_volume.specs.View.{StoreView, RecordFields, store_of}
-use Rattle.blk_volume.specs.Chains.{bucket_of_hash, chain, file_and_block, is_of_bucket, IsChain, bucket_at}
-use Rattle.blk_laws.proofs.chains.ChainLinks.{linked-front, others-stay}
-use Rattle.blk_laws.specs.IndexWrites.{IsIndexWord}
-use Rattle.blk_laws.proofs.updates.IndexWords.{buckets-written, buckets-unchecked}
+use Rattle.spec_image.specs.Bytes.{content, word_at, word_bytes}
+use Rattle.spec_image.specs.Image.{Index, Block, Image, bytes_of, length_of, word, word as word_of}
+use Rattle.spec_image.specs.Footprint.{one_word}
+use Rattle.spec_image.specs.Steps.{after, word_step}
+use Rattle.spec_image.specs.Told.{Told, Applies, AppliesPrefix, Commits}
+use Rattle.spec_image.proofs.Footprints.{outside_write}
+use Rattle.spec_image.proofs.Images.{bytes_of-written}
+use Rattle.spec_image.proofs.Runs.{some_inj, told_part, told_whole}
+use Rattle.spec_image.proofs.Words.{word-written}
+use Rattle.spec_image.proofs.WordSteps.{quiet-word_step}
+use Rattle.spec_format.specs.Address.{file_selector, is_address, is_initialized, names_blocks, names_external, place}
+use Rattle.spec_format.specs.Records.{entry_in}
+use Rattle.spec_format.specs.Headers.{place_of_bucket}
+use Rattle.spec_format.specs.BlockFiles.{is_among}
+use Rattle.spec_folder.specs.View.{StoreView, RecordFields, store_of}
+use Rattle.spec_folder.specs.Chains.{bucket_of_hash, chain, file_and_block, is_of_bucket, IsChain, bucket_at}
+use Rattle.law_folder.proofs.chains.ChainLinks.{linked-front, others-stay}
+use Rattle.law_folder.specs.IndexWrites.{IsIndexWord}
+use Rattle.law_folder.proofs.updates.IndexWords.{buckets-written, buckets-unchecked}
 use Rattle.blk_disk.specs.declared.tables.BlockFiles.{BlockFiles}
 use Rattle.blk_disk.specs.Tables.{Agrees}
-use Rattle.blk_format.proofs.SpareHeaders.{SparesHeaders}
+use Rattle.spec_format.proofs.SpareHeaders.{SparesHeaders}
 use Rattle.blk_disk.proofs.Agreeing.{agrees_still}
 use Rattle.blk_chain.specs.Linking.{chained_with, place_of_front, CanBeLinked, link_front_steps, IsLinkedInFront}
-use Rattle.blk_image.proofs.Commits.{commits_none, commits_prefix, commits_word}
-use Rattle.blk_laws.proofs.chains.ChainWords.{shown-fields, shown-of}
+use Rattle.spec_image.proofs.Commits.{commits_none, commits_prefix, commits_word}
+use Rattle.law_folder.proofs.chains.ChainWords.{shown-fields, shown-of}
 use Rattle.blk_chain.proofs.Names.{same-name}
 use Rattle.blk_chain.proofs.Words.{linked-good, WithFirstBlock, with_first_block}
 

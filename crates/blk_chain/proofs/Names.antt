@@ -1,13 +1,13 @@
 -- Records of one first block have one name.
 use Rattle.std.proofs.Common.{◌≡◌, ℕ, Bool, List, Some, sym, ◌∙◌, ap}
 use Rattle.std.specs.Prelude.{◌==◌}
-use Rattle.blk_image.specs.Image.{Image}
-use Rattle.blk_image.proofs.Runs.{some_inj}
-use Rattle.blk_volume.specs.Chains.{file_and_block}
-use Rattle.blk_volume.specs.Entries.{stored_key}
-use Rattle.blk_volume.specs.View.{RecordFields, store_of}
-use Rattle.blk_volume.specs.Searches.{HasKey}
-use Rattle.blk_laws.proofs.chains.ChainWords.{same-fields, same-key}
+use Rattle.spec_image.specs.Image.{Image}
+use Rattle.spec_image.proofs.Runs.{some_inj}
+use Rattle.spec_folder.specs.Chains.{file_and_block}
+use Rattle.spec_folder.specs.Entries.{stored_key}
+use Rattle.spec_folder.specs.View.{RecordFields, store_of}
+use Rattle.spec_folder.specs.Searches.{HasKey}
+use Rattle.law_folder.proofs.chains.ChainWords.{same-fields, same-key}
 
 module _ (image : Image) (u w : ℕ) (one other : RecordFields) (first : (store_of image).entry u ≡ Some one) (second : (store_of image).entry w ≡ Some other) (same : file_and_block u ≡ file_and_block w) where
   pub same-name : (key : List ℕ) (is_child : Bool) → HasKey (store_of image) key is_child u → HasKey (store_of image) key is_child w

@@ -2,23 +2,23 @@
 use Rattle.std.proofs.Common.{◌≡◌, ◌≢◌, ⊎_elim, ℕ, Bool, true, false, List, [], ◌∷◌, ◌++◌, map, Option, Some, None, refl, sym, ◌∙◌, ap, subst}
 use Rattle.std.specs.Prelude.{◌==◌, ◌↔◌}
 use Rattle.std.proofs.lemmas.Bool.{cases_Bool, cases_eq, or_cases, or_left, or_right, eq-eqb, eqb-true}
-use Rattle.blk_image.specs.Image.{Image}
-use Rattle.blk_image.proofs.Runs.{some_inj}
-use Rattle.blk_format.specs.BlockFiles.{is_among}
-use Rattle.blk_format.specs.Hash.{hash as hash_of}
-use Rattle.blk_volume.specs.Entries.{stored_key}
-use Rattle.blk_volume.specs.ListView.{Distinct, put}
-use Rattle.blk_volume.specs.View.{StoreView, RecordFields, store_of, entry_at}
-use Rattle.blk_volume.specs.Chains.{Chain, bucket_of_hash, chain, file_and_block, IsChain, bucket_at}
-use Rattle.blk_laws.proofs.chains.Chains.{chain-is}
-use Rattle.blk_volume.specs.Searches.{HasKey, bucket_of_key, chained_for}
+use Rattle.spec_image.specs.Image.{Image}
+use Rattle.spec_image.proofs.Runs.{some_inj}
+use Rattle.spec_format.specs.BlockFiles.{is_among}
+use Rattle.spec_format.specs.Hash.{hash as hash_of}
+use Rattle.spec_folder.specs.Entries.{stored_key}
+use Rattle.spec_folder.specs.ListView.{Distinct, put}
+use Rattle.spec_folder.specs.View.{StoreView, RecordFields, store_of, entry_at}
+use Rattle.spec_folder.specs.Chains.{Chain, bucket_of_hash, chain, file_and_block, IsChain, bucket_at}
+use Rattle.law_folder.proofs.chains.Chains.{chain-is}
+use Rattle.spec_folder.specs.Searches.{HasKey, bucket_of_key, chained_for}
 use Rattle.blk_chain.specs.Linking.{chained_with, CanBeLinked, IsLinkedInFront}
 use Rattle.blk_chain.specs.Unlinking.{CanBeUnlinked, IsUnlinked, KeyIsApart, StandsBehind, without_record}
 use Rattle.blk_chain.specs.Mapping.{GainsOne, IsRecordOf, LosesOne}
 use Rattle.blk_chain.proofs.Apart.{among-blocks, still-there}
 use Rattle.blk_chain.proofs.Firsts.{named-table}
-use Rattle.blk_laws.proofs.states.Bare.{no-record}
-use Rattle.blk_laws.proofs.chains.ChainWords.{shown-fields}
+use Rattle.law_folder.proofs.states.Bare.{no-record}
+use Rattle.law_folder.proofs.chains.ChainWords.{shown-fields}
 
 -- a whole chain is its records
 pub chain-words : (image : Image) (b : ℕ) (words : List ℕ) → IsChain (store_of image) b words → (chain (store_of image) b).reached ≡ words

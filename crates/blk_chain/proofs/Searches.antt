@@ -3,20 +3,20 @@ use Rattle.std.proofs.Common.{◌≡◌, ◌≢◌, ⊎_elim, ℕ, suc, ◌+◌,
 use Rattle.std.specs.Prelude.{◌==◌}
 use Rattle.std.proofs.lemmas.Bool.{or_cases, eqb-true}
 use Rattle.std.proofs.lemmas.List.{append-nil, append_assoc}
-use Rattle.blk_image.specs.Image.{Image, Index, byte}
-use Rattle.blk_format.specs.Address.{kind_of}
-use Rattle.blk_format.specs.BlockFiles.{is_among}
-use Rattle.blk_format.specs.Hash.{hash as hash_of}
-use Rattle.blk_format.specs.Headers.{bucket_of}
-use Rattle.blk_volume.specs.View.{RecordFields, entry_at, store_of}
-use Rattle.blk_volume.specs.Chains.{bucket_of_hash, chain, is_of_bucket, IsChain, Linked, bucket_at}
-use Rattle.blk_format.proofs.Among.{is_among_more}
+use Rattle.spec_image.specs.Image.{Image, Index, byte}
+use Rattle.spec_format.specs.Address.{kind_of}
+use Rattle.spec_format.specs.BlockFiles.{is_among}
+use Rattle.spec_format.specs.Hash.{hash as hash_of}
+use Rattle.spec_format.specs.Headers.{bucket_of}
+use Rattle.spec_folder.specs.View.{RecordFields, entry_at, store_of}
+use Rattle.spec_folder.specs.Chains.{bucket_of_hash, chain, is_of_bucket, IsChain, Linked, bucket_at}
+use Rattle.spec_format.proofs.Among.{is_among_more}
 use Rattle.blk_disk.specs.Tables.{is_record_among}
-use Rattle.blk_volume.specs.Searches.{HasKey, bucket_of_key, chained_for, NoneHasKey}
+use Rattle.spec_folder.specs.Searches.{HasKey, bucket_of_key, chained_for, NoneHasKey}
 use Rattle.blk_chain.specs.Unlinking.{CanBeUnlinked, StandsBehind, next_record}
 use Rattle.blk_chain.specs.Finding.{last_passed, up_to, CanBeSearched, EndsWith, HasPassed, IsAnswer, IsFollowed, IsFound, IsKeyed, IsOnTheWay, IsOutcome, IsSought, Walks}
 use Rattle.blk_chain.proofs.Apart.{middle-there}
-use Rattle.blk_laws.proofs.chains.ChainWords.{shown-fields, shown-chain_next, shown-kind, shown-of}
+use Rattle.law_folder.proofs.chains.ChainWords.{shown-fields, shown-chain_next, shown-kind, shown-of}
 use Rattle.blk_chain.proofs.Heads.{named-some, named-sought, sought-named}
 use Rattle.blk_chain.specs.declared.found.Found.{Found}
 use Rattle.blk_disk.specs.declared.tables.BlockFiles.{BlockFiles}

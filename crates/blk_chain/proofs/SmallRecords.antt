@@ -1,22 +1,22 @@
 -- What a record of a small folder says, computed once from its bytes: its key, its bucket and its chain follow from the fields.
 use Rattle.std.proofs.Common.{◌≡◌, ℕ, true, List, [], ◌∷◌, ◌++◌, length, Some, refl, ◌∙◌, ap, arith, lit≤}
 use Rattle.std.specs.Prelude.{◌==◌, nat_le}
-use Rattle.blk_image.specs.Bytes.{zeros}
-use Rattle.blk_image.specs.Image.{Image}
-use Rattle.blk_image.specs.Steps.{with_words}
-use Rattle.blk_image.proofs.Splices.{length-zeros}
-use Rattle.blk_image.proofs.Words.{length-with_words, word-there}
-use Rattle.blk_format.specs.Hash.{hash}
-use Rattle.blk_format.specs.Headers.{index_length}
-use Rattle.blk_format.specs.NewFolder.{new_index_words}
-use Rattle.blk_format.specs.Records.{child}
-use Rattle.blk_format.specs.Storage.{longest_short_key}
-use Rattle.blk_volume.specs.Chains.{bucket_at, bucket_of_hash, is_of_bucket}
-use Rattle.blk_volume.specs.Entries.{is_key_length, stored_key}
-use Rattle.blk_volume.specs.Searches.{HasKey}
-use Rattle.blk_volume.specs.View.{RecordFields, entry_at, key_place_at, store_of}
-use Rattle.blk_laws.proofs.chains.ChainWords.{shown-chain_next, shown-fields}
-use Rattle.blk_laws.proofs.examples.SmallFolder.{folder_with}
+use Rattle.spec_image.specs.Bytes.{zeros}
+use Rattle.spec_image.specs.Image.{Image}
+use Rattle.spec_image.specs.Steps.{with_words}
+use Rattle.spec_image.proofs.Splices.{length-zeros}
+use Rattle.spec_image.proofs.Words.{length-with_words, word-there}
+use Rattle.spec_format.specs.Hash.{hash}
+use Rattle.spec_format.specs.Headers.{index_length}
+use Rattle.spec_format.specs.NewFolder.{new_index_words}
+use Rattle.spec_format.specs.Records.{child}
+use Rattle.spec_format.specs.Storage.{longest_short_key}
+use Rattle.spec_folder.specs.Chains.{bucket_at, bucket_of_hash, is_of_bucket}
+use Rattle.spec_folder.specs.Entries.{is_key_length, stored_key}
+use Rattle.spec_folder.specs.Searches.{HasKey}
+use Rattle.spec_folder.specs.View.{RecordFields, entry_at, key_place_at, store_of}
+use Rattle.law_folder.proofs.chains.ChainWords.{shown-chain_next, shown-fields}
+use Rattle.law_folder.proofs.examples.SmallFolder.{folder_with}
 use Rattle.blk_entry.specs.Keys.{HasReadableKey, key_at}
 
 -- the fields of a record of a new folder with a key of so many bytes at most, and no streams

@@ -4,39 +4,39 @@ use Rattle.std.specs.Prelude.{◌==◌, ◌&&◌, nat_le, if◌then◌else◌}
 use Rattle.std.specs.Option.{ForSome, option_map, option_map_or}
 use Rattle.std.proofs.lemmas.Bool.{cases_Bool, cases_eq, eq-eqb, or_right}
 use Rattle.std.proofs.lemmas.List.Elements.{All-nil, All-cons}
-use Rattle.blk_image.specs.Bytes.{content, word_at, word_bytes}
-use Rattle.blk_image.specs.Image.{AreBytes, File, Index, Block, Image, byte, bytes_of, length_of, word}
-use Rattle.blk_image.specs.Steps.{Word, applied, word_step, with_word}
-use Rattle.blk_image.specs.Footprint.{SameOutside}
-use Rattle.blk_image.specs.Told.{Told, TellsBytes, AppliesPrefix, Passes, CommitsAt, Commits}
-use Rattle.blk_image.proofs.Runs.{passes_end, some_inj, told_part}
-use Rattle.blk_image.proofs.Images.{bytes_of-written, length-after_write, word-after_same}
-use Rattle.blk_image.proofs.Words.{word-beside, word-fits}
-use Rattle.blk_image.proofs.WordSteps.{along_put}
-use Rattle.blk_format.specs.Address.{kind_of, file_selector, place, blocks_256}
-use Rattle.blk_format.specs.BlockFiles.{is_among, stands_in}
-use Rattle.blk_format.specs.Records.{entry_in, checks}
-use Rattle.blk_volume.specs.View.{RecordFields, entry_at, store_of}
-use Rattle.blk_volume.specs.Chains.{bucket_of_hash, file_and_block, IsChain, bucket_at}
-use Rattle.blk_format.specs.Claims.{claims_of, has_claim}
-use Rattle.blk_volume.specs.Entries.{stored_key}
-use Rattle.blk_laws.proofs.chains.ChainLinks.{later-leaves}
-use Rattle.blk_volume.specs.ShownChanges.{OnlyChainNextChanges}
-use Rattle.blk_laws.specs.RecordUpdates.{IsRecord}
-use Rattle.blk_laws.proofs.claims.Inside.{record-changes}
-use Rattle.blk_laws.proofs.updates.Records.{follows-written}
-use Rattle.blk_laws.proofs.updates.StillShown.{core-standing, standing-parts}
-use Rattle.blk_laws.proofs.updates.Updates.{entry-seal}
-use Rattle.blk_format.proofs.SealedRecords.{moment_before, moments, record_inside}
+use Rattle.spec_image.specs.Bytes.{content, word_at, word_bytes}
+use Rattle.spec_image.specs.Image.{AreBytes, File, Index, Block, Image, byte, bytes_of, length_of, word}
+use Rattle.spec_image.specs.Steps.{Word, applied, word_step, with_word}
+use Rattle.spec_image.specs.Footprint.{SameOutside}
+use Rattle.spec_image.specs.Told.{Told, TellsBytes, AppliesPrefix, Passes, CommitsAt, Commits}
+use Rattle.spec_image.proofs.Runs.{passes_end, some_inj, told_part}
+use Rattle.spec_image.proofs.Images.{bytes_of-written, length-after_write, word-after_same}
+use Rattle.spec_image.proofs.Words.{word-beside, word-fits}
+use Rattle.spec_image.proofs.WordSteps.{along_put}
+use Rattle.spec_format.specs.Address.{kind_of, file_selector, place, blocks_256}
+use Rattle.spec_format.specs.BlockFiles.{is_among, stands_in}
+use Rattle.spec_format.specs.Records.{entry_in, checks}
+use Rattle.spec_folder.specs.View.{RecordFields, entry_at, store_of}
+use Rattle.spec_folder.specs.Chains.{bucket_of_hash, file_and_block, IsChain, bucket_at}
+use Rattle.spec_format.specs.Claims.{claims_of, has_claim}
+use Rattle.spec_folder.specs.Entries.{stored_key}
+use Rattle.law_folder.proofs.chains.ChainLinks.{later-leaves}
+use Rattle.spec_folder.specs.ShownChanges.{OnlyChainNextChanges}
+use Rattle.law_folder.specs.RecordUpdates.{IsRecord}
+use Rattle.law_folder.proofs.claims.Inside.{record-changes}
+use Rattle.law_folder.proofs.updates.Records.{follows-written}
+use Rattle.law_folder.proofs.updates.StillShown.{core-standing, standing-parts}
+use Rattle.law_folder.proofs.updates.Updates.{entry-seal}
+use Rattle.spec_format.proofs.SealedRecords.{moment_before, moments, record_inside}
 use Rattle.blk_disk.proofs.Ranges.{stands_range}
 use Rattle.blk_disk.specs.declared.tables.BlockFiles.{BlockFiles}
 use Rattle.blk_disk.specs.Tables.{Agrees, stands_among}
-use Rattle.blk_format.specs.Sealed.{RecordChecks, AreChanges, IsMidUpdate, IsUpdated, new_seal, placed, record_at, record_range, record_size, seal_place, sealed_steps, size_by_kind, seal_by_kind, update_steps, update_words}
-use Rattle.blk_format.proofs.SealedFields.{record_word, updated_is_new}
+use Rattle.spec_format.specs.Sealed.{RecordChecks, AreChanges, IsMidUpdate, IsUpdated, new_seal, placed, record_at, record_range, record_size, seal_place, sealed_steps, size_by_kind, seal_by_kind, update_steps, update_words}
+use Rattle.spec_format.proofs.SealedFields.{record_word, updated_is_new}
 use Rattle.blk_chain.specs.Unlinking.{CanBeUnlinked, first_claim, IsApart, NamesStay, IsStillLinked, IsUnlinked, KeepsRecords, next_record}
-use Rattle.blk_image.proofs.Commits.{commits_none, commits_prefix}
-use Rattle.blk_laws.proofs.lists.WriteSteps.{quiet-sealed}
-use Rattle.blk_laws.proofs.chains.ChainWords.{record_checks, IsShownOf, shown-of, shown-fields, shown-kind, shown-chain_next, same-fields, same-chain_next}
+use Rattle.spec_image.proofs.Commits.{commits_none, commits_prefix}
+use Rattle.law_folder.proofs.lists.WriteSteps.{quiet-sealed}
+use Rattle.law_folder.proofs.chains.ChainWords.{record_checks, IsShownOf, shown-of, shown-fields, shown-kind, shown-chain_next, same-fields, same-chain_next}
 use Rattle.blk_chain.proofs.Words.{linked-good}
 use Rattle.blk_chain.proofs.Keys.{first_word, first-clear, first-record, first-moment}
 use Rattle.blk_chain.proofs.Apart.{middle-there, behind-there, front-apart, rest-apart}

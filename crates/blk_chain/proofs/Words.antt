@@ -2,9 +2,9 @@
 use Rattle.std.proofs.Common.{◌≡◌, ⊎_elim, ℕ, true, List, [], ◌∷◌, map, refl, subst}
 use Rattle.std.specs.Prelude.{◌==◌}
 use Rattle.std.proofs.lemmas.Bool.{or_left, or_right, or_cases, eq-eqb, eqb-true}
-use Rattle.blk_format.specs.BlockFiles.{is_among}
-use Rattle.blk_volume.specs.View.{StoreView}
-use Rattle.blk_volume.specs.Chains.{file_and_block, is_of_bucket, Linked}
+use Rattle.spec_format.specs.BlockFiles.{is_among}
+use Rattle.spec_folder.specs.View.{StoreView}
+use Rattle.spec_folder.specs.Chains.{file_and_block, is_of_bucket, Linked}
 
 -- each word of a chain names a record of the bucket
 pub linked-good : (store : StoreView) (b w : ℕ) (words : List ℕ) (x : ℕ) → Linked store b w words → is_among words x ≡ true → is_of_bucket store b x ≡ true

@@ -1,7 +1,7 @@
 -- What the calls ask of a folder is met.
 use Rattle.std.specs.Prelude.{ℕ, List, false}
 use Rattle.std.specs.declared.option.Option.TheVariants.{None}
-use Rattle.blk_image.specs.Image.{Image}
+use Rattle.spec_image.specs.Image.{Image}
 use Rattle.blk_chain.specs.Finding.{CanBeSearched, IsFound}
 use Rattle.blk_chain.specs.Unlinking.{CanBeUnlinked}
 

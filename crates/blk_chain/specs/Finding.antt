@@ -2,28 +2,28 @@
 use Rattle.std.specs.Prelude.{◌≡◌, ◌≢◌, ◌⊎◌, ℕ, ◌+◌, ◌<◌, ◌≤◌, List, [], ◌∷◌, ◌++◌, length, Bool, true, false, ◌==◌, IfSome}
 use Rattle.std.specs.declared.option.Option.{Option}
 use Rattle.std.specs.declared.option.Option.TheVariants.{None, Some}
-use Rattle.blk_image.specs.Image.{Image}
+use Rattle.spec_image.specs.Image.{Image}
 use Rattle.std.specs.Option.{ForSome}
-use Rattle.blk_image.specs.Told.{Told}
-use Rattle.blk_format.specs.Address.{file_selector, place}
-use Rattle.blk_format.specs.BlockFiles.{is_among}
-use Rattle.blk_format.specs.Headers.{place_of_bucket}
+use Rattle.spec_image.specs.Told.{Told}
+use Rattle.spec_format.specs.Address.{file_selector, place}
+use Rattle.spec_format.specs.BlockFiles.{is_among}
+use Rattle.spec_format.specs.Headers.{place_of_bucket}
 use Rattle.blk_io.specs.declared.folder.FileId.TheVariants as names
 use Rattle.blk_io.specs.declared.fault.Damage.{Damage}
 use Rattle.blk_io.specs.declared.fault.Fault.{Fault}
 use Rattle.blk_io.specs.declared.fault.Fault.TheVariants.{Damaged}
 use Rattle.blk_io.specs.Faults.{IsShort}
-use Rattle.blk_format.specs.Records.{child}
-use Rattle.blk_volume.specs.ListView.{most_nodes}
-use Rattle.blk_volume.specs.View.{RecordFields, entry_at, store_of}
-use Rattle.blk_volume.specs.Chains.{Linked}
+use Rattle.spec_format.specs.Records.{child}
+use Rattle.spec_folder.specs.ListView.{most_nodes}
+use Rattle.spec_folder.specs.View.{RecordFields, entry_at, store_of}
+use Rattle.spec_folder.specs.Chains.{Linked}
 use Rattle.blk_disk.specs.declared.tables.BlockFiles.{BlockFiles}
 use Rattle.blk_disk.specs.Tables.{is_record_among}
 use Rattle.blk_entry.specs.Keys.{HasBytesOf, HasReadableKey, HasRecord, IsKeyDamage}
 use Rattle.blk_chain.specs.declared.found.Found.{Found}
 use Rattle.blk_chain.specs.declared.finding.Step.{Step}
 use Rattle.blk_chain.specs.declared.finding.Step.TheVariants.{Here, On}
-use Rattle.blk_volume.specs.Searches.{bucket_of_key, chained_for, HasKey, IsWholeChain, NoneHasKey}
+use Rattle.spec_folder.specs.Searches.{bucket_of_key, chained_for, HasKey, IsWholeChain, NoneHasKey}
 use Rattle.blk_chain.specs.Unlinking.{StandsBehind, next_record}
 
 -- the most records of a chain that is searched: as many as a list has nodes

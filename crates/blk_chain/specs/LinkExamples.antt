@@ -1,8 +1,8 @@
 -- What a link asks of a folder is met.
 use Rattle.std.specs.Prelude.{◌≡◌, ℕ, [], ◌∷◌}
-use Rattle.blk_image.specs.Image.{Image}
-use Rattle.blk_format.specs.NewFolder.{new_index}
-use Rattle.blk_image.specs.Image.{Index}
+use Rattle.spec_image.specs.Image.{Image}
+use Rattle.spec_format.specs.NewFolder.{new_index}
+use Rattle.spec_image.specs.Image.{Index}
 use Rattle.std.specs.declared.option.Option.TheVariants.{Some}
 use Rattle.blk_chain.specs.Linking.{CanBeLinked, chained_with}
 

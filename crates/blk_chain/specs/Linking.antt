@@ -1,16 +1,16 @@
 -- A record is linked in front of its chain.
 use Rattle.std.specs.Prelude.{◌≡◌, ℕ, List, ◌∷◌, true, false, ◌==◌}
 use Rattle.std.specs.declared.option.Option.TheVariants.{Some}
-use Rattle.blk_image.specs.Image.{Image, Index}
-use Rattle.blk_image.specs.Steps.{TrailStep, word_step}
-use Rattle.blk_image.specs.Footprint.{SameOutside, one_word}
-use Rattle.blk_format.specs.Headers.{place_of_bucket}
-use Rattle.blk_format.specs.BlockFiles.{is_among, IsWellFormed}
-use Rattle.blk_format.specs.Records.{child}
-use Rattle.blk_volume.specs.ListView.{put}
-use Rattle.blk_volume.specs.View.{RecordFields, list_of, store_of}
-use Rattle.blk_volume.specs.Chains.{chain, IsChain, bucket_at}
-use Rattle.blk_volume.specs.Searches.{HasKey, IsWholeChain}
+use Rattle.spec_image.specs.Image.{Image, Index}
+use Rattle.spec_image.specs.Steps.{TrailStep, word_step}
+use Rattle.spec_image.specs.Footprint.{SameOutside, one_word}
+use Rattle.spec_format.specs.Headers.{place_of_bucket}
+use Rattle.spec_format.specs.BlockFiles.{is_among, IsWellFormed}
+use Rattle.spec_format.specs.Records.{child}
+use Rattle.spec_folder.specs.ListView.{put}
+use Rattle.spec_folder.specs.View.{RecordFields, list_of, store_of}
+use Rattle.spec_folder.specs.Chains.{chain, IsChain, bucket_at}
+use Rattle.spec_folder.specs.Searches.{HasKey, IsWholeChain}
 
 -- the records of the chain that the record of a word belongs to
 abbrev pub chained_with : Image → ℕ → List ℕ

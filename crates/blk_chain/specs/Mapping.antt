@@ -1,10 +1,10 @@
 -- The chains as a map from keys and child flags to records.
 use Rattle.std.specs.Prelude.{◌≡◌, ◌≢◌, ◌↔◌, ℕ, List, Bool, true}
 use Rattle.std.specs.declared.option.Option.{Option}
-use Rattle.blk_image.specs.Image.{Image}
-use Rattle.blk_format.specs.BlockFiles.{is_among}
-use Rattle.blk_volume.specs.View.{store_of}
-use Rattle.blk_volume.specs.Searches.{HasKey, chained_for}
+use Rattle.spec_image.specs.Image.{Image}
+use Rattle.spec_format.specs.BlockFiles.{is_among}
+use Rattle.spec_folder.specs.View.{store_of}
+use Rattle.spec_folder.specs.Searches.{HasKey, chained_for}
 use Rattle.blk_chain.specs.Unlinking.{KeyIsApart}
 
 -- a record is that of a key and a child flag: it has them, and it is in the chain of the key's bucket

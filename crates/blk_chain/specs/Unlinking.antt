@@ -2,25 +2,25 @@
 use Rattle.std.specs.Prelude.{◌≡◌, ◌≢◌, ◌↔◌, ◌⊎◌, ℕ, ◌+◌, List, [], ◌∷◌, ◌++◌, Bool, true, false, nat_le, ◌==◌}
 use Rattle.std.specs.declared.option.Option.{Option}
 use Rattle.std.specs.declared.option.Option.TheVariants.{None, Some}
-use Rattle.blk_image.specs.Image.{Image, Index}
-use Rattle.blk_image.specs.Steps.{TrailStep, word_step}
-use Rattle.blk_image.specs.Footprint.{Footprint, SameOutside, one_word}
-use Rattle.blk_image.specs.Told.{Told}
-use Rattle.blk_format.specs.Address.{file_selector, first_block, place}
-use Rattle.blk_format.specs.Claims.{Claim, BlockOf, claims_of, has_claim}
-use Rattle.blk_format.specs.BlockFiles.{IsWellFormed}
+use Rattle.spec_image.specs.Image.{Image, Index}
+use Rattle.spec_image.specs.Steps.{TrailStep, word_step}
+use Rattle.spec_image.specs.Footprint.{Footprint, SameOutside, one_word}
+use Rattle.spec_image.specs.Told.{Told}
+use Rattle.spec_format.specs.Address.{file_selector, first_block, place}
+use Rattle.spec_format.specs.Claims.{Claim, BlockOf, claims_of, has_claim}
+use Rattle.spec_format.specs.BlockFiles.{IsWellFormed}
 use Rattle.blk_io.specs.declared.folder.FileId.TheVariants as names
 use Rattle.blk_io.specs.declared.fault.Damage.{Damage}
 use Rattle.blk_io.specs.Faults.{IsShort}
-use Rattle.blk_volume.specs.ListView.{put}
-use Rattle.blk_volume.specs.View.{RecordFields, StoreView, entry_at, list_of, store_of}
-use Rattle.blk_volume.specs.Entries.{is_key_length}
-use Rattle.blk_volume.specs.Chains.{chain, file_and_block, IsChain, bucket_at}
+use Rattle.spec_folder.specs.ListView.{put}
+use Rattle.spec_folder.specs.View.{RecordFields, StoreView, entry_at, list_of, store_of}
+use Rattle.spec_folder.specs.Entries.{is_key_length}
+use Rattle.spec_folder.specs.Chains.{chain, file_and_block, IsChain, bucket_at}
 use Rattle.blk_disk.specs.Damages.{IsFailedRecord}
-use Rattle.blk_format.specs.Sealed.{IsUpdated, RecordChecks, record_range, record_size, sealed_steps}
-use Rattle.blk_volume.specs.Searches.{HasKey, IsWholeChain}
+use Rattle.spec_format.specs.Sealed.{IsUpdated, RecordChecks, record_range, record_size, sealed_steps}
+use Rattle.spec_folder.specs.Searches.{HasKey, IsWholeChain}
 use Rattle.blk_chain.specs.Linking.{chained_with, place_of_front}
-use Rattle.blk_format.specs.Storage.{longest_short_key}
+use Rattle.spec_format.specs.Storage.{longest_short_key}
 
 -- words have this one, with the word before it, if there is one, so many before that, and these behind
 abbrev pub StandsBehind : List ℕ → ℕ → Option ℕ → List ℕ → List ℕ → Type 0

@@ -1,19 +1,19 @@
 // Records that are found by their keys.
 ghost use Rattle.std.specs.Prelude.{◌≡◌, ◌≢◌, ◌↔◌, ◌≤◌, IfOk, IfSome, IsOk, IsTrue, None, OnOk, true, length};
 ghost use Rattle.std.specs.Option.{ForSome};
-ghost use Rattle.blk_image.specs.Image.{HasRange, Index as index};
-ghost use Rattle.blk_image.specs.Told.{Rises, Stays};
-ghost use Rattle.blk_format.specs.Address.{blocks_256, kind_of};
-ghost use Rattle.blk_format.specs.Hash.{hash as hash_of};
-ghost use Rattle.blk_format.specs.Headers.{HasWholeIndex, place_of_bucket};
+ghost use Rattle.spec_image.specs.Image.{HasRange, Index as index};
+ghost use Rattle.spec_image.specs.Told.{Rises, Stays};
+ghost use Rattle.spec_format.specs.Address.{blocks_256, kind_of};
+ghost use Rattle.spec_format.specs.Hash.{hash as hash_of};
+ghost use Rattle.spec_format.specs.Headers.{HasWholeIndex, place_of_bucket};
 ghost use Rattle.blk_io.specs.Faults.{IfDamaged, IfDevice};
-ghost use Rattle.blk_volume.specs.Chains.{bucket_of_hash};
-ghost use Rattle.blk_volume.specs.View.{store_of};
+ghost use Rattle.spec_folder.specs.Chains.{bucket_of_hash};
+ghost use Rattle.spec_folder.specs.View.{store_of};
 ghost use Rattle.blk_disk.specs.Tables.{Agrees, is_record_among, stands_among};
 ghost use Rattle.blk_entry.specs.Keys.{CanBeRead, IsRecordHead, IsPlaceDamage};
 ghost use Rattle.blk_chain.specs.Unlinking.{CanBeUnlinked};
 ghost use Rattle.blk_chain.specs.Finding.{CanBeSearched, IsAnswer, IsDanglingLink, IsChainDamage, IsKeyed, IsFaultOfLink, IsOutcome, IsSearchDamage, IsSought, IsSearchStep, StandsAt, StandsBefore};
-ghost use Rattle.blk_volume.specs.Searches.{bucket_of_key};
+ghost use Rattle.spec_folder.specs.Searches.{bucket_of_key};
 
 use crate::found::Found;
 use bitflags::Flags;

@@ -1,9 +1,9 @@
 // Records that are linked in front of a chain.
 ghost use Rattle.std.specs.Prelude.{◌≡◌, ◌≤◌, IsTrue, None, OnOk};
 ghost use Rattle.std.specs.Option.{ForSome};
-ghost use Rattle.blk_image.specs.Image.{Block as block, HasRange};
-ghost use Rattle.blk_image.specs.Told.{Applies, Commits, MakesPartOf, Rises, Stays};
-ghost use Rattle.blk_format.specs.Address.{blocks_256, file_selector, kind_of, place};
+ghost use Rattle.spec_image.specs.Image.{Block as block, HasRange};
+ghost use Rattle.spec_image.specs.Told.{Applies, Commits, MakesPartOf, Rises, Stays};
+ghost use Rattle.spec_format.specs.Address.{blocks_256, file_selector, kind_of, place};
 ghost use Rattle.blk_io.specs.declared.folder.FileId.TheVariants as FileId;
 ghost use Rattle.blk_io.specs.Faults.{IfDamaged, IfDevice, IsShort};
 ghost use Rattle.blk_disk.specs.Tables.{stands_among};

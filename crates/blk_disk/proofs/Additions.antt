@@ -2,24 +2,24 @@
 use Rattle.std.proofs.Common.{◌≡◌, ℕ, ◌%◌, ◌/◌, ◌<◌, Bool, true, false, ◌&&◌, ◌||◌, nat_le, List, [], ◌∷◌, length, Option, None, Some, unwrap_or, refl, ◌∙◌, ap, arith, inl, inr}
 use Rattle.std.specs.Prelude.{◌==◌}
 use Rattle.std.proofs.lemmas.Bool.Decides.{nat_tests}
-use Rattle.blk_image.specs.Bytes.{content, resized, word_at, zeros}
-use Rattle.blk_image.specs.Checks.{first_of}
-use Rattle.blk_image.specs.Footprint.{SameOutside, IsWithin, touched_by_all, whole}
-use Rattle.blk_image.specs.Image.{File, Block, Image, bytes_of, same_file, with_file}
-use Rattle.blk_image.specs.Steps.{Word, SetLength, applied, after, words, before_words, word_step, word_steps, with_word, with_words}
-use Rattle.blk_image.specs.Told.{Along, IsQuiet}
-use Rattle.blk_image.proofs.Cuts.{after-word_steps}
-use Rattle.blk_image.proofs.Footprints.{outside-refl, outside_steps}
-use Rattle.blk_image.proofs.Images.{with_file-same, with_file-twice}
-use Rattle.blk_image.proofs.Splices.{length-zeros, resized-empty, resized-zero}
-use Rattle.blk_image.proofs.WordSteps.{quiet-word_steps}
-use Rattle.blk_image.proofs.Words.{length-with_word, length-with_words, word-beside, word-there, word-zeros}
-use Rattle.blk_format.specs.Address.{block_size}
-use Rattle.blk_format.specs.Headers.{block_magic, version, magic_of, version_of, this_file_of, next_file_of, entry_size_of, max_entries_of}
-use Rattle.blk_format.specs.BlockFiles.{file_checks, is_block_count}
+use Rattle.spec_image.specs.Bytes.{content, resized, word_at, zeros}
+use Rattle.spec_image.specs.Checks.{first_of}
+use Rattle.spec_image.specs.Footprint.{SameOutside, IsWithin, touched_by_all, whole}
+use Rattle.spec_image.specs.Image.{File, Block, Image, bytes_of, same_file, with_file}
+use Rattle.spec_image.specs.Steps.{Word, SetLength, applied, after, words, before_words, word_step, word_steps, with_word, with_words}
+use Rattle.spec_image.specs.Told.{Along, IsQuiet}
+use Rattle.spec_image.proofs.Cuts.{after-word_steps}
+use Rattle.spec_image.proofs.Footprints.{outside-refl, outside_steps}
+use Rattle.spec_image.proofs.Images.{with_file-same, with_file-twice}
+use Rattle.spec_image.proofs.Splices.{length-zeros, resized-empty, resized-zero}
+use Rattle.spec_image.proofs.WordSteps.{quiet-word_steps}
+use Rattle.spec_image.proofs.Words.{length-with_word, length-with_words, word-beside, word-there, word-zeros}
+use Rattle.spec_format.specs.Address.{block_size}
+use Rattle.spec_format.specs.Headers.{block_magic, version, magic_of, version_of, this_file_of, next_file_of, entry_size_of, max_entries_of}
+use Rattle.spec_format.specs.BlockFiles.{file_checks, is_block_count}
 use Rattle.blk_disk.specs.Growth.{header_words, link_steps, file_steps}
 use Rattle.blk_disk.proofs.Ranges.{size_small}
-use Rattle.blk_format.proofs.Keeping.{checks_none, link_zero}
+use Rattle.spec_format.proofs.Keeping.{checks_none, link_zero}
 
 -- two bytes at the upper half of a word are one step
 words-half : (f : File) (a b : ℕ) → words f 10 (a ∷ b ∷ []) ≡ Word f 10 (a ∷ b ∷ []) ∷ []

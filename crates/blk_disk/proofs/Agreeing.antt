@@ -1,17 +1,17 @@
 -- What is kept of the block files goes on agreeing with them, where no header and no length changes.
 use Rattle.std.proofs.Common.{◌≡◌, ℕ, ◌≤◌, true, false, List, refl, sym, ⊎_elim, ◌∙◌, ap, subst, arith}
-use Rattle.blk_image.specs.Image.{Block, Image, length_of}
-use Rattle.blk_image.specs.Footprint.{Footprint, SameOutside, size_of}
-use Rattle.blk_image.specs.Steps.{applied, SetLength}
-use Rattle.blk_image.proofs.Images.{length-after_set_len}
-use Rattle.blk_image.proofs.Footprints.{outside_longer}
+use Rattle.spec_image.specs.Image.{Block, Image, length_of}
+use Rattle.spec_image.specs.Footprint.{Footprint, SameOutside, size_of}
+use Rattle.spec_image.specs.Steps.{applied, SetLength}
+use Rattle.spec_image.proofs.Images.{length-after_set_len}
+use Rattle.spec_image.proofs.Footprints.{outside_longer}
 use Rattle.std.proofs.lemmas.Bool.{cases_eq}
-use Rattle.blk_format.specs.BlockFiles.{is_among}
-use Rattle.blk_format.proofs.Keeping.{undamaged_still}
-use Rattle.blk_format.proofs.SpareHeaders.{SparesHeaders, next_same, blocks_same, linked_same, heads_still, other_file, sizes_spare}
+use Rattle.spec_format.specs.BlockFiles.{is_among}
+use Rattle.spec_format.proofs.Keeping.{undamaged_still}
+use Rattle.spec_format.proofs.SpareHeaders.{SparesHeaders, next_same, blocks_same, linked_same, heads_still, other_file, sizes_spare}
 use Rattle.std.specs.Option.{ForSome}
 use Rattle.std.specs.Prelude.{Ok}
-use Rattle.blk_image.specs.Told.{Told}
+use Rattle.spec_image.specs.Told.{Told}
 use Rattle.blk_disk.specs.Loading.{LoadsAs}
 use Rattle.blk_disk.specs.declared.tables.BlockFiles.{BlockFiles}
 use Rattle.blk_disk.specs.Tables.{Agrees, Resizes, all_files, length_in}

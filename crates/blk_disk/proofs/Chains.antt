@@ -3,13 +3,13 @@ use Rattle.std.proofs.Common.{◌≡◌, ◌≢◌, ℕ, zero, suc, ◌-◌, ◌
 use Rattle.std.specs.Prelude.{◌==◌}
 use Rattle.std.proofs.lemmas.Bool.{cases_lt}
 use Rattle.std.proofs.lemmas.Bool.Decides.{nat_tests}
-use Rattle.blk_image.specs.Image.{Block, Image, byte, length_of}
-use Rattle.blk_image.specs.Checks.{first_of}
-use Rattle.blk_format.specs.Address.{is_block_kind}
-use Rattle.blk_format.specs.BlockFiles.{next_file_in, files_along, linked, linked_up_to, is_among, is_link, file_checks, checks_along, checks_of_kind, first_block_damage}
-use Rattle.blk_format.proofs.Among.{is_among-append, is_among_more}
+use Rattle.spec_image.specs.Image.{Block, Image, byte, length_of}
+use Rattle.spec_image.specs.Checks.{first_of}
+use Rattle.spec_format.specs.Address.{is_block_kind}
+use Rattle.spec_format.specs.BlockFiles.{next_file_in, files_along, linked, linked_up_to, is_among, is_link, file_checks, checks_along, checks_of_kind, first_block_damage}
+use Rattle.spec_format.proofs.Among.{is_among-append, is_among_more}
 use Rattle.blk_disk.proofs.Firsts.{length_passed}
-use Rattle.blk_format.proofs.Keeping.{none_parts, each_kind, link_of}
+use Rattle.spec_format.proofs.Keeping.{none_parts, each_kind, link_of}
 
 differ : (b : Bool) → b ≡ true → b ≡ false → ⊥
 differ b e d = cc

@@ -5,26 +5,26 @@ use Rattle.std.specs.Option.{ForSome, option_map}
 use Rattle.std.specs.declared.option.Option.{Option}
 use Rattle.std.proofs.lemmas.Bool.{cases_eq, cases_lt}
 use Rattle.std.proofs.lemmas.Bool.Decides.{nat_tests}
-use Rattle.blk_image.specs.Bytes.{word_bytes}
-use Rattle.blk_image.specs.Checks.{first_of}
-use Rattle.blk_image.specs.Image.{Index, Block, External, Image, byte, length_of, word, same_file}
-use Rattle.blk_image.specs.Steps.{TrailStep, Word, SetLength, applied, after, word_step, word_steps}
-use Rattle.blk_image.specs.Told.{Told, Applies, AppliesPrefix, Passes, Along, Until, IsQuiet}
-use Rattle.blk_image.specs.Footprint.{SameOutside, either, one_word, size_of}
-use Rattle.blk_image.proofs.Cuts.{after-append}
-use Rattle.blk_image.proofs.Footprints.{same_file_outside, outside-refl, outside-trans, outside_wider, outside_write, outside_longer, same_word_outside, within_left, within_right}
-use Rattle.blk_image.proofs.Images.{word-after_same, word-after_other, length-after_set_len, length-after_word}
-use Rattle.blk_image.proofs.Runs.{until-append, until_last, until_weaker2, quiet-append, grows_then, part_then, passes_part, passes_step, some_inj, told_whole}
-use Rattle.blk_image.proofs.WordSteps.{quiet-word_steps}
-use Rattle.blk_image.proofs.Words.{same-word_at}
-use Rattle.blk_format.specs.Headers.{head_checks, list_checks}
-use Rattle.blk_format.specs.BlockFiles.{is_among, linked, kind_among, files_along, next_file_in, max_entries_in, is_block_count, block_checks, first_block_damage, IsWellFormed}
+use Rattle.spec_image.specs.Bytes.{word_bytes}
+use Rattle.spec_image.specs.Checks.{first_of}
+use Rattle.spec_image.specs.Image.{Index, Block, External, Image, byte, length_of, word, same_file}
+use Rattle.spec_image.specs.Steps.{TrailStep, Word, SetLength, applied, after, word_step, word_steps}
+use Rattle.spec_image.specs.Told.{Told, Applies, AppliesPrefix, Passes, Along, Until, IsQuiet}
+use Rattle.spec_image.specs.Footprint.{SameOutside, either, one_word, size_of}
+use Rattle.spec_image.proofs.Cuts.{after-append}
+use Rattle.spec_image.proofs.Footprints.{same_file_outside, outside-refl, outside-trans, outside_wider, outside_write, outside_longer, same_word_outside, within_left, within_right}
+use Rattle.spec_image.proofs.Images.{word-after_same, word-after_other, length-after_set_len, length-after_word}
+use Rattle.spec_image.proofs.Runs.{until-append, until_last, until_weaker2, quiet-append, grows_then, part_then, passes_part, passes_step, some_inj, told_whole}
+use Rattle.spec_image.proofs.WordSteps.{quiet-word_steps}
+use Rattle.spec_image.proofs.Words.{same-word_at}
+use Rattle.spec_format.specs.Headers.{head_checks, list_checks}
+use Rattle.spec_format.specs.BlockFiles.{is_among, linked, kind_among, files_along, next_file_in, max_entries_in, is_block_count, block_checks, first_block_damage, IsWellFormed}
 use Rattle.blk_disk.specs.declared.tables.BlockFiles.{BlockFiles}
 use Rattle.blk_disk.specs.Tables.{Agrees, Enlarges, all_files, blocks_of, files_of, length_in}
-use Rattle.blk_format.specs.Growth.{HaveGrown, StaysWhole, StaysWholeOutside}
+use Rattle.spec_format.specs.Growth.{HaveGrown, StaysWhole, StaysWholeOutside}
 use Rattle.blk_disk.specs.Growth.{grown, grown_length, growth_of, grow_steps, lengthen_steps, new_groups, raise_steps, raised, size_as}
-use Rattle.blk_format.proofs.SpareHeaders.{blocks_same, sizes_spare, other_file}
-use Rattle.blk_format.proofs.Keeping.{KeepsHead, none_parts, none_both, undamaged_still}
+use Rattle.spec_format.proofs.SpareHeaders.{blocks_same, sizes_spare, other_file}
+use Rattle.spec_format.proofs.Keeping.{KeepsHead, none_parts, none_both, undamaged_still}
 
 -- a folder is still well formed where its index is as it was and no check of a block file fails
 pub well_formed_still : (a b : Image) → ((i : ℕ) → byte b Index i ≡ byte a Index i) → length_of b Index ≡ length_of a Index → (first_block_damage a ≡ None → first_block_damage b ≡ None) → IsWellFormed a → IsWellFormed b

@@ -2,10 +2,10 @@
 use Rattle.std.specs.Prelude.{nat_le}
 use Rattle.std.proofs.Common.{inr, ◌%◌, ◌^◌, ◌==◌, ◌-◌, ◌≡◌, ℕ, ◌+◌, Bool, true, false, if◌then◌else◌, List, None, Some, refl, arith, ◌≤◌}
 use Rattle.std.proofs.lemmas.Bool.Decides.{nat_tests}
-use Rattle.blk_image.specs.Image.{Block}
-use Rattle.blk_image.specs.Checks.{first_of}
-use Rattle.blk_image.proofs.FirstChecks.{all_none, passed}
-use Rattle.blk_format.specs.BlockFiles.{file_checks, is_link}
+use Rattle.spec_image.specs.Image.{Block}
+use Rattle.spec_image.specs.Checks.{first_of}
+use Rattle.spec_image.proofs.FirstChecks.{all_none, passed}
+use Rattle.spec_format.specs.BlockFiles.{file_checks, is_link}
 use Rattle.blk_disk.specs.Loading.{HasRoom, MayBeNext, next_of}
 
 -- the length of a file whose checks hold

@@ -5,12 +5,12 @@ use Rattle.std.specs.declared.option.Option.{Option}
 use Rattle.std.proofs.lemmas.Bool.Decides.{nat_tests}
 use Rattle.std.proofs.lemmas.Bool.{cases_eq, cases_lt}
 use Rattle.std.proofs.lemmas.List.{length-append, append-nil}
-use Rattle.blk_image.specs.Image.{Block, Image, byte, length_of}
-use Rattle.blk_image.specs.Checks as checks
-use Rattle.blk_image.specs.Checks.{first_of}
-use Rattle.blk_image.specs.Told.{Told}
-use Rattle.blk_format.specs.Address.{is_block_kind}
-use Rattle.blk_format.specs.BlockFiles.{next_file_in, max_entries_in, files_along, linked, linked_up_to, is_among, is_link, file_checks, checks_along, checks_of_kind, block_checks, first_block_damage}
+use Rattle.spec_image.specs.Image.{Block, Image, byte, length_of}
+use Rattle.spec_image.specs.Checks as checks
+use Rattle.spec_image.specs.Checks.{first_of}
+use Rattle.spec_image.specs.Told.{Told}
+use Rattle.spec_format.specs.Address.{is_block_kind}
+use Rattle.spec_format.specs.BlockFiles.{next_file_in, max_entries_in, files_along, linked, linked_up_to, is_among, is_link, file_checks, checks_along, checks_of_kind, block_checks, first_block_damage}
 use Rattle.blk_addr.specs.declared.kinds.Kind.{Kind}
 use Rattle.blk_addr.specs.declared.kinds.Kind.TheVariants.{External, Rankings, B256, B1K, B4K}
 use Rattle.blk_addr.specs.Kind.{kind_number}
@@ -22,10 +22,10 @@ use Rattle.blk_io.specs.declared.fault.Fault.{Fault}
 use Rattle.blk_io.specs.declared.fault.Fault.TheVariants.{Device, Damaged}
 use Rattle.blk_io.specs.Faults.{IfDamaged, damage_of}
 use Rattle.blk_disk.specs.Loading.{Follows, IsFileNumber, IsHeaderDamage, IsLoadDamage, ReadsAs, IsFileHead, files_left, next_checks, checks_after, checks_from, links_from, next_of}
-use Rattle.blk_format.proofs.Among.{is_among_more}
-use Rattle.blk_format.proofs.Keeping.{last_link}
-use Rattle.blk_image.proofs.FirstChecks.{append_some, append_none}
-use Rattle.blk_format.proofs.LinkedHeads.{link_passed}
+use Rattle.spec_format.proofs.Among.{is_among_more}
+use Rattle.spec_format.proofs.Keeping.{last_link}
+use Rattle.spec_image.proofs.FirstChecks.{append_some, append_none}
+use Rattle.spec_format.proofs.LinkedHeads.{link_passed}
 
 less_one : (n : ℕ) → suc n - 1 ≡ n
 less_one n = omega arith

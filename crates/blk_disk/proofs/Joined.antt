@@ -5,34 +5,34 @@ use Rattle.std.specs.Option.{ForSome}
 use Rattle.std.proofs.lemmas.Bool.{cases_eq}
 use Rattle.std.proofs.lemmas.Bool.Decides.{nat_tests}
 use Rattle.std.proofs.lemmas.List.Folds.{list_any_at}
-use Rattle.blk_image.specs.Bytes.{content}
-use Rattle.blk_image.specs.Checks.{first_of}
-use Rattle.blk_image.specs.Footprint.{SameOutside, range, whole}
-use Rattle.blk_image.specs.Image.{Index, Block, External as external_file, Image, byte, bytes_of, length_of, same_file}
-use Rattle.blk_image.specs.Steps.{Word, applied, after}
-use Rattle.blk_image.specs.Told.{Told, Applies, AppliesPrefix, Passes, Along, Until, IsQuiet}
-use Rattle.blk_image.proofs.Cuts.{after-append}
-use Rattle.blk_image.proofs.Footprints.{same_file_outside, outside-trans, outside_wider, outside_write, within_left, within_right}
-use Rattle.blk_image.proofs.Images.{bytes_of-written, other-word, with_file-same}
-use Rattle.blk_image.proofs.Runs.{passes_part, quiet-append, some_inj, told_whole, until-append, until_last, until_weaker2}
-use Rattle.blk_image.proofs.Splices.{content-spliced_inside}
-use Rattle.blk_image.proofs.Words.{same-word_at}
-use Rattle.blk_format.specs.Address.{is_block_kind}
-use Rattle.blk_format.specs.BlockFiles.{next_file_in, max_entries_in, files_along, linked, linked_as, linked_up_to, is_among, is_block_count, checks_along, checks_of_kind, first_block_damage, kind_among, IsWellFormed}
+use Rattle.spec_image.specs.Bytes.{content}
+use Rattle.spec_image.specs.Checks.{first_of}
+use Rattle.spec_image.specs.Footprint.{SameOutside, range, whole}
+use Rattle.spec_image.specs.Image.{Index, Block, External as external_file, Image, byte, bytes_of, length_of, same_file}
+use Rattle.spec_image.specs.Steps.{Word, applied, after}
+use Rattle.spec_image.specs.Told.{Told, Applies, AppliesPrefix, Passes, Along, Until, IsQuiet}
+use Rattle.spec_image.proofs.Cuts.{after-append}
+use Rattle.spec_image.proofs.Footprints.{same_file_outside, outside-trans, outside_wider, outside_write, within_left, within_right}
+use Rattle.spec_image.proofs.Images.{bytes_of-written, other-word, with_file-same}
+use Rattle.spec_image.proofs.Runs.{passes_part, quiet-append, some_inj, told_whole, until-append, until_last, until_weaker2}
+use Rattle.spec_image.proofs.Splices.{content-spliced_inside}
+use Rattle.spec_image.proofs.Words.{same-word_at}
+use Rattle.spec_format.specs.Address.{is_block_kind}
+use Rattle.spec_format.specs.BlockFiles.{next_file_in, max_entries_in, files_along, linked, linked_as, linked_up_to, is_among, is_block_count, checks_along, checks_of_kind, first_block_damage, kind_among, IsWellFormed}
 use Rattle.blk_addr.specs.declared.kinds.Kind.{Kind}
 use Rattle.blk_addr.specs.declared.kinds.Kind.TheVariants.{External, Rankings, B256, B1K, B4K}
 use Rattle.blk_addr.specs.Kind.{kind_number}
 use Rattle.blk_disk.specs.declared.tables.BlockFiles.{BlockFiles}
 use Rattle.blk_disk.specs.Tables.{Agrees, Joins, all_files, blocks_of, files_of, length_in}
-use Rattle.blk_format.specs.Growth.{HaveGrown, StaysWholeOutside}
+use Rattle.spec_format.specs.Growth.{HaveGrown, StaysWholeOutside}
 use Rattle.blk_disk.specs.Growth.{IsLeastFileNumber, add_steps, addition_of, free_number, last_file, link_steps, file_steps}
 use Rattle.blk_disk.proofs.Additions.{IsNew, header_new, header_size_is, made_is, making_outside, making_quiet, new_header, new_passes, next_is}
-use Rattle.blk_format.proofs.SpareHeaders.{other_file}
+use Rattle.spec_format.proofs.SpareHeaders.{other_file}
 use Rattle.blk_disk.proofs.Among.{all_files_among}
-use Rattle.blk_format.proofs.Among.{is_among-append, is_among_more}
+use Rattle.spec_format.proofs.Among.{is_among-append, is_among_more}
 use Rattle.blk_disk.proofs.Chains.{block_kind, fails, linked_once, met_in, or_cases, kind_none}
 use Rattle.blk_disk.proofs.Enlarging.{well_formed_still}
-use Rattle.blk_format.proofs.Keeping.{KeepsHead, all_kinds, along_kept, links_kept}
+use Rattle.spec_format.proofs.Keeping.{KeepsHead, all_kinds, along_kept, links_kept}
 use Rattle.blk_disk.proofs.Linking.{checks_added, ends, links_added, some_along}
 
 differ : (b : Bool) → b ≡ true → b ≡ false → ⊥

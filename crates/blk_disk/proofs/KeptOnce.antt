@@ -5,8 +5,8 @@ use Rattle.std.specs.List.{IsDistinct, AllByRecursion}
 use Rattle.std.proofs.lemmas.Bool.{cases_eq, or_cases, or_from, or_parts}
 use Rattle.std.proofs.lemmas.Bool.Decides.{nat_tests}
 use Rattle.std.proofs.lemmas.List.{append-nil}
-use Rattle.blk_format.specs.BlockFiles.{is_among, is_block_count, kind_among}
-use Rattle.blk_format.proofs.Among.{is_among-append}
+use Rattle.spec_format.specs.BlockFiles.{is_among, is_block_count, kind_among}
+use Rattle.spec_format.proofs.Among.{is_among-append}
 use Rattle.blk_disk.specs.declared.tables.BlockFiles.{BlockFiles}
 use Rattle.blk_disk.specs.Kept.{KeptFilesAreDistinct, KeptFilesHaveBlockCounts, KeptFilesHaveOneKind}
 use Rattle.blk_disk.specs.Tables.{all_files, blocks_of, files_of}

@@ -2,11 +2,11 @@
 use Rattle.std.proofs.Common.{◌≡◌, ◌≢◌, ℕ, zero, suc, ◌-◌, ◌<◌, ◌≤◌, Bool, true, false, nat_le, nat_lt, if◌then◌else◌, List, [], ◌∷◌, ◌++◌, length, get_or, None, refl, sym, ◌∙◌, ap, subst, arith}
 use Rattle.std.specs.Prelude.{◌==◌}
 use Rattle.std.proofs.lemmas.Bool.Decides.{nat_tests}
-use Rattle.blk_image.specs.Image.{Block, Image, byte, length_of}
-use Rattle.blk_image.specs.Checks.{first_of}
-use Rattle.blk_format.specs.BlockFiles.{next_file_in, files_along, is_among, is_link, file_checks, checks_along}
-use Rattle.blk_format.proofs.Among.{is_among_more}
-use Rattle.blk_format.proofs.Keeping.{KeepsHead, Inside, Same, none_parts, none_both, kept_file, step_kept, same_more, first_along, later_along}
+use Rattle.spec_image.specs.Image.{Block, Image, byte, length_of}
+use Rattle.spec_image.specs.Checks.{first_of}
+use Rattle.spec_format.specs.BlockFiles.{next_file_in, files_along, is_among, is_link, file_checks, checks_along}
+use Rattle.spec_format.proofs.Among.{is_among_more}
+use Rattle.spec_format.proofs.Keeping.{KeepsHead, Inside, Same, none_parts, none_both, kept_file, step_kept, same_more, first_along, later_along}
 
 differ : (b : Bool) → b ≡ true → b ≡ false → ⊥
 differ b e d = cc

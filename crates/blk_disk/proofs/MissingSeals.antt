@@ -2,17 +2,17 @@
 use Rattle.std.proofs.Common.{◌≡◌, ℕ, ◌+◌, ◌%◌, ◌≤◌, Bool, true, false, if◌then◌else◌, List, [], ◌∷◌, Option, None, Some, refl, sym, ◌∙◌, ap, ap₂, subst, arith}
 use Rattle.std.specs.Option.{ForSome}
 use Rattle.std.proofs.lemmas.List.Elements.{All-cons, All-nil}
-use Rattle.blk_image.specs.Image.{AreBytes, Block, Image, length_of}
-use Rattle.blk_image.specs.Steps.{after, word_step}
-use Rattle.blk_image.specs.Footprint.{SameOutside}
-use Rattle.blk_image.specs.Told.{Told, Applies, AppliesPrefix, Passes, Along, Until, IsQuiet}
-use Rattle.blk_image.proofs.Footprints.{outside-refl}
-use Rattle.blk_image.proofs.Runs.{passes_part, some_inj, told_part, told_whole, until_weaker2}
-use Rattle.blk_image.proofs.WordSteps.{quiet-word_step}
-use Rattle.blk_format.specs.Address.{file_selector, kind_of, place}
-use Rattle.blk_format.specs.Records.{seal_of}
-use Rattle.blk_format.specs.Sealed.{BeginsWithRecord, IsMidUpdate, IsUpdated, RecordChecks, is_sealed, record_at, record_range, record_size, seal_by_kind, seal_place, seal_steps}
-use Rattle.blk_format.proofs.SealedRecords.{seal_aligned, sealed_after, sealing, words_stay}
+use Rattle.spec_image.specs.Image.{AreBytes, Block, Image, length_of}
+use Rattle.spec_image.specs.Steps.{after, word_step}
+use Rattle.spec_image.specs.Footprint.{SameOutside}
+use Rattle.spec_image.specs.Told.{Told, Applies, AppliesPrefix, Passes, Along, Until, IsQuiet}
+use Rattle.spec_image.proofs.Footprints.{outside-refl}
+use Rattle.spec_image.proofs.Runs.{passes_part, some_inj, told_part, told_whole, until_weaker2}
+use Rattle.spec_image.proofs.WordSteps.{quiet-word_step}
+use Rattle.spec_format.specs.Address.{file_selector, kind_of, place}
+use Rattle.spec_format.specs.Records.{seal_of}
+use Rattle.spec_format.specs.Sealed.{BeginsWithRecord, IsMidUpdate, IsUpdated, RecordChecks, is_sealed, record_at, record_range, record_size, seal_by_kind, seal_place, seal_steps}
+use Rattle.spec_format.proofs.SealedRecords.{seal_aligned, sealed_after, sealing, words_stay}
 use Rattle.blk_disk.specs.declared.tables.BlockFiles.{BlockFiles}
 use Rattle.blk_disk.specs.Tables.{Agrees, stands_among}
 use Rattle.blk_disk.specs.Unsealed.{missing_seal, missing_steps}

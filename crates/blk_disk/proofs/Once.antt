@@ -4,12 +4,12 @@ use Rattle.std.specs.Prelude.{◌&&◌, ◌||◌, ◌==◌, not, nat_le, nat_lt}
 use Rattle.std.specs.List.{IsDistinct, AllByRecursion}
 use Rattle.std.proofs.lemmas.Bool.{and_parts, eq-eqb, or_right}
 use Rattle.std.proofs.lemmas.Bool.Decides.{nat_tests}
-use Rattle.blk_image.specs.Checks.{first_of}
-use Rattle.blk_image.specs.Image.{Image, Block, byte, length_of}
-use Rattle.blk_format.specs.Address.{is_block_kind}
-use Rattle.blk_format.specs.BlockFiles.{checks_along, checks_of_kind, files_along, file_checks, first_block_damage, is_among, is_link, kind_among, linked, linked_as, linked_up_to, next_file_in}
-use Rattle.blk_format.proofs.Among.{is_among_more}
-use Rattle.blk_format.proofs.Keeping.{first_along, link_of, none_parts}
+use Rattle.spec_image.specs.Checks.{first_of}
+use Rattle.spec_image.specs.Image.{Image, Block, byte, length_of}
+use Rattle.spec_format.specs.Address.{is_block_kind}
+use Rattle.spec_format.specs.BlockFiles.{checks_along, checks_of_kind, files_along, file_checks, first_block_damage, is_among, is_link, kind_among, linked, linked_as, linked_up_to, next_file_in}
+use Rattle.spec_format.proofs.Among.{is_among_more}
+use Rattle.spec_format.proofs.Keeping.{first_along, link_of, none_parts}
 use Rattle.blk_disk.specs.Linked.{LinkedFilesAreDistinct, LinkedFilesHaveOneKind}
 use Rattle.blk_disk.proofs.Chains.{IsMet, fails, kind_none, linked_once, met_along, met_in}
 

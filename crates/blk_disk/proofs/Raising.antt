@@ -1,10 +1,10 @@
 -- The counter of empty groups, as it is read and raised.
 use Rattle.std.proofs.Common.{◌≡◌, ℕ, ◌+◌, ◌*◌, ◌%◌, ◌<◌, ◌≤◌, List, refl, sym, ◌∙◌, ap, arith, get_or-take}
-use Rattle.blk_image.specs.Bytes.{content, zeros, word_at}
-use Rattle.blk_image.specs.Image.{Block, Image, byte, length_of}
-use Rattle.blk_image.specs.Told.{GivesBytes}
-use Rattle.blk_image.proofs.Splices.{length-zeros}
-use Rattle.blk_image.proofs.Words.{content-range}
+use Rattle.spec_image.specs.Bytes.{content, zeros, word_at}
+use Rattle.spec_image.specs.Image.{Block, Image, byte, length_of}
+use Rattle.spec_image.specs.Told.{GivesBytes}
+use Rattle.spec_image.proofs.Splices.{length-zeros}
+use Rattle.spec_image.proofs.Words.{content-range}
 use Rattle.blk_disk.specs.Growth.{raised}
 
 module _ (image : Image) (n : ℕ) (new : List ℕ) (given : ℕ) (gives : GivesBytes image (Block n) 36 (zeros 4) new given) (inside : 40 ≤ length_of image (Block n)) where

@@ -4,11 +4,11 @@ use Rattle.std.specs.Prelude.{◌==◌, nat_le, None, Some}
 use Rattle.std.specs.declared.option.Option.{Option}
 use Rattle.std.proofs.lemmas.Bool.Decides.{nat_tests}
 use Rattle.std.proofs.Math.Nat.{mul-le-mul}
-use Rattle.blk_image.specs.Image.{Block, Image, HasRange, length_of}
-use Rattle.blk_format.specs.Address.{kind_of, file_selector, external_number, external, first_block, block_count, block_size, place, byte_size}
-use Rattle.blk_format.specs.BlockFiles.{kind_among, is_among, linked, linked_as, max_entries_in, stands_in_blocks}
-use Rattle.blk_format.specs.Standing.{is_linked_as, stands_as_blocks}
-use Rattle.blk_format.proofs.Words.{AreFields-of}
+use Rattle.spec_image.specs.Image.{Block, Image, HasRange, length_of}
+use Rattle.spec_format.specs.Address.{kind_of, file_selector, external_number, external, first_block, block_count, block_size, place, byte_size}
+use Rattle.spec_format.specs.BlockFiles.{kind_among, is_among, linked, linked_as, max_entries_in, stands_in_blocks}
+use Rattle.spec_format.specs.Standing.{is_linked_as, stands_as_blocks}
+use Rattle.spec_format.proofs.Words.{AreFields-of}
 use Rattle.blk_addr.specs.FileId.{file_of_word}
 use Rattle.blk_addr.specs.declared.file_id.FileId.TheVariants as words
 use Rattle.blk_io.specs.declared.folder.FileId.{FileId}

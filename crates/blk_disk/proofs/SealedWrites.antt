@@ -2,27 +2,27 @@
 use Rattle.std.proofs.Common.{◌≡◌, ℕ, ◌+◌, ◌*◌, ◌%◌, ◌≤◌, true, List, [], ◌∷◌, ◌++◌, All, refl, sym, ◌∙◌, ap, ap₂, subst, arith, add-zero, None, Some, ⊎_elim}
 use Rattle.std.specs.Option.{ForSome}
 use Rattle.std.proofs.lemmas.List.Elements.{All-cons, All-push, All-map}
-use Rattle.blk_image.specs.Image.{Block, Image, HasRange, length_of}
-use Rattle.blk_image.specs.Steps.{after, word_steps, with_words}
-use Rattle.blk_image.specs.Footprint.{SameOutside, range}
-use Rattle.blk_image.specs.Told.{Told, Applies, AppliesPrefix, Passes, Along, Until, IsQuiet}
-use Rattle.blk_image.proofs.Footprints.{outside-refl}
-use Rattle.blk_image.proofs.Runs.{passes_end, passes_part, passes_stayed, some_inj, told_part, told_whole, until_weaker2}
-use Rattle.blk_image.proofs.WordSteps.{quiet-word_steps}
-use Rattle.blk_format.specs.Address.{kind_of, file_selector, place, block_place, block_size, first_block}
-use Rattle.blk_format.specs.Records.{seal_of}
+use Rattle.spec_image.specs.Image.{Block, Image, HasRange, length_of}
+use Rattle.spec_image.specs.Steps.{after, word_steps, with_words}
+use Rattle.spec_image.specs.Footprint.{SameOutside, range}
+use Rattle.spec_image.specs.Told.{Told, Applies, AppliesPrefix, Passes, Along, Until, IsQuiet}
+use Rattle.spec_image.proofs.Footprints.{outside-refl}
+use Rattle.spec_image.proofs.Runs.{passes_end, passes_part, passes_stayed, some_inj, told_part, told_whole, until_weaker2}
+use Rattle.spec_image.proofs.WordSteps.{quiet-word_steps}
+use Rattle.spec_format.specs.Address.{kind_of, file_selector, place, block_place, block_size, first_block}
+use Rattle.spec_format.specs.Records.{seal_of}
 use Rattle.blk_io.specs.declared.folder.FileId.{FileId}
 use Rattle.blk_io.specs.declared.folder.FileId.TheVariants as names
 use Rattle.blk_io.specs.FileNames.{file_of}
 use Rattle.blk_io.proofs.Carried.{told_at_end}
 use Rattle.blk_disk.specs.declared.tables.BlockFiles.{BlockFiles}
 use Rattle.blk_disk.specs.Tables.{Agrees, stands_among}
-use Rattle.blk_format.specs.Sealed.{AreChanges, BeginsWithRecord, seal_by_kind, record_size, seal_place, record_at, record_range, RecordChecks, placed, update_words, update_steps, new_seal, sealed_steps, steps_over, IsMidUpdate, IsUpdated}
+use Rattle.spec_format.specs.Sealed.{AreChanges, BeginsWithRecord, seal_by_kind, record_size, seal_place, record_at, record_range, RecordChecks, placed, update_words, update_steps, new_seal, sealed_steps, steps_over, IsMidUpdate, IsUpdated}
 use Rattle.blk_disk.proofs.Agreeing.{agrees_still}
-use Rattle.blk_format.proofs.SpareHeaders.{SparesHeaders, blocks_spare}
+use Rattle.spec_format.proofs.SpareHeaders.{SparesHeaders, blocks_spare}
 use Rattle.blk_disk.proofs.Ranges.{stands_range}
-use Rattle.blk_format.proofs.SealedRecords.{record_inside}
-use Rattle.blk_format.proofs.SealedRecords.{seal_aligned, seal_last, moments, updated, words_stay}
+use Rattle.spec_format.proofs.SealedRecords.{record_inside}
+use Rattle.spec_format.proofs.SealedRecords.{seal_aligned, seal_last, moments, updated, words_stay}
 
 pub place_aligned : (w : ℕ) → BeginsWithRecord w → place w % 4 ≡ 0
 unfolding place block_place block_size

@@ -3,10 +3,10 @@ use Rattle.std.proofs.Common.{◌≡◌, ◌≢◌, ℕ, ◌+◌, ◌*◌, ◌<�
 use Rattle.std.specs.Prelude.{◌==◌, None, Some}
 use Rattle.std.proofs.lemmas.Bool.Decides.{nat_tests}
 use Rattle.std.proofs.Math.Nat.{mul-le-mul}
-use Rattle.blk_format.specs.Address.{kind_of, file_selector, external_number, external, first_block, block_count, block_size, block_place, place, byte_size}
-use Rattle.blk_format.proofs.Words.{AreFields-of}
-use Rattle.blk_format.specs.BlockFiles.{kind_among, is_among}
-use Rattle.blk_format.specs.Standing.{is_linked_as, stands_as_blocks}
+use Rattle.spec_format.specs.Address.{kind_of, file_selector, external_number, external, first_block, block_count, block_size, block_place, place, byte_size}
+use Rattle.spec_format.proofs.Words.{AreFields-of}
+use Rattle.spec_format.specs.BlockFiles.{kind_among, is_among}
+use Rattle.spec_format.specs.Standing.{is_linked_as, stands_as_blocks}
 use Rattle.blk_addr.specs.FileId.{file_of_word}
 use Rattle.blk_addr.specs.declared.file_id.FileId.{FileId}
 use Rattle.blk_addr.specs.declared.file_id.FileId.TheVariants.{Block, External}

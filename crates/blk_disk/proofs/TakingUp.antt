@@ -6,8 +6,8 @@ use Rattle.std.proofs.lemmas.Bool.Decides.{nat_tests}
 use Rattle.blk_addr.specs.declared.kinds.Kind.{Kind}
 use Rattle.blk_addr.specs.declared.kinds.Kind.TheVariants.{External, Rankings, B256, B1K, B4K}
 use Rattle.blk_addr.specs.Kind.{kind_number}
-use Rattle.blk_format.specs.BlockFiles.{is_among, is_link}
-use Rattle.blk_format.proofs.Among.{is_among_more}
+use Rattle.spec_format.specs.BlockFiles.{is_among, is_link}
+use Rattle.spec_format.proofs.Among.{is_among_more}
 use Rattle.blk_disk.specs.declared.tables.BlockFiles.{BlockFiles}
 use Rattle.blk_disk.specs.Loading.{AreNumbered, IsFileNumber, IsFresh, TakesUp, next_of}
 use Rattle.blk_disk.specs.Tables.{Joins, all_files, files_of}

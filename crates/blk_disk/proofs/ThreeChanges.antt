@@ -1,7 +1,7 @@
 -- Three changes, as the tests make them.
 use Rattle.std.proofs.Common.{◌≡◌, ◌≢◌, ℕ, ◌%◌, ◌<◌, ◌≤◌, [], ◌∷◌, All, refl, arith}
 use Rattle.std.proofs.lemmas.List.Elements.{All-nil, All-cons}
-use Rattle.blk_format.specs.Sealed.{AreChanges}
+use Rattle.spec_format.specs.Sealed.{AreChanges}
 
 each : (P : ℕ × ℕ → Type 0) (x y z : ℕ × ℕ) → P x → P y → P z → All P (x ∷ y ∷ z ∷ [])
 each P x y z p q r = All-cons P x (y ∷ z ∷ []) p (All-cons P y (z ∷ []) q (All-cons P z [] r (All-nil P)))

@@ -1,11 +1,11 @@
 -- The header of a file that is kept.
 use Rattle.std.proofs.Common.{◌≡◌, ℕ, ◌+◌, ◌*◌, ◌<◌, ◌≤◌, ◌⊎◌, inl, inr, List, Bool, true, false, ◌||◌, refl, sym, ◌∙◌, subst, arith, ⊎_elim}
 use Rattle.std.specs.Option.{ForSome}
-use Rattle.blk_image.specs.Image.{Block, Image, length_of}
-use Rattle.blk_image.specs.Told.{Told}
-use Rattle.blk_format.specs.Address.{is_block_kind}
-use Rattle.blk_format.specs.BlockFiles.{is_among}
-use Rattle.blk_format.proofs.LinkedHeads.{HasHead, count_whole, linked_checked}
+use Rattle.spec_image.specs.Image.{Block, Image, length_of}
+use Rattle.spec_image.specs.Told.{Told}
+use Rattle.spec_format.specs.Address.{is_block_kind}
+use Rattle.spec_format.specs.BlockFiles.{is_among}
+use Rattle.spec_format.proofs.LinkedHeads.{HasHead, count_whole, linked_checked}
 use Rattle.blk_disk.specs.declared.tables.BlockFiles.{BlockFiles}
 use Rattle.blk_disk.specs.Tables.{Agrees, all_files, blocks_of, files_of}
 use Rattle.blk_disk.proofs.Joined.{among_kinds}

@@ -5,15 +5,15 @@ use Rattle.std.proofs.lemmas.Bool.Decides.{nat_tests}
 use Rattle.std.proofs.lemmas.List.{get_or-drop, get_or_past}
 use Rattle.std.specs.Option.{option_map}
 use Rattle.std.specs.declared.option.Option.{Option}
-use Rattle.blk_image.specs.Bytes.{content, zeros}
-use Rattle.blk_image.specs.Image.{File, Block, Image, byte, length_of}
-use Rattle.blk_image.specs.Checks as checks
-use Rattle.blk_image.specs.Checks.{first_of}
-use Rattle.blk_image.specs.Told.{GivesBytes}
-use Rattle.blk_image.proofs.Splices.{content-zeros, length-zeros}
-use Rattle.blk_image.proofs.Words.{content-range}
-use Rattle.blk_format.specs.Headers.{next_file_of, max_entries_of}
-use Rattle.blk_format.specs.BlockFiles.{file_checks}
+use Rattle.spec_image.specs.Bytes.{content, zeros}
+use Rattle.spec_image.specs.Image.{File, Block, Image, byte, length_of}
+use Rattle.spec_image.specs.Checks as checks
+use Rattle.spec_image.specs.Checks.{first_of}
+use Rattle.spec_image.specs.Told.{GivesBytes}
+use Rattle.spec_image.proofs.Splices.{content-zeros, length-zeros}
+use Rattle.spec_image.proofs.Words.{content-range}
+use Rattle.spec_format.specs.Headers.{next_file_of, max_entries_of}
+use Rattle.spec_format.specs.BlockFiles.{file_checks}
 use Rattle.blk_io.specs.declared.fault.Fault.{Fault}
 use Rattle.blk_disk.specs.declared.heads.Head.{Head}
 use Rattle.blk_disk.specs.declared.tables.BlockFiles.{BlockFiles}

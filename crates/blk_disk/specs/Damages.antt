@@ -1,9 +1,9 @@
 -- Why a record can't be used, or a word that is to name a node.
 use Rattle.std.specs.Prelude.{ℕ, ◌≡◌, ◌⊎◌, false}
 use Rattle.std.specs.Option.{ForSome}
-use Rattle.blk_image.specs.Image.{word}
-use Rattle.blk_image.specs.Told.{Told}
-use Rattle.blk_format.specs.Address.{file_selector, place}
+use Rattle.spec_image.specs.Image.{word}
+use Rattle.spec_image.specs.Told.{Told}
+use Rattle.spec_format.specs.Address.{file_selector, place}
 use Rattle.blk_io.specs.declared.folder.FileId.{FileId}
 use Rattle.blk_io.specs.declared.folder.FileId.TheVariants as names
 use Rattle.blk_io.specs.declared.fault.Damage.{Damage}

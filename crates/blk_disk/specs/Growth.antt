@@ -2,12 +2,12 @@
 use Rattle.std.proofs.Common.{zero, suc}
 use Rattle.std.specs.Prelude.{ℕ, ◌+◌, ◌-◌, ◌*◌, ◌/◌, ◌%◌, ◌^◌, ◌≡◌, ◌<◌, ◌≤◌, min, List, [], ◌∷◌, ◌++◌, length, get_or, true, false, nat_lt, if◌then◌else◌, None, Some}
 use Rattle.std.specs.declared.option.Option.{Option}
-use Rattle.blk_image.specs.Image.{Image, Block, byte}
-use Rattle.blk_image.specs.Steps.{TrailStep, Word, SetLength, word_steps}
-use Rattle.blk_image.specs.Footprint.{Footprint, either, one_word, range, size_of, whole}
-use Rattle.blk_format.specs.Address.{block_size, header_size}
-use Rattle.blk_format.specs.Headers.{block_magic, blocks_place, empty_of, empty_place, entry_size_place, magic_place, next_file_place, this_file_place, version, version_place}
-use Rattle.blk_format.specs.BlockFiles.{kind_among, is_among, blocks_a_growth, most_blocks}
+use Rattle.spec_image.specs.Image.{Image, Block, byte}
+use Rattle.spec_image.specs.Steps.{TrailStep, Word, SetLength, word_steps}
+use Rattle.spec_image.specs.Footprint.{Footprint, either, one_word, range, size_of, whole}
+use Rattle.spec_format.specs.Address.{block_size, header_size}
+use Rattle.spec_format.specs.Headers.{block_magic, blocks_place, empty_of, empty_place, entry_size_place, magic_place, next_file_place, this_file_place, version, version_place}
+use Rattle.spec_format.specs.BlockFiles.{kind_among, is_among, blocks_a_growth, most_blocks}
 use Rattle.blk_disk.specs.declared.tables.BlockFiles.{BlockFiles}
 use Rattle.blk_disk.specs.Tables.{files_of, all_files, blocks_of, length_in}
 

@@ -1,8 +1,8 @@
 -- Whatever is kept of block files, each is kept once.
 use Rattle.std.specs.Prelude.{◌≡◌, ℕ, ◌==◌, true, Some}
 use Rattle.std.specs.List.{IsDistinct}
-use Rattle.blk_format.specs.Address.{is_block_kind}
-use Rattle.blk_format.specs.BlockFiles.{is_among, is_block_count, kind_among}
+use Rattle.spec_format.specs.Address.{is_block_kind}
+use Rattle.spec_format.specs.BlockFiles.{is_among, is_block_count, kind_among}
 use Rattle.blk_disk.specs.declared.tables.BlockFiles.{BlockFiles}
 use Rattle.blk_disk.specs.Tables.{all_files, blocks_of, files_of}
 

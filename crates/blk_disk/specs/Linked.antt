@@ -1,9 +1,9 @@
 -- Each block file is linked once.
 use Rattle.std.specs.Prelude.{◌≡◌, ℕ, ◌==◌, true, None, Some}
 use Rattle.std.specs.List.{IsDistinct}
-use Rattle.blk_image.specs.Image.{Image}
-use Rattle.blk_format.specs.Address.{is_block_kind}
-use Rattle.blk_format.specs.BlockFiles.{first_block_damage, is_among, linked, linked_as}
+use Rattle.spec_image.specs.Image.{Image}
+use Rattle.spec_format.specs.Address.{is_block_kind}
+use Rattle.spec_format.specs.BlockFiles.{first_block_damage, is_among, linked, linked_as}
 
 -- where no check of a header fails, the linked files of a kind are distinct
 abbrev pub LinkedFilesAreDistinct : Type 0

@@ -1,14 +1,14 @@
 -- How block files are checked and taken up, one along the links after another.
 use Rattle.std.specs.Prelude.{◌≡◌, ◌≢◌, ◌⊎◌, ℕ, ◌-◌, ◌<◌, ◌≤◌, List, [], ◌∷◌, ◌++◌, length, drop, ◌==◌, ◌||◌, if◌then◌else◌, false, true, Option, None, Some, Result, Ok, Err}
 use Rattle.std.specs.List.{flat_map}
-use Rattle.blk_image.specs.Bytes.{content}
-use Rattle.blk_image.specs.Image.{Block, Image, byte, length_of}
-use Rattle.blk_image.specs.Checks as checks
-use Rattle.blk_image.specs.Checks.{first_of}
-use Rattle.blk_image.specs.Told.{Told}
-use Rattle.blk_format.specs.Address.{header_size, is_block_kind}
-use Rattle.blk_format.specs.Headers.{next_file_of, max_entries_of, block_fields_length}
-use Rattle.blk_format.specs.BlockFiles.{most_files, next_file_in, max_entries_in, files_along, linked, linked_up_to, is_among, file_checks, checks_along, checks_of_kind, block_kinds, block_checks, first_block_damage}
+use Rattle.spec_image.specs.Bytes.{content}
+use Rattle.spec_image.specs.Image.{Block, Image, byte, length_of}
+use Rattle.spec_image.specs.Checks as checks
+use Rattle.spec_image.specs.Checks.{first_of}
+use Rattle.spec_image.specs.Told.{Told}
+use Rattle.spec_format.specs.Address.{header_size, is_block_kind}
+use Rattle.spec_format.specs.Headers.{next_file_of, max_entries_of, block_fields_length}
+use Rattle.spec_format.specs.BlockFiles.{most_files, next_file_in, max_entries_in, files_along, linked, linked_up_to, is_among, file_checks, checks_along, checks_of_kind, block_kinds, block_checks, first_block_damage}
 use Rattle.blk_io.specs.declared.folder.FileId.TheVariants as names
 use Rattle.blk_io.specs.declared.fault.Damage.{Damage}
 use Rattle.blk_io.specs.declared.fault.Fault.{Fault}

@@ -1,6 +1,6 @@
 -- A folder that a call may change.
-use Rattle.blk_image.specs.Image.{Image}
-use Rattle.blk_format.specs.Headers.{HasWholeIndex}
+use Rattle.spec_image.specs.Image.{Image}
+use Rattle.spec_format.specs.Headers.{HasWholeIndex}
 use Rattle.blk_disk.specs.declared.tables.BlockFiles.{BlockFiles}
 use Rattle.blk_disk.specs.Tables.{Agrees}
 

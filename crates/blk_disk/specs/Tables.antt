@@ -1,9 +1,9 @@
 -- What is kept of the block files: the linked files of each kind, and the blocks and the length of each.
 use Rattle.std.specs.Prelude.{ℕ, ◌≡◌, ◌≢◌, List, [], ◌∷◌, ◌++◌, Bool, false, true, ◌&&◌, slice_index, ◌==◌, if◌then◌else◌, None}
-use Rattle.blk_image.specs.Image.{Block, Image, length_of}
-use Rattle.blk_format.specs.Address.{rankings, blocks_256, blocks_1k, blocks_4k, is_address, is_block_kind, kind_of}
-use Rattle.blk_format.specs.BlockFiles.{linked, max_entries_in, is_among, kind_among, first_block_damage}
-use Rattle.blk_format.specs.Standing.{stands_as_blocks}
+use Rattle.spec_image.specs.Image.{Block, Image, length_of}
+use Rattle.spec_format.specs.Address.{rankings, blocks_256, blocks_1k, blocks_4k, is_address, is_block_kind, kind_of}
+use Rattle.spec_format.specs.BlockFiles.{linked, max_entries_in, is_among, kind_among, first_block_damage}
+use Rattle.spec_format.specs.Standing.{stands_as_blocks}
 use Rattle.blk_disk.specs.declared.tables.BlockFiles.{BlockFiles}
 
 -- the linked files of a kind, in the order of the links

@@ -1,13 +1,13 @@
 -- A record that was read and doesn't check, or isn't sealed.
 use Rattle.std.specs.Prelude.{Option, None, Some, ℕ, ◌≡◌, ◌≢◌, ◌+◌, if◌then◌else◌, List, [], false}
 use Rattle.std.specs.Option.{ForSome}
-use Rattle.blk_image.specs.Bytes.{content, word_at}
-use Rattle.blk_image.specs.Image.{Block}
-use Rattle.blk_image.specs.Steps.{TrailStep, word_step}
-use Rattle.blk_image.specs.Told.{Told}
-use Rattle.blk_format.specs.Address.{file_selector, place}
-use Rattle.blk_format.specs.Records.{checks, seal_of}
-use Rattle.blk_format.specs.Sealed.{is_sealed, record_at, seal_place}
+use Rattle.spec_image.specs.Bytes.{content, word_at}
+use Rattle.spec_image.specs.Image.{Block}
+use Rattle.spec_image.specs.Steps.{TrailStep, word_step}
+use Rattle.spec_image.specs.Told.{Told}
+use Rattle.spec_format.specs.Address.{file_selector, place}
+use Rattle.spec_format.specs.Records.{checks, seal_of}
+use Rattle.spec_format.specs.Sealed.{is_sealed, record_at, seal_place}
 use Rattle.blk_io.specs.declared.folder.FileId.TheVariants as names
 use Rattle.blk_io.specs.declared.fault.Damage.{Damage}
 

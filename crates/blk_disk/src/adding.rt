@@ -1,13 +1,13 @@
 // A block file is added.
 ghost use Rattle.std.specs.Prelude.{◌≡◌, ◌≢◌, ◌+◌, ◌<◌, ◌≤◌, length, IfOk, OnOk, OnErr};
 ghost use Rattle.std.specs.Option.{ForSome};
-ghost use Rattle.blk_image.specs.Image.{HasRange, Block as block};
-ghost use Rattle.blk_image.specs.Told.{Applies, AppliesPrefix, Passes, Rises};
-ghost use Rattle.blk_format.specs.Address.{external, header_size};
-ghost use Rattle.blk_format.specs.BlockFiles.{most_files};
+ghost use Rattle.spec_image.specs.Image.{HasRange, Block as block};
+ghost use Rattle.spec_image.specs.Told.{Applies, AppliesPrefix, Passes, Rises};
+ghost use Rattle.spec_format.specs.Address.{external, header_size};
+ghost use Rattle.spec_format.specs.BlockFiles.{most_files};
 ghost use Rattle.blk_addr.specs.Kind.{kind_number};
 ghost use Rattle.blk_disk.specs.Tables.{Agrees, all_files, files_of, Joins};
-ghost use Rattle.blk_format.specs.Growth.{StaysWholeOutside};
+ghost use Rattle.spec_format.specs.Growth.{StaysWholeOutside};
 ghost use Rattle.blk_disk.specs.Growth as growth;
 ghost use Rattle.blk_disk.specs.Growth.{IsLeastFileNumber, add_steps, addition_of, link_steps, file_steps};
 

@@ -1,12 +1,12 @@
 // The bytes of blocks.
 ghost use Rattle.std.specs.Prelude.{◌≡◌, ◌⊎◌, ◌+◌, ◌≤◌, IsTrue, None, length, OnOk, OnErr};
 ghost use Rattle.std.specs.Option.{ForSome};
-ghost use Rattle.blk_image.specs.Bytes.{range_at};
-ghost use Rattle.blk_image.specs.Image.{Block as block, HasRange, byte};
-ghost use Rattle.blk_image.specs.Steps.{words};
-ghost use Rattle.blk_image.specs.Footprint.{SameOutside, range};
-ghost use Rattle.blk_image.specs.Told.{Applies, AppliesPrefix, Passes, Rises, Stays};
-ghost use Rattle.blk_format.specs.Address.{file_selector, place, byte_size};
+ghost use Rattle.spec_image.specs.Bytes.{range_at};
+ghost use Rattle.spec_image.specs.Image.{Block as block, HasRange, byte};
+ghost use Rattle.spec_image.specs.Steps.{words};
+ghost use Rattle.spec_image.specs.Footprint.{SameOutside, range};
+ghost use Rattle.spec_image.specs.Told.{Applies, AppliesPrefix, Passes, Rises, Stays};
+ghost use Rattle.spec_format.specs.Address.{file_selector, place, byte_size};
 ghost use Rattle.blk_io.specs.Faults.{IfDamaged, IfDevice, IsShort};
 ghost use Rattle.blk_disk.specs.Tables.{Agrees, stands_among};
 

@@ -1,12 +1,12 @@
 // A block file gets more blocks.
 ghost use Rattle.std.specs.Prelude.{◌≡◌, ◌+◌, ◌*◌, ◌<◌, ◌≤◌, IsTrue, max, None, OnOk, OnErr};
 ghost use Rattle.std.specs.Option.{ForSome};
-ghost use Rattle.blk_image.specs.Image.{HasRange, Block as block};
-ghost use Rattle.blk_image.specs.Told.{Applies, AppliesPrefix, MakesPartOf, Passes, Rises, Stays};
-ghost use Rattle.blk_format.specs.Address.{header_size};
-ghost use Rattle.blk_format.specs.BlockFiles.{is_among, most_blocks, kind_among};
+ghost use Rattle.spec_image.specs.Image.{HasRange, Block as block};
+ghost use Rattle.spec_image.specs.Told.{Applies, AppliesPrefix, MakesPartOf, Passes, Rises, Stays};
+ghost use Rattle.spec_format.specs.Address.{header_size};
+ghost use Rattle.spec_format.specs.BlockFiles.{is_among, most_blocks, kind_among};
 ghost use Rattle.blk_disk.specs.Tables.{Agrees, Enlarges, all_files, blocks_of, files_of, length_in};
-ghost use Rattle.blk_format.specs.Growth.{StaysWholeOutside};
+ghost use Rattle.spec_format.specs.Growth.{StaysWholeOutside};
 ghost use Rattle.blk_disk.specs.Growth as growth;
 ghost use Rattle.blk_disk.specs.Growth.{grow_steps, growth_of, lengthen_steps, raise_steps, size_as};
 

@@ -1,12 +1,12 @@
 // Block files get longer.
 ghost use Rattle.std.specs.Prelude.{◌≡◌, ◌+◌, ◌*◌, ◌≤◌, IsTrue, max, OnOk, OnErr};
 ghost use Rattle.std.specs.Option.{ForSome};
-ghost use Rattle.blk_image.specs.Image.{Block as block};
-ghost use Rattle.blk_image.specs.Footprint.{size_of};
-ghost use Rattle.blk_image.specs.Told.{Applies, Passes, Rises, Stays};
-ghost use Rattle.blk_format.specs.BlockFiles.{is_among};
+ghost use Rattle.spec_image.specs.Image.{Block as block};
+ghost use Rattle.spec_image.specs.Footprint.{size_of};
+ghost use Rattle.spec_image.specs.Told.{Applies, Passes, Rises, Stays};
+ghost use Rattle.spec_format.specs.BlockFiles.{is_among};
 ghost use Rattle.blk_disk.specs.Tables.{Agrees, all_files, length_in, Resizes};
-ghost use Rattle.blk_format.specs.Growth.{StaysWholeOutside};
+ghost use Rattle.spec_format.specs.Growth.{StaysWholeOutside};
 ghost use Rattle.blk_disk.specs.Growth as growth;
 ghost use Rattle.blk_disk.specs.Growth.{fit_steps};
 

@@ -1,15 +1,15 @@
 // The headers of block files, read and checked.
 ghost use Rattle.std.specs.Prelude.{◌≡◌, ◌≢◌, ◌⊎◌, ◌+◌, ◌-◌, ◌<◌, ◌≤◌, ◌∷◌, ◌++◌, [], length, IfOk, IsTrue, Some};
 ghost use Rattle.std.specs.Option.{ForSome, option_map};
-ghost use Rattle.blk_image.specs.Bytes.{content, word_at};
-ghost use Rattle.blk_image.specs.Checks.{first_of};
-ghost use Rattle.blk_image.specs.Image.{Block as block_file};
-ghost use Rattle.blk_image.specs.Told.{Stays, Rises};
-ghost use Rattle.blk_format.specs.Address as address;
-ghost use Rattle.blk_format.specs.Address.{external};
-ghost use Rattle.blk_format.specs.BlockFiles as block_files;
-ghost use Rattle.blk_format.specs.BlockFiles.{most_files};
-ghost use Rattle.blk_format.specs.Headers.{block_fields_length};
+ghost use Rattle.spec_image.specs.Bytes.{content, word_at};
+ghost use Rattle.spec_image.specs.Checks.{first_of};
+ghost use Rattle.spec_image.specs.Image.{Block as block_file};
+ghost use Rattle.spec_image.specs.Told.{Stays, Rises};
+ghost use Rattle.spec_format.specs.Address as address;
+ghost use Rattle.spec_format.specs.Address.{external};
+ghost use Rattle.spec_format.specs.BlockFiles as block_files;
+ghost use Rattle.spec_format.specs.BlockFiles.{most_files};
+ghost use Rattle.spec_format.specs.Headers.{block_fields_length};
 ghost use Rattle.blk_addr.specs.Kind.{kind_number};
 ghost use Rattle.blk_io.specs.Faults.{IfDamaged, IfDevice, IsShortFront, damage_of};
 ghost use Rattle.blk_disk.specs.Tables.{all_files, files_of};
@@ -39,7 +39,7 @@ pub struct Head {
 }
 
 // The bytes of a block of a kind.
-#[tactic(auto, unfolding(blk_format::specs::Address::block_size))]
+#[tactic(auto, unfolding(spec_format::specs::Address::block_size))]
 pub(crate) fn block_size(kind: Kind) -> u32
     requires { kind_number kind ≢ external }
     ensures size { result ≡ address.block_size (kind_number kind) }
@@ -54,7 +54,7 @@ pub(crate) fn block_size(kind: Kind) -> u32
 }
 
 // Whether a file may have so many blocks.
-#[tactic(auto, unfolding(blk_format::specs::BlockFiles::is_block_count))]
+#[tactic(auto, unfolding(spec_format::specs::BlockFiles::is_block_count))]
 fn is_block_count(blocks: u32) -> bool
     ensures { result ≡ block_files.is_block_count blocks }
 {
@@ -172,7 +172,7 @@ impl BlockFiles {
     }
 
     // Whether the next file of a file may be this one.
-    #[tactic(auto, unfolding(blk_format::specs::BlockFiles::is_link))]
+    #[tactic(auto, unfolding(spec_format::specs::BlockFiles::is_link))]
     fn is_link(&self, kind: Kind, n: u8, next: u16) -> bool
         ensures { result ≡ block_files.is_link (all_files self.now ++ n ∷ []) (files_left self.now (kind_number kind)) next }
     {
@@ -184,7 +184,7 @@ impl BlockFiles {
     }
 
     // Whether a file is among those that are met with file n.
-    #[tactic(auto, using(blk_format::proofs::Among::is_among_more))]
+    #[tactic(auto, using(spec_format::proofs::Among::is_among_more))]
     fn is_met(&self, n: u8, file: u8) -> bool
         ensures { result ≡ block_files.is_among (all_files self.now ++ n ∷ []) file }
     {

@@ -1,9 +1,9 @@
 // The block files of a folder are taken up, one along the links after another.
 ghost use Rattle.std.specs.Prelude.{◌≡◌, ◌≢◌, ◌+◌, ◌-◌, ◌<◌, ◌≤◌, [], length, OnOk, IfOk, Some, None, false};
 ghost use Rattle.std.specs.Option.{ForSome};
-ghost use Rattle.blk_image.specs.Told.{Stays, Rises};
-ghost use Rattle.blk_format.specs.Address.{external};
-ghost use Rattle.blk_format.specs.BlockFiles.{first_block_damage, is_among, most_files};
+ghost use Rattle.spec_image.specs.Told.{Stays, Rises};
+ghost use Rattle.spec_format.specs.Address.{external};
+ghost use Rattle.spec_format.specs.BlockFiles.{first_block_damage, is_among, most_files};
 ghost use Rattle.blk_addr.specs.Kind.{kind_number};
 ghost use Rattle.blk_io.specs.Faults.{IfDamaged, IfDevice, damage_of};
 ghost use Rattle.blk_disk.specs.Tables.{all_files, files_of};

@@ -1,11 +1,11 @@
 // The words of a map.
 ghost use Rattle.std.specs.Prelude.{◌≡◌, ◌<◌, ◌≤◌, ◌+◌, ◌*◌, IsTrue, None, IfOk, OnOk, length};
 ghost use Rattle.std.specs.Option.{ForSome};
-ghost use Rattle.blk_image.specs.Bytes.{range_at, word_bytes};
-ghost use Rattle.blk_image.specs.Image.{Block as block, HasRange, byte};
-ghost use Rattle.blk_image.specs.Told.{Rises, Stays};
-ghost use Rattle.blk_format.specs.BlockFiles.{is_among};
-ghost use Rattle.blk_format.specs.Maps.{map_place};
+ghost use Rattle.spec_image.specs.Bytes.{range_at, word_bytes};
+ghost use Rattle.spec_image.specs.Image.{Block as block, HasRange, byte};
+ghost use Rattle.spec_image.specs.Told.{Rises, Stays};
+ghost use Rattle.spec_format.specs.BlockFiles.{is_among};
+ghost use Rattle.spec_format.specs.Maps.{map_place};
 ghost use Rattle.blk_io.specs.Faults.{IfDamaged, IfDevice, IsShort};
 ghost use Rattle.blk_disk.specs.Tables.{Agrees, all_files, blocks_of};
 

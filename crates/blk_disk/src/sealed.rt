@@ -1,17 +1,17 @@
 // Sealed records at the front of blocks, and their updates.
 ghost use Rattle.std.specs.Prelude.{[], ◌≡◌, ◌+◌, ◌%◌, ◌^◌, ◌<◌, ◌≤◌, ◌⊎◌, All, IsTrue, None, OnErr, OnOk, length};
 ghost use Rattle.std.specs.Option.{ForSome};
-ghost use Rattle.blk_image.specs.Steps.{with_words};
-ghost use Rattle.blk_image.specs.Told.{Applies, AppliesPrefix, MakesPartOf, Passes, Rises, Stays};
-ghost use Rattle.blk_format.specs.Address.{file_selector, kind_of, place};
-ghost use Rattle.blk_format.specs.Records as records;
+ghost use Rattle.spec_image.specs.Steps.{with_words};
+ghost use Rattle.spec_image.specs.Told.{Applies, AppliesPrefix, MakesPartOf, Passes, Rises, Stays};
+ghost use Rattle.spec_format.specs.Address.{file_selector, kind_of, place};
+ghost use Rattle.spec_format.specs.Records as records;
 ghost use Rattle.blk_addr.specs.Kind.{kind_number};
 ghost use Rattle.blk_record.specs.Fields.{IsField};
 ghost use Rattle.blk_io.specs.declared.folder.FileId.TheVariants as FileId;
 ghost use Rattle.blk_io.specs.Faults.{IfDamaged, IfDevice};
 ghost use Rattle.blk_disk.specs.Tables.{Agrees, stands_among};
 ghost use Rattle.blk_disk.specs.Unsealed as unsealed;
-ghost use Rattle.blk_format.specs.Sealed.{AreChanges, BeginsWithRecord, IsMidUpdate, IsUpdated, RecordChecks, placed, record_at, record_size, seal_by_kind, seal_place, seal_steps, sealed, sealed_steps, size_by_kind, steps_over, update_steps, update_words};
+ghost use Rattle.spec_format.specs.Sealed.{AreChanges, BeginsWithRecord, IsMidUpdate, IsUpdated, RecordChecks, placed, record_at, record_size, seal_by_kind, seal_place, seal_steps, sealed, sealed_steps, size_by_kind, steps_over, update_steps, update_words};
 ghost use Rattle.blk_disk.specs.Damages.{IsFailedRecord};
 ghost use Rattle.blk_disk.specs.Unsealed.{missing_steps};
 
@@ -209,7 +209,7 @@ impl BlockFiles {
 }
 
 // The number of the bytes of a record.
-#[tactic(auto, unfolding(blk_format::specs::Sealed::size_by_kind))]
+#[tactic(auto, unfolding(spec_format::specs::Sealed::size_by_kind))]
 fn size_of(kind: Kind) -> usize
     ensures size { result ≡ size_by_kind (kind_number kind) }
     ensures most { result ≤ 96 }
@@ -221,7 +221,7 @@ fn size_of(kind: Kind) -> usize
 }
 
 // The place of the seal in a record.
-#[tactic(auto, unfolding(blk_format::specs::Sealed::seal_by_kind))]
+#[tactic(auto, unfolding(spec_format::specs::Sealed::seal_by_kind))]
 fn seal_of(kind: Kind) -> u32
     ensures place { result ≡ seal_by_kind (kind_number kind) }
     ensures most { result ≤ 92 }
@@ -233,7 +233,7 @@ fn seal_of(kind: Kind) -> u32
 }
 
 // The seal of a record, where it doesn't check.
-#[tactic(auto, unfolding(blk_format::specs::Sealed::size_by_kind, blk_format::specs::Sealed::seal_by_kind))]
+#[tactic(auto, unfolding(spec_format::specs::Sealed::size_by_kind, spec_format::specs::Sealed::seal_by_kind))]
 fn wrong_seal(kind: Kind, bytes: &[u8]) -> Option<u32>
     requires { length bytes.now ≡ size_by_kind (kind_number kind) }
     ensures { result ≡ unsealed.wrong_seal (seal_by_kind (kind_number kind)) bytes.now }
@@ -268,7 +268,7 @@ fn wrong_seal_at<R: Record>(view: &R, at: usize) -> Option<u32>
 }
 
 // The hash of a record, where its seal isn't that.
-#[tactic(auto, unfolding(blk_format::specs::Sealed::size_by_kind, blk_format::specs::Sealed::seal_by_kind))]
+#[tactic(auto, unfolding(spec_format::specs::Sealed::size_by_kind, spec_format::specs::Sealed::seal_by_kind))]
 fn missing_seal(kind: Kind, bytes: &[u8]) -> Option<u32>
     requires { length bytes.now ≡ size_by_kind (kind_number kind) }
     ensures { result ≡ unsealed.missing_seal (seal_by_kind (kind_number kind)) bytes.now }
@@ -293,7 +293,7 @@ fn missing_seal_at<R: Record>(view: &R, at: usize) -> Option<u32>
 }
 
 // Changes a record and seals it, and gives its seal.
-#[tactic(auto, unfolding(blk_format::specs::Sealed::size_by_kind, blk_format::specs::Sealed::seal_by_kind))]
+#[tactic(auto, unfolding(spec_format::specs::Sealed::size_by_kind, spec_format::specs::Sealed::seal_by_kind))]
 fn seal_after(kind: Kind, bytes: &mut [u8], changes: &[(u32, u32)]) -> u32
     requires size { length bytes.old ≡ size_by_kind (kind_number kind) }
     requires changes { AreChanges (seal_by_kind (kind_number kind)) changes.now }

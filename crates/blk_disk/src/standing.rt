@@ -1,11 +1,11 @@
 // Addresses that stand in the linked block files.
 ghost use Rattle.std.specs.Prelude.{IfSome, IsTrue, ◌≡◌, ◌≢◌, ◌+◌, ◌*◌, ◌^◌, ◌<◌, ◌==◌, Some, None, length, slice_get, if◌then◌else◌};
 ghost use Rattle.std.specs.Option.{option_map};
-ghost use Rattle.blk_image.specs.Image.{Image};
-ghost use Rattle.blk_format.specs.Address as address;
-ghost use Rattle.blk_format.specs.Address.{blocks_256, external, file_selector, kind_of, place, byte_size, rankings};
-ghost use Rattle.blk_format.specs.BlockFiles.{is_among, stands_in_blocks, kind_among};
-ghost use Rattle.blk_format.specs.Standing as standing;
+ghost use Rattle.spec_image.specs.Image.{Image};
+ghost use Rattle.spec_format.specs.Address as address;
+ghost use Rattle.spec_format.specs.Address.{blocks_256, external, file_selector, kind_of, place, byte_size, rankings};
+ghost use Rattle.spec_format.specs.BlockFiles.{is_among, stands_in_blocks, kind_among};
+ghost use Rattle.spec_format.specs.Standing as standing;
 ghost use Rattle.blk_addr.specs.Kind.{kind_number};
 ghost use Rattle.blk_disk.specs.Tables.{Agrees, all_files, blocks_of, files_of, is_node_among, is_record_among, names_among, stands_among};
 
@@ -107,7 +107,7 @@ impl BlockFiles {
     }
 
     // Whether the blocks of an address are in its file.
-    #[tactic(auto, unfolding(blk_format::specs::Standing::stands_as_blocks))]
+    #[tactic(auto, unfolding(spec_format::specs::Standing::stands_as_blocks))]
     fn stands_in(&self, file: u8, addr: Addr) -> bool
         requires blocks { kind_of addr ≢ external }
         requires file { file ≡ file_selector addr }

@@ -3,8 +3,8 @@ ghost use Rattle.std.specs.Prelude.{ℕ, ◌≡◌, ◌≢◌, ◌<◌, ◌≤�
 ghost use Rattle.std.specs.List.{IsDistinct};
 ghost use Rattle.std.specs.Option.{option_map};
 ghost use Rattle.std.proofs.Props.{props};
-ghost use Rattle.blk_format.specs.Address.{external};
-ghost use Rattle.blk_format.specs.BlockFiles.{is_among, is_block_count, kind_among, most_files};
+ghost use Rattle.spec_format.specs.Address.{external};
+ghost use Rattle.spec_format.specs.BlockFiles.{is_among, is_block_count, kind_among, most_files};
 ghost use Rattle.blk_addr.specs.Kind.{kind_number};
 
 use arrayvec::ArrayVec;

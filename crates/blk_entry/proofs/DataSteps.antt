@@ -3,16 +3,16 @@ use Rattle.std.proofs.Common.{◌≡◌, ◌≢◌, ℕ, ◌+◌, List, length, 
 use Rattle.std.specs.Prelude.{◌==◌}
 use Rattle.std.proofs.lemmas.Bool.Decides.{nat_tests}
 use Rattle.std.specs.Option.{ForSome}
-use Rattle.blk_image.specs.Image.{Block, External, Image, length_of}
-use Rattle.blk_image.specs.Footprint.{SameOutside, range}
-use Rattle.blk_image.specs.Steps.{after, words}
-use Rattle.blk_image.specs.Told.{Told, Applies, AppliesPrefix}
-use Rattle.blk_image.proofs.Footprints.{words_inside}
-use Rattle.blk_image.proofs.Runs.{told_part, told_whole, until_last, until_weaker2}
-use Rattle.blk_format.specs.Address.{kind_of, external, external_number, file_selector, place}
+use Rattle.spec_image.specs.Image.{Block, External, Image, length_of}
+use Rattle.spec_image.specs.Footprint.{SameOutside, range}
+use Rattle.spec_image.specs.Steps.{after, words}
+use Rattle.spec_image.specs.Told.{Told, Applies, AppliesPrefix}
+use Rattle.spec_image.proofs.Footprints.{words_inside}
+use Rattle.spec_image.proofs.Runs.{told_part, told_whole, until_last, until_weaker2}
+use Rattle.spec_format.specs.Address.{kind_of, external, external_number, file_selector, place}
 use Rattle.blk_disk.specs.declared.tables.BlockFiles.{BlockFiles}
 use Rattle.blk_disk.specs.Tables.{Agrees}
-use Rattle.blk_format.proofs.SpareHeaders.{SparesHeaders}
+use Rattle.spec_format.proofs.SpareHeaders.{SparesHeaders}
 use Rattle.blk_disk.proofs.Agreeing.{agrees_still}
 use Rattle.blk_entry.specs.Keys.{data_file, data_start, IsInFile}
 use Rattle.blk_entry.specs.Steps.{data_steps}

@@ -6,27 +6,27 @@ use Rattle.std.proofs.lemmas.Bool.{and_parts, eqb-true, cases_Bool, cases_lt, le
 use Rattle.std.proofs.lemmas.Bool.Decides.{nat_tests}
 use Rattle.std.specs.Option.{option_map, option_and_then}
 use Rattle.std.proofs.Math.Seq.{drop-append_seam}
-use Rattle.blk_image.specs.Bytes.{content, word_at, words_at, range_at}
-use Rattle.blk_image.specs.Image.{Block, External, HasRange, Image, byte, has_file, length_of, word}
-use Rattle.blk_image.specs.Footprint.{range}
-use Rattle.blk_image.specs.Told.{Told}
-use Rattle.blk_image.proofs.Runs.{some_inj}
-use Rattle.blk_image.proofs.Words.{length-range}
-use Rattle.blk_format.specs.Address.{kind_of, block_count, block_size, is_address, external, external_number, file_selector, place, byte_size, blocks_256}
-use Rattle.blk_format.specs.Records.{entry_in}
-use Rattle.blk_format.specs.Storage.{entry_blocks, is_storage, kind_for, blocks_for, divided_up}
-use Rattle.blk_format.specs.Standing.{stands}
-use Rattle.blk_format.specs.BlockFiles.{stands_in, stands_in_blocks}
-use Rattle.blk_format.proofs.Bodies.{range-add}
-use Rattle.blk_volume.specs.View.{RecordFields, fields_at, fields_of, entry_at, key_place_at, stands_as, stored_at, store_of}
-use Rattle.blk_volume.specs.Entries.{is_key_length, stored_key, longest_key_with}
+use Rattle.spec_image.specs.Bytes.{content, word_at, words_at, range_at}
+use Rattle.spec_image.specs.Image.{Block, External, HasRange, Image, byte, has_file, length_of, word}
+use Rattle.spec_image.specs.Footprint.{range}
+use Rattle.spec_image.specs.Told.{Told}
+use Rattle.spec_image.proofs.Runs.{some_inj}
+use Rattle.spec_image.proofs.Words.{length-range}
+use Rattle.spec_format.specs.Address.{kind_of, block_count, block_size, is_address, external, external_number, file_selector, place, byte_size, blocks_256}
+use Rattle.spec_format.specs.Records.{entry_in}
+use Rattle.spec_format.specs.Storage.{entry_blocks, is_storage, kind_for, blocks_for, divided_up}
+use Rattle.spec_format.specs.Standing.{stands}
+use Rattle.spec_format.specs.BlockFiles.{stands_in, stands_in_blocks}
+use Rattle.spec_format.proofs.Bodies.{range-add}
+use Rattle.spec_folder.specs.View.{RecordFields, fields_at, fields_of, entry_at, key_place_at, stands_as, stored_at, store_of}
+use Rattle.spec_folder.specs.Entries.{is_key_length, stored_key, longest_key_with}
 use Rattle.blk_disk.specs.declared.tables.BlockFiles.{BlockFiles}
 use Rattle.blk_disk.specs.Tables.{Agrees, stands_among}
 use Rattle.blk_disk.proofs.Ranges.{stands_agree}
-use Rattle.blk_format.specs.Sealed.{record_size}
+use Rattle.spec_format.specs.Sealed.{record_size}
 use Rattle.blk_disk.proofs.SealedReads.{record_read}
-use Rattle.blk_format.proofs.SealedRecords.{entry_bytes}
-use Rattle.blk_format.proofs.SealedFields.{record_word}
+use Rattle.spec_format.proofs.SealedRecords.{entry_bytes}
+use Rattle.spec_format.proofs.SealedFields.{record_word}
 use Rattle.blk_io.specs.declared.folder.FileId.TheVariants as names
 use Rattle.blk_io.specs.declared.fault.Damage.{Damage}
 use Rattle.blk_io.specs.declared.fault.Fault.{Fault}

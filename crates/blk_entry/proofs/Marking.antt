@@ -1,28 +1,28 @@
 -- The dirty word of a node at each moment of its change, and after it.
 use Rattle.std.proofs.Common.{◌≡◌, ◌≢◌, inl, inr, ⊎_elim, ℕ, ◌+◌, ◌*◌, ◌%◌, ◌^◌, ◌<◌, ◌≤◌, [], take, refl, sym, ◌∙◌, ap, ap₂, subst, true, arith}
 use Rattle.std.proofs.lemmas.List.Elements.{All-nil, All-cons}
-use Rattle.blk_image.specs.Bytes.{content, word_at, long_at, range_at}
-use Rattle.blk_image.specs.Image.{Image, Block, AreBytes, byte, word}
-use Rattle.blk_format.specs.Address.{kind_of, file_selector, place, rankings}
-use Rattle.blk_format.specs.Hash.{hash}
-use Rattle.blk_format.specs.Records.{Node, node_in, node_body, node_seal, sealed_node, seal_of}
-use Rattle.blk_format.proofs.Bodies.{node_body-in}
-use Rattle.blk_format.specs.Sealed.{AreChanges, IsMidUpdate, IsUpdated, record_at, record_size, seal_place}
-use Rattle.blk_format.proofs.SealedRecords.{node_seal as seal_of_node, node_bytes}
-use Rattle.blk_format.proofs.SealedFields.{record_word, one_change, one_change_others, updated_seal, updated_stays, updated_is_new}
+use Rattle.spec_image.specs.Bytes.{content, word_at, long_at, range_at}
+use Rattle.spec_image.specs.Image.{Image, Block, AreBytes, byte, word}
+use Rattle.spec_format.specs.Address.{kind_of, file_selector, place, rankings}
+use Rattle.spec_format.specs.Hash.{hash}
+use Rattle.spec_format.specs.Records.{Node, node_in, node_body, node_seal, sealed_node, seal_of}
+use Rattle.spec_format.proofs.Bodies.{node_body-in}
+use Rattle.spec_format.specs.Sealed.{AreChanges, IsMidUpdate, IsUpdated, record_at, record_size, seal_place}
+use Rattle.spec_format.proofs.SealedRecords.{node_seal as seal_of_node, node_bytes}
+use Rattle.spec_format.proofs.SealedFields.{record_word, one_change, one_change_others, updated_seal, updated_stays, updated_is_new}
 use Rattle.std.specs.declared.option.Option.TheVariants.{Some}
-use Rattle.blk_format.specs.BlockFiles.{stands_in}
-use Rattle.blk_format.specs.Address.{is_address}
-use Rattle.blk_format.specs.Records.{node_checks}
-use Rattle.blk_format.specs.Sealed.{RecordChecks}
-use Rattle.blk_volume.specs.View.{checks_at, list_of, node_at, node_fields_at, stands_as, store_of}
+use Rattle.spec_format.specs.BlockFiles.{stands_in}
+use Rattle.spec_format.specs.Address.{is_address}
+use Rattle.spec_format.specs.Records.{node_checks}
+use Rattle.spec_format.specs.Sealed.{RecordChecks}
+use Rattle.spec_folder.specs.View.{checks_at, list_of, node_at, node_fields_at, stands_as, store_of}
 use Rattle.blk_disk.specs.declared.tables.BlockFiles.{BlockFiles}
 use Rattle.blk_disk.specs.Tables.{Agrees, stands_among}
-use Rattle.blk_laws.specs.NodeUpdates.{IsNode}
-use Rattle.blk_laws.proofs.claims.Inside.{record-changes}
-use Rattle.blk_laws.proofs.updates.Nodes.{dirty-written}
-use Rattle.blk_laws.proofs.updates.Updates.{node-checks}
-use Rattle.blk_format.proofs.SealedRecords.{moment_before}
+use Rattle.law_folder.specs.NodeUpdates.{IsNode}
+use Rattle.law_folder.proofs.claims.Inside.{record-changes}
+use Rattle.law_folder.proofs.updates.Nodes.{dirty-written}
+use Rattle.law_folder.proofs.updates.Updates.{node-checks}
+use Rattle.spec_format.proofs.SealedRecords.{moment_before}
 use Rattle.blk_entry.proofs.NewShown.{stands_as_kind, stands_here}
 use Rattle.blk_entry.specs.Marks.{dirty_change, plain_node, SetsDirtyInProgress, HasDirtySet}
 

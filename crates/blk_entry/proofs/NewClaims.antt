@@ -3,20 +3,20 @@ use Rattle.std.proofs.Common.{◌≡◌, ◌≢◌, inl, ⊎_elim, ℕ, ◌+◌,
 use Rattle.std.specs.Prelude.{◌==◌}
 use Rattle.std.proofs.lemmas.Bool.{and_parts, cases_Bool, or_left, or_right, eqb-true}
 use Rattle.std.proofs.lemmas.Bool.Decides.{nat_tests}
-use Rattle.blk_image.specs.Image.{Block, External, File, Image, same_file}
-use Rattle.blk_image.specs.Footprint.{Footprint, IsWithin, nothing, range, whole}
-use Rattle.blk_image.proofs.Footprints.{range_within}
-use Rattle.blk_format.specs.Address.{is_address, is_initialized, kind_of, external, external_number, file_selector, place, byte_size}
-use Rattle.blk_format.specs.Claims.{Claim, ExternalOf, claims_of, claims_of_all, has_claim, same_claim}
-use Rattle.blk_volume.specs.Footprint.{Covers}
-use Rattle.blk_volume.specs.Loads.{all_claims, record_claims}
-use Rattle.blk_laws.proofs.claims.ClaimLists.{claim-append, contents-claims}
-use Rattle.blk_laws.proofs.claims.ByteChanges.{views-same}
-use Rattle.blk_laws.proofs.claims.Covers.{blocks-covered, externals-covered, covers-less, covers-more, covers-either}
+use Rattle.spec_image.specs.Image.{Block, External, File, Image, same_file}
+use Rattle.spec_image.specs.Footprint.{Footprint, IsWithin, nothing, range, whole}
+use Rattle.spec_image.proofs.Footprints.{range_within}
+use Rattle.spec_format.specs.Address.{is_address, is_initialized, kind_of, external, external_number, file_selector, place, byte_size}
+use Rattle.spec_format.specs.Claims.{Claim, ExternalOf, claims_of, claims_of_all, has_claim, same_claim}
+use Rattle.spec_folder.specs.Footprint.{Covers}
+use Rattle.spec_folder.specs.Loads.{all_claims, record_claims}
+use Rattle.law_folder.proofs.claims.ClaimLists.{claim-append, contents-claims}
+use Rattle.law_folder.proofs.claims.ByteChanges.{views-same}
+use Rattle.law_folder.proofs.claims.Covers.{blocks-covered, externals-covered, covers-less, covers-more, covers-either}
 use Rattle.blk_disk.specs.declared.tables.BlockFiles.{BlockFiles}
 use Rattle.blk_disk.specs.Tables.{Agrees, stands_among}
-use Rattle.blk_format.specs.Sealed.{record_range}
-use Rattle.blk_format.proofs.SealedRecords.{record_inside}
+use Rattle.spec_format.specs.Sealed.{record_range}
+use Rattle.spec_format.proofs.SealedRecords.{record_inside}
 use Rattle.blk_entry.specs.declared.writing.NewEntry.{NewEntry}
 use Rattle.blk_entry.specs.Covering.{NewPlacesAreCovered, NewPlacesAreShownApart}
 use Rattle.blk_entry.specs.Keys.{IsInside}

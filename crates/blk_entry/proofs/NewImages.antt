@@ -6,27 +6,27 @@ use Rattle.std.proofs.lemmas.List.{take_all, take-append-le}
 use Rattle.std.proofs.lemmas.Bool.{and_parts, cases_Bool, cases_eq, eqb-true}
 use Rattle.std.proofs.lemmas.Bool.Decides.{nat_tests}
 use Rattle.std.specs.Option.{ForSome}
-use Rattle.blk_image.specs.Bytes.{content, range_at, spliced}
-use Rattle.blk_image.specs.Image.{File, Block, Image, HasRange, byte, bytes_of, same_file}
-use Rattle.blk_image.specs.Steps.{TrailStep, after, words, written_over}
-use Rattle.blk_image.specs.Footprint.{Footprint, SameOutside, range}
-use Rattle.blk_image.specs.Told.{Told, Applies}
-use Rattle.blk_image.proofs.Cuts.{after-append, after-words}
-use Rattle.blk_image.proofs.Footprints.{words_inside}
-use Rattle.blk_image.proofs.Images.{bytes-written, with_file-same}
-use Rattle.blk_image.proofs.Runs.{some_inj, told_whole, until_last}
-use Rattle.blk_image.proofs.Splices.{length-spliced, length-zeros, spliced-is}
-use Rattle.blk_image.proofs.Words.{range-is, same-range}
-use Rattle.blk_format.specs.Address.{is_address, is_initialized, kind_of, block_count, block_place, block_size, blocks_256, external, file_selector, first_block, place, rankings, byte_size}
-use Rattle.blk_format.specs.Storage.{kind_for}
-use Rattle.blk_format.specs.Standing.{is_linked_as, stands_as_blocks}
-use Rattle.blk_format.specs.BlockFiles.{kind_among}
+use Rattle.spec_image.specs.Bytes.{content, range_at, spliced}
+use Rattle.spec_image.specs.Image.{File, Block, Image, HasRange, byte, bytes_of, same_file}
+use Rattle.spec_image.specs.Steps.{TrailStep, after, words, written_over}
+use Rattle.spec_image.specs.Footprint.{Footprint, SameOutside, range}
+use Rattle.spec_image.specs.Told.{Told, Applies}
+use Rattle.spec_image.proofs.Cuts.{after-append, after-words}
+use Rattle.spec_image.proofs.Footprints.{words_inside}
+use Rattle.spec_image.proofs.Images.{bytes-written, with_file-same}
+use Rattle.spec_image.proofs.Runs.{some_inj, told_whole, until_last}
+use Rattle.spec_image.proofs.Splices.{length-spliced, length-zeros, spliced-is}
+use Rattle.spec_image.proofs.Words.{range-is, same-range}
+use Rattle.spec_format.specs.Address.{is_address, is_initialized, kind_of, block_count, block_place, block_size, blocks_256, external, file_selector, first_block, place, rankings, byte_size}
+use Rattle.spec_format.specs.Storage.{kind_for}
+use Rattle.spec_format.specs.Standing.{is_linked_as, stands_as_blocks}
+use Rattle.spec_format.specs.BlockFiles.{kind_among}
 use Rattle.blk_disk.specs.declared.tables.BlockFiles.{BlockFiles}
 use Rattle.blk_disk.specs.Tables.{Agrees, files_of, stands_among}
-use Rattle.blk_format.specs.Sealed.{record_size}
-use Rattle.blk_format.proofs.SpareHeaders.{other_file}
+use Rattle.spec_format.specs.Sealed.{record_size}
+use Rattle.spec_format.proofs.SpareHeaders.{other_file}
 use Rattle.blk_disk.proofs.Ranges.{stands_range}
-use Rattle.blk_format.proofs.SealedRecords.{entry_bytes as entry_size_is, entry_seal, node_bytes as node_size_is, node_seal, record_inside}
+use Rattle.spec_format.proofs.SealedRecords.{entry_bytes as entry_size_is, entry_seal, node_bytes as node_size_is, node_seal, record_inside}
 use Rattle.blk_disk.proofs.SealedReads.{read_checks}
 use Rattle.blk_entry.specs.declared.writing.NewEntry.{NewEntry}
 use Rattle.blk_entry.specs.Keys.{IsInside, IsInFile, data_file, data_start, may_hold, stores}

@@ -4,28 +4,28 @@ use Rattle.std.specs.Prelude.{◌==◌, nat_le, nat_lt}
 use Rattle.std.proofs.lemmas.Bool.{and_parts, cases_Bool}
 use Rattle.std.proofs.lemmas.Bool.Decides.{nat_tests}
 use Rattle.std.specs.Option.{ForSome}
-use Rattle.blk_image.specs.Image.{File, Index, Block, External, Image, length_of, same_file}
-use Rattle.blk_image.specs.Steps.{TrailStep, after, words}
-use Rattle.blk_image.specs.Footprint.{Footprint, SameOutside, IsWithin, either, range, touched_by, touched_by_all}
-use Rattle.blk_image.specs.Told.{Told, Along, Until, IsQuiet, AppliesPrefix, Passes}
-use Rattle.blk_image.proofs.Footprints.{outside-refl, outside_steps, within_left, within_right, within_both, within_first, within_second, range_within, words_within}
-use Rattle.blk_image.proofs.Runs.{passes_end, quiet-append, passes_part, passes_weaker, some_inj, until_last, until_weaker2, told_part}
-use Rattle.blk_image.proofs.WordSteps.{quiet-words}
-use Rattle.blk_format.specs.Address.{kind_of, block_count, external, external_number, file_selector, place, byte_size, blocks_256}
-use Rattle.blk_format.specs.Storage.{entry_blocks}
-use Rattle.blk_image.proofs.Splices.{length-zeros}
-use Rattle.blk_format.specs.BlockFiles.{IsWellFormed}
+use Rattle.spec_image.specs.Image.{File, Index, Block, External, Image, length_of, same_file}
+use Rattle.spec_image.specs.Steps.{TrailStep, after, words}
+use Rattle.spec_image.specs.Footprint.{Footprint, SameOutside, IsWithin, either, range, touched_by, touched_by_all}
+use Rattle.spec_image.specs.Told.{Told, Along, Until, IsQuiet, AppliesPrefix, Passes}
+use Rattle.spec_image.proofs.Footprints.{outside-refl, outside_steps, within_left, within_right, within_both, within_first, within_second, range_within, words_within}
+use Rattle.spec_image.proofs.Runs.{passes_end, quiet-append, passes_part, passes_weaker, some_inj, until_last, until_weaker2, told_part}
+use Rattle.spec_image.proofs.WordSteps.{quiet-words}
+use Rattle.spec_format.specs.Address.{kind_of, block_count, external, external_number, file_selector, place, byte_size, blocks_256}
+use Rattle.spec_format.specs.Storage.{entry_blocks}
+use Rattle.spec_image.proofs.Splices.{length-zeros}
+use Rattle.spec_format.specs.BlockFiles.{IsWellFormed}
 use Rattle.blk_disk.specs.declared.tables.BlockFiles.{BlockFiles}
 use Rattle.blk_disk.specs.Tables.{Agrees, stands_among}
-use Rattle.blk_format.specs.Sealed.{record_range, record_size}
-use Rattle.blk_format.proofs.SpareHeaders.{SparesHeaders, heads_still, next_same, past_header}
+use Rattle.spec_format.specs.Sealed.{record_range, record_size}
+use Rattle.spec_format.proofs.SpareHeaders.{SparesHeaders, heads_still, next_same, past_header}
 use Rattle.blk_disk.proofs.Agreeing.{agrees_still}
 use Rattle.blk_disk.proofs.Enlarging.{well_formed_still}
-use Rattle.blk_format.specs.Headers.{HasWholeIndex}
+use Rattle.spec_format.specs.Headers.{HasWholeIndex}
 use Rattle.blk_io.proofs.Carried.{silent_part, told_at_end}
 use Rattle.blk_entry.specs.Writing.{WritesEntryInProgress}
-use Rattle.blk_format.proofs.Keeping.{undamaged_still}
-use Rattle.blk_format.proofs.SealedRecords.{node_bytes as node_size_is}
+use Rattle.spec_format.proofs.Keeping.{undamaged_still}
+use Rattle.spec_format.proofs.SealedRecords.{node_bytes as node_size_is}
 use Rattle.blk_entry.specs.declared.writing.NewEntry.{NewEntry}
 use Rattle.blk_entry.specs.Keys.{IsInside, IsInFile, data_file, data_start, is_short, may_hold, stores}
 use Rattle.blk_entry.specs.Steps.{data_steps, ended_steps}

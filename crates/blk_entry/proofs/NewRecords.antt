@@ -2,14 +2,14 @@
 use Rattle.std.proofs.Common.{◌≡◌, ℕ, ◌+◌, ◌*◌, ◌/◌, ◌%◌, ◌^◌, ◌<◌, ◌≤◌, Bool, true, false, if◌then◌else◌, unwrap_or, List, [], ◌∷◌, ◌++◌, take, drop, length, get_or, get_or-take, refl, sym, ◌∙◌, ap, ap₂, arith}
 use Rattle.std.proofs.lemmas.List.{get_or-drop, take_more}
 use Rattle.std.proofs.lemmas.Bool.{and_parts, or_right, eq-eqb, eqb-true}
-use Rattle.blk_image.specs.Bytes.{content, word_at, word_bytes, long_at, words_at, range_at, spliced, zeros}
-use Rattle.blk_image.specs.Steps.{with_word, with_words}
-use Rattle.blk_image.proofs.Words.{content-range}
-use Rattle.blk_format.specs.Hash.{hash, mixed}
-use Rattle.blk_format.specs.Records.{Entry, Node, entry_in, entry_body, sealed_entry, node_in, node_body, sealed_node, checks, child, plain}
-use Rattle.blk_format.specs.Sealed.{sealed}
-use Rattle.blk_format.proofs.RecordBytes.{with_words-append}
-use Rattle.blk_format.specs.Address.{is_address, is_initialized}
+use Rattle.spec_image.specs.Bytes.{content, word_at, word_bytes, long_at, words_at, range_at, spliced, zeros}
+use Rattle.spec_image.specs.Steps.{with_word, with_words}
+use Rattle.spec_image.proofs.Words.{content-range}
+use Rattle.spec_format.specs.Hash.{hash, mixed}
+use Rattle.spec_format.specs.Records.{Entry, Node, entry_in, entry_body, sealed_entry, node_in, node_body, sealed_node, checks, child, plain}
+use Rattle.spec_format.specs.Sealed.{sealed}
+use Rattle.spec_format.proofs.RecordBytes.{with_words-append}
+use Rattle.spec_format.specs.Address.{is_address, is_initialized}
 use Rattle.blk_entry.specs.declared.writing.NewEntry.{NewEntry}
 use Rattle.blk_entry.specs.Writing.{AreWords, entry_bytes, new_node, new_record, node_bytes}
 

@@ -4,19 +4,19 @@ use Rattle.std.specs.Prelude.{◌==◌, nat_le, Ok, Result}
 use Rattle.std.specs.Option.{ForSome, option_and_then, option_map}
 use Rattle.std.proofs.lemmas.Bool.{and_parts, cases_Bool, or_right, eq-eqb, eqb-true}
 use Rattle.std.proofs.lemmas.Bool.Decides.{nat_tests}
-use Rattle.blk_image.specs.Bytes.{range_at}
-use Rattle.blk_image.specs.Image.{Block, External, Image, byte, has_file, length_of}
-use Rattle.blk_format.specs.Address.{is_address, kind_of, block_count, blocks_256, external, external_number, file_selector, place, rankings}
-use Rattle.blk_format.specs.Hash.{hash}
-use Rattle.blk_format.specs.Records.{entry_checks, entry_is_sealed, node_checks, node_is_sealed, child, plain, parent, entry_normal}
-use Rattle.blk_format.specs.Storage.{entry_blocks, is_storage}
-use Rattle.blk_format.specs.Standing.{stands}
-use Rattle.blk_format.specs.BlockFiles.{stands_in, stands_in_blocks}
-use Rattle.blk_volume.specs.View.{RecordFields, StoreView, checks_at, fields_at, fields_of, follow_at, key_place_at, list_of, node_fields_at, next_at, stands_as, store_of, stored_at}
-use Rattle.blk_volume.specs.Entries.{IsPlain, is_key_length, stored_key, role_of, stored_stream, stored_streams}
-use Rattle.blk_volume.specs.Loads.{Loaded, unchained_rule, load, load_key, load_record}
-use Rattle.blk_volume.specs.Reasons.{Reason, ◌>>=◌, demand}
-use Rattle.blk_volume.specs.Reasons as reason
+use Rattle.spec_image.specs.Bytes.{range_at}
+use Rattle.spec_image.specs.Image.{Block, External, Image, byte, has_file, length_of}
+use Rattle.spec_format.specs.Address.{is_address, kind_of, block_count, blocks_256, external, external_number, file_selector, place, rankings}
+use Rattle.spec_format.specs.Hash.{hash}
+use Rattle.spec_format.specs.Records.{entry_checks, entry_is_sealed, node_checks, node_is_sealed, child, plain, parent, entry_normal}
+use Rattle.spec_format.specs.Storage.{entry_blocks, is_storage}
+use Rattle.spec_format.specs.Standing.{stands}
+use Rattle.spec_format.specs.BlockFiles.{stands_in, stands_in_blocks}
+use Rattle.spec_folder.specs.View.{RecordFields, StoreView, checks_at, fields_at, fields_of, follow_at, key_place_at, list_of, node_fields_at, next_at, stands_as, store_of, stored_at}
+use Rattle.spec_folder.specs.Entries.{IsPlain, is_key_length, stored_key, role_of, stored_stream, stored_streams}
+use Rattle.spec_folder.specs.Loads.{Loaded, unchained_rule, load, load_key, load_record}
+use Rattle.spec_folder.specs.Reasons.{Reason, ◌>>=◌, demand}
+use Rattle.spec_folder.specs.Reasons as reason
 use Rattle.blk_disk.specs.declared.tables.BlockFiles.{BlockFiles}
 use Rattle.blk_disk.specs.Tables.{Agrees, stands_among}
 use Rattle.blk_disk.proofs.Ranges.{stands_agree}
@@ -24,9 +24,9 @@ use Rattle.blk_entry.specs.declared.writing.NewEntry.{NewEntry}
 use Rattle.blk_entry.specs.Keys.{data_at, data_file, data_start, key_at, stores}
 use Rattle.blk_entry.specs.Writing.{AreWords, FitsKey, HoldsLongKey, IsLongPlace, IsShownNew, IsWritten, entry_steps, address_of_key, before_key, loaded_new, longest_of, new_node, new_record}
 use Rattle.blk_entry.proofs.KeyPlaces.{data_of_blocks, data_of_external, storage_parts, take-range}
-use Rattle.blk_image.specs.Steps.{after}
-use Rattle.blk_image.specs.Told.{Told, Applies}
-use Rattle.blk_image.proofs.Runs.{told_whole}
+use Rattle.spec_image.specs.Steps.{after}
+use Rattle.spec_image.specs.Told.{Told, Applies}
+use Rattle.spec_image.proofs.Runs.{told_whole}
 use Rattle.blk_entry.proofs.NewPlaces.{length_kept}
 use Rattle.blk_entry.proofs.Windows.{not_external}
 

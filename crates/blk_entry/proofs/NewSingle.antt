@@ -4,10 +4,10 @@ use Rattle.std.specs.Prelude.{◌==◌}
 use Rattle.std.specs.List.{range_with_len}
 use Rattle.std.proofs.lemmas.Bool.{and_parts, cases_Bool, eqb-true, or_cases, or_from}
 use Rattle.std.proofs.lemmas.Bool.Decides.{nat_tests}
-use Rattle.blk_format.specs.Address.{is_address, is_initialized, kind_of, block_count, external, external_number, file_selector, first_block, rankings}
-use Rattle.blk_format.specs.Claims.{Claim, BlockOf, ExternalOf, claims_of, has_claim, repeats, same_claim}
-use Rattle.blk_volume.specs.Loads.{all_claims, record_claims}
-use Rattle.blk_laws.proofs.claims.ClaimLists.{claim-append, claim-head, no-claim, repeats-append}
+use Rattle.spec_format.specs.Address.{is_address, is_initialized, kind_of, block_count, external, external_number, file_selector, first_block, rankings}
+use Rattle.spec_format.specs.Claims.{Claim, BlockOf, ExternalOf, claims_of, has_claim, repeats, same_claim}
+use Rattle.spec_folder.specs.Loads.{all_claims, record_claims}
+use Rattle.law_folder.proofs.claims.ClaimLists.{claim-append, claim-head, no-claim, repeats-append}
 use Rattle.blk_disk.specs.declared.tables.BlockFiles.{BlockFiles}
 use Rattle.blk_entry.specs.declared.writing.NewEntry.{NewEntry}
 use Rattle.blk_entry.specs.Covering.{NewClaimsAreSingle}

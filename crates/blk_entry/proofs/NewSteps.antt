@@ -1,10 +1,10 @@
 -- The steps that write a new entry, as its calls make them.
 use Rattle.std.proofs.Common.{◌≡◌, ℕ, ◌+◌, List, ◌++◌, take, length, Option, None, Some, refl, sym, ◌∙◌, ap, ap₂, add-zero, append-nil}
-use Rattle.blk_image.specs.Bytes.{zeros}
-use Rattle.blk_image.specs.Image.{Block}
-use Rattle.blk_image.specs.Steps.{words}
-use Rattle.blk_format.specs.Address.{file_selector, place}
-use Rattle.blk_format.specs.Records.{entry_body, node_body}
+use Rattle.spec_image.specs.Bytes.{zeros}
+use Rattle.spec_image.specs.Image.{Block}
+use Rattle.spec_image.specs.Steps.{words}
+use Rattle.spec_format.specs.Address.{file_selector, place}
+use Rattle.spec_format.specs.Records.{entry_body, node_body}
 use Rattle.blk_entry.specs.declared.writing.NewEntry.{NewEntry}
 use Rattle.blk_entry.specs.Steps.{ended_steps}
 use Rattle.blk_entry.specs.Writing.{address_of_key, before_key, key_steps, empty_key_place, entry_bytes, new_node, new_record, node_bytes, node_steps, record_steps}

@@ -5,29 +5,29 @@ use Rattle.std.specs.Option.{option_and_then, option_map}
 use Rattle.std.proofs.lemmas.Bool.{cases_Bool, eq-eqb}
 use Rattle.std.proofs.lemmas.Bool.Decides.{nat_tests}
 use Rattle.std.proofs.lemmas.List.Elements.{All-nil, All-cons}
-use Rattle.blk_image.specs.Bytes.{content, words_at, word_at}
-use Rattle.blk_image.specs.Image.{Image, AreBytes}
-use Rattle.blk_image.specs.Steps.{with_word, with_words}
-use Rattle.blk_image.specs.Footprint.{SameOutside}
-use Rattle.blk_image.proofs.Runs.{some_inj}
-use Rattle.blk_image.proofs.Words.{word-beside, word-there, length-with_word}
-use Rattle.blk_format.specs.Address.{kind_of, blocks_256}
-use Rattle.blk_format.specs.Claims.{claims_of, has_claim}
-use Rattle.blk_format.specs.Hash.{hash}
-use Rattle.blk_format.specs.Records.{Entry, entry_in, entry_normal, plain, child}
-use Rattle.blk_format.specs.Sealed.{AreChanges, IsUpdated, record_at, record_range, seal_place}
-use Rattle.blk_format.proofs.SealedRecords.{length-record, whole_update}
-use Rattle.blk_laws.specs.RecordUpdates.{IsRecord, sealed_fields}
-use Rattle.blk_laws.proofs.updates.Records.{fields-written}
-use Rattle.blk_laws.proofs.updates.StillShown.{core-standing}
-use Rattle.blk_laws.proofs.updates.Updates.{entry-here, entry-seal}
-use Rattle.blk_laws.proofs.lists.WordTurns.{each}
-use Rattle.blk_volume.specs.View.{RecordFields, entry_at, fields_at, fields_of, store_of, stored_at, stands_as}
-use Rattle.blk_volume.specs.ShownChanges.{OnlyRecordFieldsChange}
-use Rattle.blk_volume.specs.Footprint.{IsClear}
-use Rattle.blk_format.specs.Storage.{is_storage}
-use Rattle.blk_volume.specs.Entries.{Role, is_key_length, stored_key, part_role, role_of, stored_stream, stored_streams}
-use Rattle.blk_volume.specs.Loads.{load, load_key, load_record, unchained_rule}
+use Rattle.spec_image.specs.Bytes.{content, words_at, word_at}
+use Rattle.spec_image.specs.Image.{Image, AreBytes}
+use Rattle.spec_image.specs.Steps.{with_word, with_words}
+use Rattle.spec_image.specs.Footprint.{SameOutside}
+use Rattle.spec_image.proofs.Runs.{some_inj}
+use Rattle.spec_image.proofs.Words.{word-beside, word-there, length-with_word}
+use Rattle.spec_format.specs.Address.{kind_of, blocks_256}
+use Rattle.spec_format.specs.Claims.{claims_of, has_claim}
+use Rattle.spec_format.specs.Hash.{hash}
+use Rattle.spec_format.specs.Records.{Entry, entry_in, entry_normal, plain, child}
+use Rattle.spec_format.specs.Sealed.{AreChanges, IsUpdated, record_at, record_range, seal_place}
+use Rattle.spec_format.proofs.SealedRecords.{length-record, whole_update}
+use Rattle.law_folder.specs.RecordUpdates.{IsRecord, sealed_fields}
+use Rattle.law_folder.proofs.updates.Records.{fields-written}
+use Rattle.law_folder.proofs.updates.StillShown.{core-standing}
+use Rattle.law_folder.proofs.updates.Updates.{entry-here, entry-seal}
+use Rattle.law_folder.proofs.lists.WordTurns.{each}
+use Rattle.spec_folder.specs.View.{RecordFields, entry_at, fields_at, fields_of, store_of, stored_at, stands_as}
+use Rattle.spec_folder.specs.ShownChanges.{OnlyRecordFieldsChange}
+use Rattle.spec_folder.specs.Footprint.{IsClear}
+use Rattle.spec_format.specs.Storage.{is_storage}
+use Rattle.spec_folder.specs.Entries.{Role, is_key_length, stored_key, part_role, role_of, stored_stream, stored_streams}
+use Rattle.spec_folder.specs.Loads.{load, load_key, load_record, unchained_rule}
 use Rattle.blk_disk.specs.declared.tables.BlockFiles.{BlockFiles}
 use Rattle.blk_entry.specs.declared.writing.NewEntry.{NewEntry}
 use Rattle.blk_entry.specs.Keys.{key_at}

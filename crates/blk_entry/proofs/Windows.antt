@@ -2,13 +2,13 @@
 use Rattle.std.proofs.Common.{◌≡◌, ◌≢◌, ℕ, ◌+◌, ◌*◌, ◌≤◌, Bool, true, false, None, Some, if◌then◌else◌, List, length, refl, sym, ◌∙◌, ap, arith}
 use Rattle.std.proofs.lemmas.List.{take_all}
 use Rattle.std.specs.Int.{from_le_bytes, w32}
-use Rattle.blk_image.specs.Bytes.{word_at, range_at}
-use Rattle.blk_image.proofs.Words.{length-range, word-from_bytes}
-use Rattle.blk_image.specs.Image.{Block, Image, word}
-use Rattle.blk_format.specs.Address.{kind_of, byte_size, block_count, block_size, blocks_256, external, file_selector, place}
-use Rattle.blk_format.specs.Records.{entry_in}
-use Rattle.blk_volume.specs.View.{entry_at}
-use Rattle.blk_format.proofs.Words.{AreFields-of}
+use Rattle.spec_image.specs.Bytes.{word_at, range_at}
+use Rattle.spec_image.proofs.Words.{length-range, word-from_bytes}
+use Rattle.spec_image.specs.Image.{Block, Image, word}
+use Rattle.spec_format.specs.Address.{kind_of, byte_size, block_count, block_size, blocks_256, external, file_selector, place}
+use Rattle.spec_format.specs.Records.{entry_in}
+use Rattle.spec_folder.specs.View.{entry_at}
+use Rattle.spec_format.proofs.Words.{AreFields-of}
 
 -- the bytes of the blocks of an entry record
 pub entry_room : (w : ℕ) → kind_of w ≡ blocks_256 → byte_size w ≡ 256 * block_count w

@@ -1,11 +1,11 @@
 -- What the places of a new entry claim.
 use Rattle.std.specs.Prelude.{◌≡◌, List, length, ℕ, false}
-use Rattle.blk_image.specs.Image.{Image}
-use Rattle.blk_format.specs.Claims.{has_claim, repeats}
-use Rattle.blk_volume.specs.Footprint.{Covers, SameBut}
-use Rattle.blk_volume.specs.View.{view_of}
-use Rattle.blk_volume.specs.Loads.{all_claims}
-use Rattle.blk_image.specs.Footprint.{SameOutside}
+use Rattle.spec_image.specs.Image.{Image}
+use Rattle.spec_format.specs.Claims.{has_claim, repeats}
+use Rattle.spec_folder.specs.Footprint.{Covers, SameBut}
+use Rattle.spec_folder.specs.View.{view_of}
+use Rattle.spec_folder.specs.Loads.{all_claims}
+use Rattle.spec_image.specs.Footprint.{SameOutside}
 use Rattle.blk_disk.specs.declared.tables.BlockFiles.{BlockFiles}
 use Rattle.blk_disk.specs.Tables.{Agrees}
 use Rattle.blk_entry.specs.declared.writing.NewEntry.{NewEntry}

@@ -1,16 +1,16 @@
 -- The key of an entry record: where it lies, and what a read of it gives.
 use Rattle.std.specs.Prelude.{ℕ, ◌≡◌, ◌≢◌, ◌⊎◌, ◌+◌, ◌-◌, ◌*◌, ◌<◌, ◌≤◌, ◌^◌, min, List, length, take, drop, Bool, false, true, ◌&&◌, ◌||◌, nat_le, ◌==◌, if◌then◌else◌, Option, None, Some}
 use Rattle.std.specs.Option.{option_and_then}
-use Rattle.blk_image.specs.Bytes.{range_at}
-use Rattle.blk_image.specs.Image.{File, Block, External, Image, HasRange, byte}
-use Rattle.blk_image.specs.Footprint.{Footprint, range}
-use Rattle.blk_image.specs.Told.{Told}
-use Rattle.blk_format.specs.Address.{kind_of, block_count, external, external_number, file_selector, place, byte_size}
-use Rattle.blk_format.specs.Hash.{hash as hash_of}
-use Rattle.blk_format.specs.Records.{entry_size}
-use Rattle.blk_format.specs.Storage.{entry_blocks, is_storage, longest_short_key}
-use Rattle.blk_volume.specs.View.{fields_at, entry_at, store_of}
-use Rattle.blk_volume.specs.Entries.{is_key_length, stored_key}
+use Rattle.spec_image.specs.Bytes.{range_at}
+use Rattle.spec_image.specs.Image.{File, Block, External, Image, HasRange, byte}
+use Rattle.spec_image.specs.Footprint.{Footprint, range}
+use Rattle.spec_image.specs.Told.{Told}
+use Rattle.spec_format.specs.Address.{kind_of, block_count, external, external_number, file_selector, place, byte_size}
+use Rattle.spec_format.specs.Hash.{hash as hash_of}
+use Rattle.spec_format.specs.Records.{entry_size}
+use Rattle.spec_format.specs.Storage.{entry_blocks, is_storage, longest_short_key}
+use Rattle.spec_folder.specs.View.{fields_at, entry_at, store_of}
+use Rattle.spec_folder.specs.Entries.{is_key_length, stored_key}
 use Rattle.blk_io.specs.declared.folder.FileId.{FileId}
 use Rattle.blk_io.specs.declared.folder.FileId.TheVariants as names
 use Rattle.blk_io.specs.declared.fault.Damage.{Damage}
@@ -20,7 +20,7 @@ use Rattle.blk_io.specs.Faults.{IsOfWord, IsShort}
 use Rattle.blk_disk.specs.declared.tables.BlockFiles.{BlockFiles}
 use Rattle.blk_disk.specs.Tables.{Agrees, stands_among}
 use Rattle.blk_disk.specs.Damages.{IsFailedRecord}
-use Rattle.blk_format.specs.Sealed.{RecordChecks}
+use Rattle.spec_format.specs.Sealed.{RecordChecks}
 use Rattle.blk_entry.specs.declared.keys.Head.{Head}
 use Rattle.blk_entry.specs.declared.keys.KeyPlace.{KeyPlace}
 

@@ -1,13 +1,13 @@
 -- The dirty word of a node, and how it is changed.
 use Rattle.std.specs.Prelude.{ℕ, ◌≡◌, ◌⊎◌, List, [], ◌∷◌, None, OnOk, Result}
 use Rattle.std.specs.Option.{ForSome}
-use Rattle.blk_image.specs.Image.{Image}
-use Rattle.blk_image.specs.Steps.{TrailStep}
-use Rattle.blk_image.specs.Told.{Told, Applies, AppliesPrefix, Passes, Stays}
-use Rattle.blk_format.specs.Records.{Node, sealed_node}
-use Rattle.blk_format.specs.Sealed.{IsMidUpdate, RecordChecks, record_size, sealed_steps}
-use Rattle.blk_volume.specs.ShownChanges.{ChangesInside, OnlyNodeFieldsChange}
-use Rattle.blk_volume.specs.View.{node_at}
+use Rattle.spec_image.specs.Image.{Image}
+use Rattle.spec_image.specs.Steps.{TrailStep}
+use Rattle.spec_image.specs.Told.{Told, Applies, AppliesPrefix, Passes, Stays}
+use Rattle.spec_format.specs.Records.{Node, sealed_node}
+use Rattle.spec_format.specs.Sealed.{IsMidUpdate, RecordChecks, record_size, sealed_steps}
+use Rattle.spec_folder.specs.ShownChanges.{ChangesInside, OnlyNodeFieldsChange}
+use Rattle.spec_folder.specs.View.{node_at}
 use Rattle.blk_io.specs.declared.fault.Fault.{Fault}
 use Rattle.blk_io.specs.Faults.{IfDamaged}
 use Rattle.blk_disk.specs.declared.tables.BlockFiles.{BlockFiles}

@@ -2,15 +2,15 @@
 use Rattle.std.specs.Prelude.{◌≡◌, ℕ, ◌^◌, ◌<◌, ◌≤◌, List, [], ◌∷◌, length, true, unwrap_or}
 use Rattle.std.specs.declared.option.Option.TheVariants.{Some}
 use Rattle.std.specs.declared.result.Result.TheVariants.{Ok}
-use Rattle.blk_image.specs.Image.{Image, AreBytes}
-use Rattle.blk_image.specs.Footprint.{SameOutside}
-use Rattle.blk_format.specs.Claims.{claims_of, has_claim}
-use Rattle.blk_format.specs.Records.{entry_normal}
-use Rattle.blk_format.specs.Sealed.{IsUpdated, record_range}
-use Rattle.blk_volume.specs.View.{store_of}
-use Rattle.blk_volume.specs.Entries.{Role, most_stream_bytes, part_role}
-use Rattle.blk_volume.specs.Footprint.{IsClear}
-use Rattle.blk_volume.specs.Loads.{Loaded, load, unchained_rule}
+use Rattle.spec_image.specs.Image.{Image, AreBytes}
+use Rattle.spec_image.specs.Footprint.{SameOutside}
+use Rattle.spec_format.specs.Claims.{claims_of, has_claim}
+use Rattle.spec_format.specs.Records.{entry_normal}
+use Rattle.spec_format.specs.Sealed.{IsUpdated, record_range}
+use Rattle.spec_folder.specs.View.{store_of}
+use Rattle.spec_folder.specs.Entries.{Role, most_stream_bytes, part_role}
+use Rattle.spec_folder.specs.Footprint.{IsClear}
+use Rattle.spec_folder.specs.Loads.{Loaded, load, unchained_rule}
 use Rattle.blk_disk.specs.declared.tables.BlockFiles.{BlockFiles}
 use Rattle.blk_entry.specs.declared.writing.NewEntry.{NewEntry}
 use Rattle.blk_entry.specs.Writing.{AreWords, FitsKey, IsShownNew, LiesApart, loaded_new}

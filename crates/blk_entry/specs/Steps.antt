@@ -1,6 +1,6 @@
 -- The steps that write bytes of the data of an address.
 use Rattle.std.specs.Prelude.{ℕ, ◌+◌, List, [], ◌∷◌, ◌++◌, length}
-use Rattle.blk_image.specs.Steps.{TrailStep, words}
+use Rattle.spec_image.specs.Steps.{TrailStep, words}
 use Rattle.blk_entry.specs.Keys.{data_file, data_start}
 
 -- bytes of the data of an address, from a place in it on

@@ -1,21 +1,21 @@
 -- A new entry: the places where it is written, its record, its node, and the steps that write them.
 use Rattle.std.specs.Prelude.{ℕ, ◌≡◌, ◌≢◌, ◌⊎◌, ◌+◌, ◌^◌, ◌<◌, ◌≤◌, List, [], ◌∷◌, ◌++◌, length, Bool, true, false, if◌then◌else◌, Option, None, Some, unwrap_or}
-use Rattle.blk_image.specs.Bytes.{word_bytes, zeros}
-use Rattle.blk_image.specs.Image.{Block, External, Image, length_of}
-use Rattle.blk_image.specs.Steps.{TrailStep, words}
-use Rattle.blk_image.specs.Footprint.{Footprint, SameOutside, either, nothing, range}
-use Rattle.blk_format.specs.Address.{is_address, kind_of, block_count, first_block, external, rankings, blocks_256, external_number, file_selector, place, byte_size}
-use Rattle.blk_format.specs.BlockFiles.{IsWellFormed}
-use Rattle.blk_format.specs.Headers.{HasWholeIndex}
-use Rattle.blk_format.specs.Hash.{hash as hash_of}
-use Rattle.blk_format.specs.Records.{Entry, Node, entry_body, entry_size, sealed_entry, node_body, sealed_node, entry_normal, plain, child}
-use Rattle.blk_format.specs.Storage.{entry_blocks, key_place_bytes}
-use Rattle.blk_volume.specs.View.{entry_at, node_at, fields_of, list_of, store_of}
-use Rattle.blk_volume.specs.Entries.{IsPlain, stored_streams}
-use Rattle.blk_volume.specs.Loads.{Loaded}
+use Rattle.spec_image.specs.Bytes.{word_bytes, zeros}
+use Rattle.spec_image.specs.Image.{Block, External, Image, length_of}
+use Rattle.spec_image.specs.Steps.{TrailStep, words}
+use Rattle.spec_image.specs.Footprint.{Footprint, SameOutside, either, nothing, range}
+use Rattle.spec_format.specs.Address.{is_address, kind_of, block_count, first_block, external, rankings, blocks_256, external_number, file_selector, place, byte_size}
+use Rattle.spec_format.specs.BlockFiles.{IsWellFormed}
+use Rattle.spec_format.specs.Headers.{HasWholeIndex}
+use Rattle.spec_format.specs.Hash.{hash as hash_of}
+use Rattle.spec_format.specs.Records.{Entry, Node, entry_body, entry_size, sealed_entry, node_body, sealed_node, entry_normal, plain, child}
+use Rattle.spec_format.specs.Storage.{entry_blocks, key_place_bytes}
+use Rattle.spec_folder.specs.View.{entry_at, node_at, fields_of, list_of, store_of}
+use Rattle.spec_folder.specs.Entries.{IsPlain, stored_streams}
+use Rattle.spec_folder.specs.Loads.{Loaded}
 use Rattle.blk_disk.specs.declared.tables.BlockFiles.{BlockFiles}
 use Rattle.blk_disk.specs.Tables.{stands_among}
-use Rattle.blk_format.specs.Sealed.{RecordChecks, record_range}
+use Rattle.spec_format.specs.Sealed.{RecordChecks, record_range}
 use Rattle.blk_entry.specs.declared.writing.NewEntry.{NewEntry}
 use Rattle.blk_entry.specs.Keys.{data_at, data_file, data_start, is_short, key_at, may_hold}
 use Rattle.blk_entry.specs.Steps.{ended_steps}

@@ -1,12 +1,12 @@
 // Keys that are compared with those of entry records.
 ghost use Rattle.std.specs.Prelude.{◌≡◌, ◌≤◌, ◌↔◌, IfOk, IsTrue, None, OnOk, Some, length};
 ghost use Rattle.std.specs.Option.{ForSome};
-ghost use Rattle.blk_image.specs.Told.{Rises, Stays};
-ghost use Rattle.blk_format.specs.Address.{blocks_256, kind_of};
-ghost use Rattle.blk_volume.specs.View.{entry_at};
+ghost use Rattle.spec_image.specs.Told.{Rises, Stays};
+ghost use Rattle.spec_format.specs.Address.{blocks_256, kind_of};
+ghost use Rattle.spec_folder.specs.View.{entry_at};
 ghost use Rattle.blk_io.specs.Faults.{IfDamaged, IfDevice};
 ghost use Rattle.blk_disk.specs.Tables.{Agrees, stands_among};
-ghost use Rattle.blk_format.specs.Hash.{hash as hash_of};
+ghost use Rattle.spec_format.specs.Hash.{hash as hash_of};
 ghost use Rattle.blk_entry.specs.Keys.{AreKeyBytes, CanBeRead, HasBytesOf, HasData, HasKeyBytes, HasKeyPlace, HasReadableKey, HasRecord, IsCut, IsCutPiece, IsEntryOf, IsRecordHead, IsInFile, IsInside, IsKeyDamage, IsPlaceDamage, IsPlaced, bytes_before, data_at, key_address, key_at};
 
 use crate::data::read_data;

@@ -1,11 +1,11 @@
 // The words of entry records.
 ghost use Rattle.std.specs.Prelude.{◌≡◌, ◌⊎◌, ◌+◌, ◌≤◌, IfOk, IsTrue, None, OnOk, true};
 ghost use Rattle.std.specs.Option.{ForSome};
-ghost use Rattle.blk_image.specs.Image.{Block as block, HasRange, word};
-ghost use Rattle.blk_image.specs.Told.{Rises, Stays};
-ghost use Rattle.blk_format.specs.Address.{blocks_256, file_selector, kind_of, place, rankings};
-ghost use Rattle.blk_format.specs.Records.{entry_size};
-ghost use Rattle.blk_volume.specs.View.{entry_at};
+ghost use Rattle.spec_image.specs.Image.{Block as block, HasRange, word};
+ghost use Rattle.spec_image.specs.Told.{Rises, Stays};
+ghost use Rattle.spec_format.specs.Address.{blocks_256, file_selector, kind_of, place, rankings};
+ghost use Rattle.spec_format.specs.Records.{entry_size};
+ghost use Rattle.spec_folder.specs.View.{entry_at};
 ghost use Rattle.blk_entry.specs.Keys.{node_place};
 ghost use Rattle.blk_record.specs.Fields.{IsField};
 ghost use Rattle.blk_io.specs.declared.folder.FileId.TheVariants as FileId;

@@ -1,8 +1,8 @@
 // The dirty marks of nodes.
 ghost use Rattle.std.specs.Prelude.{◌≡◌, ◌≢◌, ◌≤◌, IsTrue};
 ghost use Rattle.std.specs.Option.{ForSome};
-ghost use Rattle.blk_image.specs.Told.{Rises};
-ghost use Rattle.blk_format.specs.Address.{kind_of, rankings};
+ghost use Rattle.spec_image.specs.Told.{Rises};
+ghost use Rattle.spec_format.specs.Address.{kind_of, rankings};
 ghost use Rattle.blk_io.specs.Faults.{IfDevice};
 ghost use Rattle.blk_disk.specs.Tables.{Agrees, stands_among};
 ghost use Rattle.blk_entry.specs.Marks.{SetsDirty};

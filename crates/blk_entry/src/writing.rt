@@ -2,18 +2,18 @@
 ghost use Rattle.std.specs.Prelude.{◌≡◌, ◌≤◌, ◌++◌, length, OnErr, OnOk, Ok, IsTrue, false, if◌then◌else◌, unwrap_or};
 ghost use Rattle.std.specs.Option.{ForSome};
 ghost use Rattle.std.specs.List.{All};
-ghost use Rattle.blk_image.specs.Bytes.{zeros};
-ghost use Rattle.blk_image.specs.Steps.{with_words};
-ghost use Rattle.blk_image.specs.Told.{Applies, AppliesPrefix, Passes, Rises};
-ghost use Rattle.blk_format.specs.Address.{kind_of, rankings};
-ghost use Rattle.blk_format.specs.Headers.{HasWholeIndex};
-ghost use Rattle.blk_format.specs.Records as records;
-ghost use Rattle.blk_format.specs.Storage.{key_place_bytes};
-ghost use Rattle.blk_volume.specs.Loads.{unchained_rule, load};
-ghost use Rattle.blk_volume.specs.View.{store_of};
+ghost use Rattle.spec_image.specs.Bytes.{zeros};
+ghost use Rattle.spec_image.specs.Steps.{with_words};
+ghost use Rattle.spec_image.specs.Told.{Applies, AppliesPrefix, Passes, Rises};
+ghost use Rattle.spec_format.specs.Address.{kind_of, rankings};
+ghost use Rattle.spec_format.specs.Headers.{HasWholeIndex};
+ghost use Rattle.spec_format.specs.Records as records;
+ghost use Rattle.spec_format.specs.Storage.{key_place_bytes};
+ghost use Rattle.spec_folder.specs.Loads.{unchained_rule, load};
+ghost use Rattle.spec_folder.specs.View.{store_of};
 ghost use Rattle.blk_record.specs.Fields.{IsField};
 ghost use Rattle.blk_io.specs.Faults.{IfDamaged, IfDevice};
-ghost use Rattle.blk_format.specs.Sealed as sealed;
+ghost use Rattle.spec_format.specs.Sealed as sealed;
 ghost use Rattle.blk_disk.specs.Tables.{Agrees, stands_among};
 ghost use Rattle.blk_entry.specs.Writing.{AreWords, FitsKey, HoldsLongKey, IsShownNew, IsWritten, LiesApart, WritesEntryInProgress, entry_bytes, entry_steps, key_steps, loaded_new, new_node, new_record, node_bytes, node_steps, record_steps};
 

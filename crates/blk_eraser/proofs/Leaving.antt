@@ -4,17 +4,17 @@ use Rattle.std.proofs.lemmas.Bool.{cases_lt}
 use Rattle.std.proofs.lemmas.Bool.Decides.{nat_tests}
 use Rattle.std.proofs.lemmas.List.{get_or_past}
 use Rattle.std.proofs.lemmas.Nat.{div-mul-add}
-use Rattle.blk_image.specs.Bytes.{content, spliced, zeros}
-use Rattle.blk_image.specs.Footprint.{Footprint, IsWithin, SameOutside, either, range, touched_by, touched_by_all}
-use Rattle.blk_image.specs.Image.{File, Block, Image, byte, bytes_of, length_of, same_file}
-use Rattle.blk_image.specs.Steps.{TrailStep, Word, SetLength, Delete, Note, after, applied, words, before_words, written_over}
-use Rattle.blk_image.specs.Told.{Along}
-use Rattle.blk_image.proofs.Cuts.{StartsAt, after-append, after-words, words_start}
-use Rattle.blk_image.proofs.Footprints.{outside-refl, outside_steps, within_both, within_first, within_left, within_right, within_second, words_inside, words_within}
-use Rattle.blk_image.proofs.Images.{bytes-written, bytes_of-written, with_file-same}
-use Rattle.blk_image.proofs.Runs.{until-append, until_both, until_weaker2}
-use Rattle.blk_image.proofs.Splices.{content-spliced_inside, content-spliced_outside, content-zeros, length-spliced, length-zeros}
-use Rattle.blk_format.specs.Headers.{entry_size_of}
+use Rattle.spec_image.specs.Bytes.{content, spliced, zeros}
+use Rattle.spec_image.specs.Footprint.{Footprint, IsWithin, SameOutside, either, range, touched_by, touched_by_all}
+use Rattle.spec_image.specs.Image.{File, Block, Image, byte, bytes_of, length_of, same_file}
+use Rattle.spec_image.specs.Steps.{TrailStep, Word, SetLength, Delete, Note, after, applied, words, before_words, written_over}
+use Rattle.spec_image.specs.Told.{Along}
+use Rattle.spec_image.proofs.Cuts.{StartsAt, after-append, after-words, words_start}
+use Rattle.spec_image.proofs.Footprints.{outside-refl, outside_steps, within_both, within_first, within_left, within_right, within_second, words_inside, words_within}
+use Rattle.spec_image.proofs.Images.{bytes-written, bytes_of-written, with_file-same}
+use Rattle.spec_image.proofs.Runs.{until-append, until_both, until_weaker2}
+use Rattle.spec_image.proofs.Splices.{content-spliced_inside, content-spliced_outside, content-zeros, length-spliced, length-zeros}
+use Rattle.spec_format.specs.Headers.{entry_size_of}
 use Rattle.blk_eraser.specs.Erasing.{frees, zeros_over_block, zeros_over_blocks, zeros_before_write, write_steps}
 use Rattle.blk_eraser.specs.Laws.{AreFreedBlank, CutBytesAreBlank, FreedBlocksAreBlank, IsBlank, OnlyFreedBlocksChange, freed_bytes}
 use Rattle.blk_eraser.proofs.MapWrites.{is_one}

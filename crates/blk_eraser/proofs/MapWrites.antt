@@ -4,14 +4,14 @@ use Rattle.std.specs.Int.{bit_at}
 use Rattle.std.proofs.lemmas.Bool.{cases_lt}
 use Rattle.std.proofs.lemmas.Bool.Decides.{nat_tests}
 use Rattle.std.proofs.lemmas.List.{append-nil}
-use Rattle.blk_image.specs.Bytes.{content, range_at, word_at}
-use Rattle.blk_image.specs.Image.{File, Index, Block, External, Image, byte, bytes_of, length_of}
-use Rattle.blk_image.specs.Steps.{TrailStep}
-use Rattle.blk_image.specs.Told.{Told, AppliesPrefix}
-use Rattle.blk_image.proofs.Splices.{content-spliced_inside, content-spliced_outside}
-use Rattle.blk_image.proofs.Words.{length-range, content-range}
-use Rattle.blk_image.proofs.Runs.{part_only, part_whole, grows_none}
-use Rattle.blk_format.specs.Headers.{entry_size_of}
+use Rattle.spec_image.specs.Bytes.{content, range_at, word_at}
+use Rattle.spec_image.specs.Image.{File, Index, Block, External, Image, byte, bytes_of, length_of}
+use Rattle.spec_image.specs.Steps.{TrailStep}
+use Rattle.spec_image.specs.Told.{Told, AppliesPrefix}
+use Rattle.spec_image.proofs.Splices.{content-spliced_inside, content-spliced_outside}
+use Rattle.spec_image.proofs.Words.{length-range, content-range}
+use Rattle.spec_image.proofs.Runs.{part_only, part_whole, grows_none}
+use Rattle.spec_format.specs.Headers.{entry_size_of}
 use Rattle.blk_eraser.specs.Erasing.{IsBlockFile, frees, zeros_over_block, zeros_over_blocks, zeros_before_write}
 
 -- a bit that is written over itself isn't freed

@@ -2,12 +2,12 @@
 use Rattle.std.proofs.Common.{◌≡◌, ℕ, zero, suc, List, [], ◌∷◌, ◌++◌, Bool, true, false, if◌then◌else◌, Option, None, Some, refl, subst, ⊎_elim}
 use Rattle.std.specs.Prelude.{◌==◌}
 use Rattle.std.proofs.lemmas.Bool.{eqb-true, or_cases}
-use Rattle.blk_image.specs.Checks.{first_of}
-use Rattle.blk_image.specs.Image.{Block, Image, Index, byte, length_of}
-use Rattle.blk_format.specs.Address.{block_size}
-use Rattle.blk_format.specs.BlockFiles.{block_checks, checks_along, checks_of_kind, file_checks, files_along, first_block_damage, is_among, kind_among, linked, linked_as, linked_up_to, next_file_in, IsWellFormed}
-use Rattle.blk_format.specs.Headers.{entry_size_of, head_checks, list_checks}
-use Rattle.blk_format.proofs.Keeping.{checks_hold, each_kind, none_parts}
+use Rattle.spec_image.specs.Checks.{first_of}
+use Rattle.spec_image.specs.Image.{Block, Image, Index, byte, length_of}
+use Rattle.spec_format.specs.Address.{block_size}
+use Rattle.spec_format.specs.BlockFiles.{block_checks, checks_along, checks_of_kind, file_checks, files_along, first_block_damage, is_among, kind_among, linked, linked_as, linked_up_to, next_file_in, IsWellFormed}
+use Rattle.spec_format.specs.Headers.{entry_size_of, head_checks, list_checks}
+use Rattle.spec_format.proofs.Keeping.{checks_hold, each_kind, none_parts}
 
 HasSize : Image → ℕ → ℕ → Type 0
 HasSize image kind m = entry_size_of (byte image (Block m)) ≡ block_size kind

@@ -4,36 +4,36 @@ use Rattle.std.specs.Prelude.{◌==◌}
 use Rattle.std.proofs.lemmas.Bool.{and_parts, cases_Bool, eq-eqb, eqb-true, ltb-true, or_left}
 use Rattle.std.proofs.lemmas.Bool.Decides.{nat_tests}
 use Rattle.std.proofs.lemmas.Nat.{div-mul-add}
-use Rattle.blk_image.specs.Checks.{first_of}
-use Rattle.blk_image.specs.Footprint.{Footprint, SameOutside}
-use Rattle.blk_image.specs.Image.{Block, Image, Index, byte, bytes_of, length_of, same_file, word}
-use Rattle.blk_image.specs.Steps.{TrailStep}
-use Rattle.blk_image.specs.Told.{Along}
-use Rattle.blk_image.proofs.Footprints.{outside-refl, outside_steps, same_file_outside, same_word_outside}
-use Rattle.blk_image.proofs.Images.{same_file-true}
-use Rattle.blk_image.proofs.Runs.{until_weaker2}
+use Rattle.spec_image.specs.Checks.{first_of}
+use Rattle.spec_image.specs.Footprint.{Footprint, SameOutside}
+use Rattle.spec_image.specs.Image.{Block, Image, Index, byte, bytes_of, length_of, same_file, word}
+use Rattle.spec_image.specs.Steps.{TrailStep}
+use Rattle.spec_image.specs.Told.{Along}
+use Rattle.spec_image.proofs.Footprints.{outside-refl, outside_steps, same_file_outside, same_word_outside}
+use Rattle.spec_image.proofs.Images.{same_file-true}
+use Rattle.spec_image.proofs.Runs.{until_weaker2}
 use Rattle.blk_model.specs.State.{State}
-use Rattle.blk_format.specs.Address.{block_place, block_size}
-use Rattle.blk_format.specs.BlockFiles.{linked_as, IsWellFormed}
-use Rattle.blk_format.specs.Claims.{BlockOf, Claim, ExternalOf, claims_of, claims_of_all, has_claim}
-use Rattle.blk_format.specs.Growth.{StaysWhole}
-use Rattle.blk_format.specs.Headers.{entry_size_of, head_checks, is_extent_place, list_checks}
-use Rattle.blk_format.proofs.Finished.{well_formed-finished}
-use Rattle.blk_format.proofs.SpareHeaders.{SparesHeaders}
-use Rattle.blk_volume.specs.Footprint.{Covers, IsFree}
-use Rattle.blk_volume.specs.Layout.{Layout, Represents}
-use Rattle.blk_volume.specs.View.{view_of}
-use Rattle.blk_laws.proofs.claims.Allocations.{flat_map-append}
-use Rattle.blk_laws.proofs.claims.ByteChanges.{agreeing-views, covered-agrees}
-use Rattle.blk_laws.proofs.claims.ClaimLists.{claim-append}
-use Rattle.blk_laws.proofs.claims.Covers.{block-of}
-use Rattle.blk_laws.proofs.claims.Files.{growth-keeps}
-use Rattle.blk_laws.proofs.claims.Outside.{represents-outside}
-use Rattle.blk_laws.proofs.states.Standing.{found-at_rest}
-use Rattle.blk_laws.proofs.updates.WellFormed.{well_formed_still}
-use Rattle.blk_kept.specs.Changes.{AreOfWords, ChangesOnly, SameCounters, StillFinds}
-use Rattle.blk_kept.specs.Keeping.{KeepsUncounted}
-use Rattle.blk_kept.proofs.Free.{unlinked-change}
+use Rattle.spec_format.specs.Address.{block_place, block_size}
+use Rattle.spec_format.specs.BlockFiles.{linked_as, IsWellFormed}
+use Rattle.spec_format.specs.Claims.{BlockOf, Claim, ExternalOf, claims_of, claims_of_all, has_claim}
+use Rattle.spec_format.specs.Growth.{StaysWhole}
+use Rattle.spec_format.specs.Headers.{entry_size_of, head_checks, is_extent_place, list_checks}
+use Rattle.spec_format.proofs.Finished.{well_formed-finished}
+use Rattle.spec_format.proofs.SpareHeaders.{SparesHeaders}
+use Rattle.spec_folder.specs.Footprint.{Covers, IsFree}
+use Rattle.spec_folder.specs.Layout.{Layout, Represents}
+use Rattle.spec_folder.specs.View.{view_of}
+use Rattle.law_folder.proofs.claims.Allocations.{flat_map-append}
+use Rattle.law_folder.proofs.claims.ByteChanges.{agreeing-views, covered-agrees}
+use Rattle.law_folder.proofs.claims.ClaimLists.{claim-append}
+use Rattle.law_folder.proofs.claims.Covers.{block-of}
+use Rattle.law_folder.proofs.claims.Files.{growth-keeps}
+use Rattle.law_folder.proofs.claims.Outside.{represents-outside}
+use Rattle.law_folder.proofs.states.Standing.{found-at_rest}
+use Rattle.law_folder.proofs.updates.WellFormed.{well_formed_still}
+use Rattle.law_state.specs.Changes.{AreOfWords, ChangesOnly, SameCounters, StillFinds}
+use Rattle.law_state.specs.Keeping.{KeepsUncounted}
+use Rattle.law_state.proofs.Free.{unlinked-change}
 use Rattle.blk_eraser.specs.Erasing.{frees, zeros_before_write}
 use Rattle.blk_eraser.specs.Laws.{EachFreed, UnownedBlocksMayBeErased, UnlinkedBlocksMayBeErased, ErasingFindsTheSame, FreesUnlinked, KeepsTheSame, ShowsWhole}
 use Rattle.blk_eraser.proofs.Leaving.{block_bytes, block_within, zeros_within}

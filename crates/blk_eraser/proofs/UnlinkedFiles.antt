@@ -2,17 +2,17 @@
 use Rattle.std.proofs.Common.{◌≡◌, ℕ, ◌+◌, ◌-◌, true, false, ◌&&◌, nat_le, nat_lt, List, [], ◌∷◌, length, Option, Some, refl, sym, ◌∙◌, ap, subst}
 use Rattle.std.specs.Prelude.{is_some}
 use Rattle.std.proofs.lemmas.Bool.{and_parts, eqb-true}
-use Rattle.blk_image.specs.Bytes.{resized, zeros}
-use Rattle.blk_image.specs.Footprint.{IsWithin, SameOutside, range, whole}
-use Rattle.blk_image.specs.Image.{File, External, Image, bytes_of, has_file, length_of, same_file}
-use Rattle.blk_image.specs.Steps.{Delete, SetLength, TrailStep, after, applied, words}
-use Rattle.blk_image.specs.Told.{Along, Until}
-use Rattle.blk_image.proofs.Footprints.{outside-trans, outside_step, outside_wider, words_inside}
-use Rattle.blk_image.proofs.Images.{with_file-same}
-use Rattle.blk_image.proofs.Runs.{until-append, until_last, until_weaker2}
-use Rattle.blk_format.specs.Claims.{BlockOf, Claim, ExternalOf, claims_of_all, has_claim, same_claim}
-use Rattle.blk_kept.proofs.Free.{unlinked-change}
-use Rattle.blk_kept.proofs.Writes.{external-writes}
+use Rattle.spec_image.specs.Bytes.{resized, zeros}
+use Rattle.spec_image.specs.Footprint.{IsWithin, SameOutside, range, whole}
+use Rattle.spec_image.specs.Image.{File, External, Image, bytes_of, has_file, length_of, same_file}
+use Rattle.spec_image.specs.Steps.{Delete, SetLength, TrailStep, after, applied, words}
+use Rattle.spec_image.specs.Told.{Along, Until}
+use Rattle.spec_image.proofs.Footprints.{outside-trans, outside_step, outside_wider, words_inside}
+use Rattle.spec_image.proofs.Images.{with_file-same}
+use Rattle.spec_image.proofs.Runs.{until-append, until_last, until_weaker2}
+use Rattle.spec_format.specs.Claims.{BlockOf, Claim, ExternalOf, claims_of_all, has_claim, same_claim}
+use Rattle.law_state.proofs.Free.{unlinked-change}
+use Rattle.law_state.proofs.Writes.{external-writes}
 use Rattle.blk_eraser.specs.Erasing.{delete_steps, length_steps}
 use Rattle.blk_eraser.specs.Laws.{CutsChangeOneFile, KeepsTheSame, UnlinkedFilesMayBeErased}
 use Rattle.blk_eraser.proofs.Unlinked.{counters_same}

@@ -3,15 +3,15 @@ use Rattle.std.proofs.Common.{◌≡◌, ℕ, zero, suc, ◌+◌, ◌-◌, ◌%�
 use Rattle.std.proofs.lemmas.Bool.{cases_lt}
 use Rattle.std.proofs.lemmas.List.{append-nil}
 use Rattle.std.specs.Option.{ForSome}
-use Rattle.blk_image.specs.Bytes.{zeros}
-use Rattle.blk_image.specs.Image.{File, Image, length_of}
-use Rattle.blk_image.specs.Steps.{TrailStep, words}
-use Rattle.blk_image.specs.Footprint.{SameOutside, range}
-use Rattle.blk_image.specs.Told.{Told, Along, Applies, AppliesPrefix}
-use Rattle.blk_image.proofs.Cuts.{words-split}
-use Rattle.blk_image.proofs.Splices.{length-zeros}
-use Rattle.blk_image.proofs.Runs.{part_only, until_weaker2, told_part}
-use Rattle.blk_image.proofs.Footprints.{words_inside}
+use Rattle.spec_image.specs.Bytes.{zeros}
+use Rattle.spec_image.specs.Image.{File, Image, length_of}
+use Rattle.spec_image.specs.Steps.{TrailStep, words}
+use Rattle.spec_image.specs.Footprint.{SameOutside, range}
+use Rattle.spec_image.specs.Told.{Told, Along, Applies, AppliesPrefix}
+use Rattle.spec_image.proofs.Cuts.{words-split}
+use Rattle.spec_image.proofs.Splices.{length-zeros}
+use Rattle.spec_image.proofs.Runs.{part_only, until_weaker2, told_part}
+use Rattle.spec_image.proofs.Footprints.{words_inside}
 
 take-zeros : (a n : ℕ) → take a (zeros (a + n)) ≡ zeros a
 unfolding zeros

@@ -1,15 +1,15 @@
 -- The zeros that are written before bytes go out of use.
 use Rattle.std.specs.Prelude.{ℕ, zero, suc, ◌+◌, ◌-◌, ◌*◌, Bool, not, ◌&&◌, if◌then◌else◌, List, [], ◌∷◌, ◌++◌, Option, min}
 use Rattle.std.specs.Option.{ForSome}
-use Rattle.blk_image.specs.Bytes.{content, spliced, zeros}
-use Rattle.blk_image.specs.Image.{File, Index, Block, External, Image, byte, bytes_of, length_of}
-use Rattle.blk_image.specs.Steps.{TrailStep, SetLength, Delete, words}
-use Rattle.blk_image.specs.Order.{IsNextFile}
-use Rattle.blk_image.specs.Told.{Told, Applies}
-use Rattle.blk_format.specs.Address.{header_size}
-use Rattle.blk_format.specs.BlockFiles.{most_blocks}
-use Rattle.blk_format.specs.Headers.{entry_size_of}
-use Rattle.blk_format.specs.Maps.{is_block_marked_at}
+use Rattle.spec_image.specs.Bytes.{content, spliced, zeros}
+use Rattle.spec_image.specs.Image.{File, Index, Block, External, Image, byte, bytes_of, length_of}
+use Rattle.spec_image.specs.Steps.{TrailStep, SetLength, Delete, words}
+use Rattle.spec_image.specs.Order.{IsNextFile}
+use Rattle.spec_image.specs.Told.{Told, Applies}
+use Rattle.spec_format.specs.Address.{header_size}
+use Rattle.spec_format.specs.BlockFiles.{most_blocks}
+use Rattle.spec_format.specs.Headers.{entry_size_of}
+use Rattle.spec_format.specs.Maps.{is_block_marked_at}
 
 -- the file has a map
 abbrev pub IsBlockFile : File → Type 0

@@ -1,20 +1,20 @@
 -- What erasing leaves, at each step of it.
 use Rattle.std.specs.Prelude.{◌≡◌, ℕ, ◌+◌, ◌-◌, ◌/◌, ◌<◌, ◌≤◌, ◌&&◌, true, false, nat_le, List, length, None}
-use Rattle.blk_image.specs.Bytes.{zeros}
-use Rattle.blk_image.specs.Footprint.{Footprint, SameOutside, either, range, whole}
-use Rattle.blk_image.specs.Image.{File, Block, External, Image, byte, bytes_of, has_file, length_of, same_file}
-use Rattle.blk_image.specs.Steps.{after, words}
-use Rattle.blk_image.specs.Told.{Along, Until}
-use Rattle.blk_format.specs.Address.{header_size}
-use Rattle.blk_format.specs.BlockFiles.{most_blocks, IsWellFormed}
-use Rattle.blk_format.specs.Claims.{BlockOf, ExternalOf, claims_of_all, has_claim}
-use Rattle.blk_format.specs.Growth.{StaysWhole}
-use Rattle.blk_format.specs.Headers.{entry_size_of}
-use Rattle.blk_format.specs.Maps.{is_block_marked}
+use Rattle.spec_image.specs.Bytes.{zeros}
+use Rattle.spec_image.specs.Footprint.{Footprint, SameOutside, either, range, whole}
+use Rattle.spec_image.specs.Image.{File, Block, External, Image, byte, bytes_of, has_file, length_of, same_file}
+use Rattle.spec_image.specs.Steps.{after, words}
+use Rattle.spec_image.specs.Told.{Along, Until}
+use Rattle.spec_format.specs.Address.{header_size}
+use Rattle.spec_format.specs.BlockFiles.{most_blocks, IsWellFormed}
+use Rattle.spec_format.specs.Claims.{BlockOf, ExternalOf, claims_of_all, has_claim}
+use Rattle.spec_format.specs.Growth.{StaysWhole}
+use Rattle.spec_format.specs.Headers.{entry_size_of}
+use Rattle.spec_format.specs.Maps.{is_block_marked}
 use Rattle.blk_model.specs.State.{State}
-use Rattle.blk_volume.specs.Layout.{Layout, Represents}
-use Rattle.blk_volume.specs.View.{view_of}
-use Rattle.blk_kept.specs.Changes.{KeepsWith, SameCounters, StillFinds}
+use Rattle.spec_folder.specs.Layout.{Layout, Represents}
+use Rattle.spec_folder.specs.View.{view_of}
+use Rattle.law_state.specs.Changes.{KeepsWith, SameCounters, StillFinds}
 use Rattle.blk_eraser.specs.Erasing.{delete_steps, frees, length_steps, place_of_block, write_steps, zeros_before_write}
 
 -- each byte of block b is 0, in a file whose blocks have so many bytes

@@ -1,9 +1,9 @@
 // A folder that erases.
 ghost use Rattle.std.specs.Prelude.{◌≡◌, ◌≤◌, true, [], ◌∷◌, length, OnOk, OnErr, IfOk};
 ghost use Rattle.std.specs.Option.{ForSome, option_map};
-ghost use Rattle.blk_image.specs.Order.{IsAfter};
-ghost use Rattle.blk_image.specs.Told.{Applies, GivesBytes, MakesPartOf, Rises, Stays};
-ghost use Rattle.blk_image.specs.Steps.{Note};
+ghost use Rattle.spec_image.specs.Order.{IsAfter};
+ghost use Rattle.spec_image.specs.Told.{Applies, GivesBytes, MakesPartOf, Rises, Stays};
+ghost use Rattle.spec_image.specs.Steps.{Note};
 ghost use Rattle.blk_io.specs.FileNames.{file_of};
 ghost use Rattle.blk_eraser.specs.Erasing.{Makes, TellsNext, delete_steps, length_steps, write_steps};
 

@@ -2,12 +2,12 @@
 ghost use Rattle.std.specs.Prelude.{◌≡◌, ℕ, ◌+◌, ◌^◌, ◌<◌, ◌==◌, [], true, false, length, OnOk};
 ghost use Rattle.std.specs.Int.{bit_at};
 ghost use Rattle.std.specs.Option.{ForSome};
-ghost use Rattle.blk_image.specs.Bytes.{content, range_at};
-ghost use Rattle.blk_image.specs.Image.{Image, byte};
-ghost use Rattle.blk_image.specs.Told.{Stays};
-ghost use Rattle.blk_format.specs.Address.{header_size};
-ghost use Rattle.blk_format.specs.BlockFiles.{most_blocks};
-ghost use Rattle.blk_format.specs.Headers.{entry_size_of};
+ghost use Rattle.spec_image.specs.Bytes.{content, range_at};
+ghost use Rattle.spec_image.specs.Image.{Image, byte};
+ghost use Rattle.spec_image.specs.Told.{Stays};
+ghost use Rattle.spec_format.specs.Address.{header_size};
+ghost use Rattle.spec_format.specs.BlockFiles.{most_blocks};
+ghost use Rattle.spec_format.specs.Headers.{entry_size_of};
 ghost use Rattle.blk_io.specs.FileNames.{file_of};
 ghost use Rattle.blk_eraser.specs.Erasing.{IsBlockFile, frees, zeros_before_write};
 

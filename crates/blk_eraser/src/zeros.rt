@@ -1,10 +1,10 @@
 // Bytes of a file are overwritten by zeros.
 ghost use Rattle.std.specs.Prelude.{◌≡◌, ◌-◌, ◌≤◌, OnOk, OnErr, IfOk, min};
 ghost use Rattle.std.specs.Option.{ForSome};
-ghost use Rattle.blk_image.specs.Bytes.{zeros};
-ghost use Rattle.blk_image.specs.Image.{length_of};
-ghost use Rattle.blk_image.specs.Steps.{words};
-ghost use Rattle.blk_image.specs.Told.{Applies, AppliesPrefix, MakesPartOf, Stays};
+ghost use Rattle.spec_image.specs.Bytes.{zeros};
+ghost use Rattle.spec_image.specs.Image.{length_of};
+ghost use Rattle.spec_image.specs.Steps.{words};
+ghost use Rattle.spec_image.specs.Told.{Applies, AppliesPrefix, MakesPartOf, Stays};
 ghost use Rattle.blk_io.specs.FileNames.{file_of};
 ghost use Rattle.blk_eraser.specs.Erasing.{Makes, delete_steps, length_steps};
 
@@ -35,7 +35,7 @@ fn front(bytes: &[u8], n: usize) -> &[u8]
 }
 
 // Writes zeros over the bytes of a file from a place up to another, page by page.
-#[tactic(auto, unfolding(blk_image::specs::Bytes::zeros))]
+#[tactic(auto, unfolding(spec_image::specs::Bytes::zeros))]
 pub(crate) fn erase<F: Folder>(f: &mut F, file: FileId, from: u64, end: u64) -> Result<(), Failed>
     requires rising { from ≤ end }
     requires inside { ForSome (F.told f.old).files (λ image. end ≤ length_of image (file_of file)) }

@@ -1,12 +1,12 @@
 // The bytes of an external file.
 ghost use Rattle.std.specs.Prelude.{◌≡◌, ◌⊎◌, ◌≤◌, [], ◌∷◌, None, Some, length, OnOk, OnErr};
 ghost use Rattle.std.specs.Option.{ForSome};
-ghost use Rattle.blk_image.specs.Bytes.{range_at, spliced, resized};
-ghost use Rattle.blk_image.specs.Image.{HasRange, bytes_of, byte};
-ghost use Rattle.blk_image.specs.Steps.{SetLength, Delete, words};
-ghost use Rattle.blk_image.specs.Told.{Applies, AppliesPrefix, Stays, Passes, Rises};
-ghost use Rattle.blk_image.specs.Footprint.{range, whole};
-ghost use Rattle.blk_format.specs.Address.{kind_of, external, external_number};
+ghost use Rattle.spec_image.specs.Bytes.{range_at, spliced, resized};
+ghost use Rattle.spec_image.specs.Image.{HasRange, bytes_of, byte};
+ghost use Rattle.spec_image.specs.Steps.{SetLength, Delete, words};
+ghost use Rattle.spec_image.specs.Told.{Applies, AppliesPrefix, Stays, Passes, Rises};
+ghost use Rattle.spec_image.specs.Footprint.{range, whole};
+ghost use Rattle.spec_format.specs.Address.{kind_of, external, external_number};
 ghost use Rattle.blk_io.specs.FileNames.{file_of};
 ghost use Rattle.blk_io.specs.Faults.{IfDamaged, IfDevice};
 ghost use Rattle.blk_external.specs.Changes.{ChangesExternal};

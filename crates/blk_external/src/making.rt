@@ -1,9 +1,9 @@
 // An external file is made, with the first free number.
 ghost use Rattle.std.specs.Prelude.{◌≡◌, ◌⊎◌, ◌+◌, ◌≤◌, ◌<◌, None, OnOk, OnErr, IfOk};
 ghost use Rattle.std.specs.Option.{ForSome};
-ghost use Rattle.blk_image.specs.Told.{Applies, AppliesPrefix, Stays, Passes, Rises};
-ghost use Rattle.blk_format.specs.Address.{kind_of, external, external_number};
-ghost use Rattle.blk_format.specs.Headers.{HasWholeIndex};
+ghost use Rattle.spec_image.specs.Told.{Applies, AppliesPrefix, Stays, Passes, Rises};
+ghost use Rattle.spec_format.specs.Address.{kind_of, external, external_number};
+ghost use Rattle.spec_format.specs.Headers.{HasWholeIndex};
 ghost use Rattle.blk_io.specs.Faults.{IfDamaged, IfDevice, IsShort};
 ghost use Rattle.blk_external.specs.Numbers.{IsNumber, HasFreeNumber, IsFirstFree, IsSearched, IsLeastExternal, most_number};
 ghost use Rattle.blk_external.specs.Making.{making, last_number, last_file_place, CreatesPrefix, CreatesInProgress, Creates, AreNumbersUsedUp};

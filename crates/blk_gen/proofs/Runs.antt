@@ -4,7 +4,7 @@ use Rattle.blk_model.proofs.Computing.{computing}
 use Rattle.blk_model.specs.Items.{Row, main_row, plain}
 use Rattle.blk_model.specs.State.{Bounds}
 use Rattle.blk_io.specs.Streams.{Readings}
-use Rattle.blk_headline.specs.Run.{Run, run_of, turns, text_of, refuse}
+use Rattle.spec_run.specs.Run.{Run, run_of, turns, text_of, refuse}
 use Rattle.blk_gen.specs.Generator.{gen_script, turns_script}
 
 abbrev limits : ℕ → ℕ → Bounds

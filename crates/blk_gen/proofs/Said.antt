@@ -5,8 +5,8 @@ use Rattle.blk_model.specs.State.{State}
 use Rattle.blk_model.specs.Request.{Request, to_create, to_open, to_read, to_write, to_close}
 use Rattle.blk_model.specs.Step.{Outcome}
 use Rattle.blk_io.specs.Streams.{Readings, later_of}
-use Rattle.blk_headline.specs.Script.{Script, is_missing, is_refused}
-use Rattle.blk_headline.specs.Run.{turns, commands_of, outcome_in, stamped_by, state_after}
+use Rattle.spec_run.specs.Script.{Script, is_missing, is_refused}
+use Rattle.spec_run.specs.Run.{turns, commands_of, outcome_in, stamped_by, state_after}
 use Rattle.blk_gen.specs.declared.drawing.Turn.{Turn}
 use Rattle.blk_gen.specs.declared.counting.Counts.{Counts}
 use Rattle.blk_gen.specs.Draws.{turn_behind, value_behind, generated_key, generated_bytes}

@@ -6,7 +6,7 @@ use Rattle.blk_model.specs.Reply.{answer_of}
 use Rattle.blk_model.specs.Room.{items_of_group}
 use Rattle.blk_model.specs.Step.{Outcome}
 use Rattle.blk_script.specs.Spelling.{number_text, line}
-use Rattle.blk_headline.specs.Script.{is_refusal, refusal_of}
+use Rattle.spec_run.specs.Script.{is_refusal, refusal_of}
 use Rattle.blk_gen.specs.declared.counting.Counts.{Counts}
 
 -- nothing is counted yet

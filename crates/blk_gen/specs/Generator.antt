@@ -4,7 +4,7 @@ use Rattle.std.proofs.Common.{zero, suc}
 use Rattle.blk_model.specs.State.{State}
 use Rattle.blk_model.specs.Request.{Request, to_create, to_open, to_read, to_write, to_close}
 use Rattle.blk_model.specs.Step.{Outcome}
-use Rattle.blk_headline.specs.Script.{Script, ended, says, asks, is_missing, is_refused, totals_text}
+use Rattle.spec_run.specs.Script.{Script, ended, says, asks, is_missing, is_refused, totals_text}
 use Rattle.blk_gen.specs.declared.drawing.Turn.{Turn}
 use Rattle.blk_gen.specs.declared.counting.Counts.{Counts}
 use Rattle.blk_gen.specs.Draws.{turn_behind, value_behind, generated_key, generated_bytes}

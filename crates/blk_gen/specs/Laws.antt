@@ -2,7 +2,7 @@
 use Rattle.std.specs.Prelude.{◌≡◌, ◌≤◌, ◌*◌, ℕ, false, List, [], ◌∷◌, length}
 use Rattle.blk_model.specs.State.{State}
 use Rattle.blk_io.specs.Streams.{Readings}
-use Rattle.blk_headline.specs.Run.{Stamped, Turn, turns, commands_of, text_of, refuse, outcome_in, state_then, state_after}
+use Rattle.spec_run.specs.Run.{Stamped, Turn, turns, commands_of, text_of, refuse, outcome_in, state_then, state_after}
 use Rattle.blk_gen.specs.declared.counting.Counts.{Counts}
 use Rattle.blk_gen.specs.Counting.{no_counts, with_outcome}
 use Rattle.blk_gen.specs.Generator.{closing_text, gen_script}

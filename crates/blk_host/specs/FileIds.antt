@@ -1,8 +1,8 @@
 -- Names of files, compared as the files of images.
 use Rattle.std.specs.Prelude.{Bool, Option}
 use Rattle.std.specs.Option.{option_map}
-use Rattle.blk_image.specs.Image.{same_file}
-use Rattle.blk_image.specs.Order as order
+use Rattle.spec_image.specs.Image.{same_file}
+use Rattle.spec_image.specs.Order as order
 use Rattle.blk_io.specs.declared.folder.FileId.{FileId}
 use Rattle.blk_io.specs.FileNames.{file_of}
 

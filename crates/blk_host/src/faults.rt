@@ -1,6 +1,6 @@
 // The count of the machine's failures.
 ghost use Rattle.std.specs.Prelude.{◌≡◌, ◌≤◌, Ok, OnErr, IfOk};
-ghost use Rattle.blk_image.specs.Told.{Rises};
+ghost use Rattle.spec_image.specs.Told.{Rises};
 
 use blk_io::Failed;
 use std::io;

@@ -2,7 +2,7 @@
 ghost use Rattle.std.specs.Prelude.{◌≡◌, ◌≤◌, ◌^◌, ◌<◌, None, Ok, OnErr, OnOk, IfOk, length};
 ghost use Rattle.std.specs.Option.{ForSome};
 ghost use Rattle.blk_host.specs.FileIds.{ComesAfter};
-ghost use Rattle.blk_image.specs.Told.{Rises};
+ghost use Rattle.spec_image.specs.Told.{Rises};
 
 use crate::faults::counted;
 use crate::files::DiskFiles;

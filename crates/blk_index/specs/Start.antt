@@ -1,11 +1,11 @@
 -- How a folder stands at the start.
 use Rattle.std.specs.Prelude.{◌≡◌, ◌≢◌, ◌≤◌, ◌⊎◌, ℕ, List, length, ◌++◌, Result, Ok, Err, Option, None, Some}
-use Rattle.blk_image.specs.Bytes.{content}
-use Rattle.blk_image.specs.Image.{Image, Index}
-use Rattle.blk_image.specs.Checks as checks
-use Rattle.blk_image.specs.Checks.{first_of}
-use Rattle.blk_image.specs.Told.{Told}
-use Rattle.blk_format.specs.Headers.{IsUnfinished, first_index_damage, head_checks, list_checks, header_length, index_length, magic_of}
+use Rattle.spec_image.specs.Bytes.{content}
+use Rattle.spec_image.specs.Image.{Image, Index}
+use Rattle.spec_image.specs.Checks as checks
+use Rattle.spec_image.specs.Checks.{first_of}
+use Rattle.spec_image.specs.Told.{Told}
+use Rattle.spec_format.specs.Headers.{IsUnfinished, first_index_damage, head_checks, list_checks, header_length, index_length, magic_of}
 use Rattle.blk_io.specs.declared.folder.FileId.TheVariants as names
 use Rattle.blk_io.specs.declared.fault.Damage.{Damage}
 use Rattle.blk_io.specs.declared.fault.Fault.{Fault}

@@ -1,11 +1,11 @@
 // The words of the index's header, and the words of its table.
 ghost use Rattle.std.specs.Prelude.{◌≡◌, ◌⊎◌, ◌+◌, ◌*◌, ◌%◌, ◌<◌, ◌≤◌, IfOk, None, OnErr, OnOk, length};
 ghost use Rattle.std.specs.Option.{ForSome};
-ghost use Rattle.blk_image.specs.Footprint.{SameOutside, one_word};
-ghost use Rattle.blk_image.specs.Image.{HasRange, byte, word, Index as index};
-ghost use Rattle.blk_image.specs.Steps.{word_step};
-ghost use Rattle.blk_image.specs.Told.{Applies, AppliesPrefix, Passes, Stays, Rises};
-ghost use Rattle.blk_format.specs.Headers.{HasWholeIndex, bucket_of, place_of_bucket, header_length, table_length};
+ghost use Rattle.spec_image.specs.Footprint.{SameOutside, one_word};
+ghost use Rattle.spec_image.specs.Image.{HasRange, byte, word, Index as index};
+ghost use Rattle.spec_image.specs.Steps.{word_step};
+ghost use Rattle.spec_image.specs.Told.{Applies, AppliesPrefix, Passes, Stays, Rises};
+ghost use Rattle.spec_format.specs.Headers.{HasWholeIndex, bucket_of, place_of_bucket, header_length, table_length};
 ghost use Rattle.blk_io.specs.Faults.{IfDamaged, IfDevice, IsShort};
 ghost use Rattle.blk_index.specs.Table.{AreBuckets, buckets_of_piece};
 

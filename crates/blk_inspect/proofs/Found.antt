@@ -4,12 +4,12 @@ use Rattle.std.specs.List.{flat_map}
 use Rattle.std.specs.Option.{ForSome}
 use Rattle.std.proofs.lemmas.List.{length-map}
 use Rattle.std.proofs.lemmas.List.Folds.{flat_map-map}
-use Rattle.blk_image.specs.Image.{Image}
-use Rattle.blk_image.specs.Told.{Told}
-use Rattle.blk_format.specs.Headers.{IsUnfinished, unfinished}
-use Rattle.blk_format.proofs.HeaderLemmas.{unfinished_agrees}
+use Rattle.spec_image.specs.Image.{Image}
+use Rattle.spec_image.specs.Told.{Told}
+use Rattle.spec_format.specs.Headers.{IsUnfinished, unfinished}
+use Rattle.spec_format.proofs.HeaderLemmas.{unfinished_agrees}
 use Rattle.blk_io.specs.declared.fault.Damage.{Damage}
-use Rattle.blk_volume.specs.Found.{dropped, kept}
+use Rattle.spec_folder.specs.Found.{dropped, kept}
 use Rattle.blk_disk.specs.declared.tables.BlockFiles.{BlockFiles}
 use Rattle.blk_disk.specs.Tables.{Agrees}
 use Rattle.blk_audit.specs.declared.fault.ScanFault.{ScanFault}
@@ -20,7 +20,7 @@ use Rattle.blk_verdict.specs.declared.reason.Reason.{Reason}
 use Rattle.blk_verdict.specs.declared.reason.Reason.TheVariants as reason
 use Rattle.blk_scan.specs.Scans.{IsScanOf, dropped_by_told, kept_as_told}
 use Rattle.blk_scan.specs.declared.scan.Scan.{Scan}
-use Rattle.blk_headline.specs.Script.{totals_line}
+use Rattle.spec_run.specs.Script.{totals_line}
 use Rattle.blk_inspect.specs.Findings.{dropped_line_told, findings_text, finished_text, question_text, scan_text}
 use Rattle.blk_inspect.specs.Inspecting.{IsFinishedDamage, IsReadDamage}
 use Rattle.blk_inspect.specs.Texts.{dropped_line, kept_line, number_of_reason, unfinished_line, verdict_text}

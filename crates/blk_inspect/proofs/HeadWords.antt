@@ -4,14 +4,14 @@ use Rattle.std.specs.Prelude.{is_some, Some, None}
 use Rattle.std.specs.declared.option.Option.{Option}
 use Rattle.std.proofs.lemmas.Bool.{cond-false, cond-true, ne_eqb}
 use Rattle.std.proofs.lemmas.Bool.Decides.{nat_tests}
-use Rattle.blk_image.specs.Bytes.{content, range_at, word_at, words_at}
-use Rattle.blk_image.specs.Image.{Block, Image, byte, length_of}
-use Rattle.blk_image.proofs.Words.{content-range}
-use Rattle.blk_format.specs.Address.{block_count, blocks_256, external, external_number, file_selector, first_block, is_address, kind_of, place}
-use Rattle.blk_format.specs.BlockFiles.{is_among, kind_among, linked, linked_as}
-use Rattle.blk_format.specs.Records.{entry_in}
-use Rattle.blk_format.proofs.LinkedHeads.{linked_head}
-use Rattle.blk_volume.specs.View.{entry_at, stands_as}
+use Rattle.spec_image.specs.Bytes.{content, range_at, word_at, words_at}
+use Rattle.spec_image.specs.Image.{Block, Image, byte, length_of}
+use Rattle.spec_image.proofs.Words.{content-range}
+use Rattle.spec_format.specs.Address.{block_count, blocks_256, external, external_number, file_selector, first_block, is_address, kind_of, place}
+use Rattle.spec_format.specs.BlockFiles.{is_among, kind_among, linked, linked_as}
+use Rattle.spec_format.specs.Records.{entry_in}
+use Rattle.spec_format.proofs.LinkedHeads.{linked_head}
+use Rattle.spec_folder.specs.View.{entry_at, stands_as}
 use Rattle.blk_addr.specs.FileId.{file_of_word}
 use Rattle.blk_addr.specs.declared.file_id.FileId.TheVariants as FileId
 use Rattle.blk_disk.specs.declared.tables.BlockFiles.{BlockFiles}

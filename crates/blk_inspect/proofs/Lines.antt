@@ -14,7 +14,7 @@ use Rattle.blk_ranges.proofs.HexTexts.{word-digits}
 use Rattle.blk_script.specs.Spelling.{data_text, line, number_text}
 use Rattle.blk_script.proofs.Printed.{data_text-some}
 use Rattle.blk_script.proofs.Putting.{IsPutUpTo, not_yet, put_more, put_partly, put_whole}
-use Rattle.blk_headline.specs.Script.{totals_line}
+use Rattle.spec_run.specs.Script.{totals_line}
 
 -- the bytes of a word, the highest first, are printed as its eight digits
 pub word_is : (n : ℕ) (bytes : List ℕ) → n < 2 ^ 32 → bytes ≡ to_be_bytes w32 n → data_text bytes ≡ hex_text 8 n

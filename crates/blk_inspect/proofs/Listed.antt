@@ -9,9 +9,9 @@ use Rattle.std.proofs.lemmas.List.{length-map, map-append, take_more}
 use Rattle.std.proofs.lemmas.List.Elements.{All-drop, All-take}
 use Rattle.std.proofs.lemmas.List.Folds.{flat_map-map}
 use Rattle.std.proofs.lemmas.Option.{slice_get-get_or}
-use Rattle.blk_image.specs.Image.{Image}
-use Rattle.blk_format.specs.Address.{blocks_256, kind_of, rankings}
-use Rattle.blk_volume.specs.View.{NodeFields, entry_at, node_at, node_fields_at, stands_as, store_of}
+use Rattle.spec_image.specs.Image.{Image}
+use Rattle.spec_format.specs.Address.{blocks_256, kind_of, rankings}
+use Rattle.spec_folder.specs.View.{NodeFields, entry_at, node_at, node_fields_at, stands_as, store_of}
 use Rattle.blk_disk.specs.declared.tables.BlockFiles.{BlockFiles}
 use Rattle.blk_disk.specs.Tables.{is_record_among, names_among, stands_among}
 use Rattle.blk_audit.specs.BucketEnds.{begin_of, records_of}

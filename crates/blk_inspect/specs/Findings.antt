@@ -1,13 +1,13 @@
 -- What was read of a folder, and what is printed of it.
 use Rattle.std.specs.Prelude.{ℕ, List, ◌++◌, length}
 use Rattle.std.specs.List.{flat_map}
-use Rattle.blk_image.specs.Image.{Image}
-use Rattle.blk_volume.specs.View.{entry_at, node_at}
+use Rattle.spec_image.specs.Image.{Image}
+use Rattle.spec_folder.specs.View.{entry_at, node_at}
 use Rattle.blk_audit.specs.declared.named.WalkedNode.{WalkedNode}
 use Rattle.blk_scan.specs.Scans.{dropped_by_told}
 use Rattle.blk_scan.specs.declared.scan.Dropped.{Dropped}
 use Rattle.blk_scan.specs.declared.scan.Scan.{Scan}
-use Rattle.blk_headline.specs.Script.{totals_line}
+use Rattle.spec_run.specs.Script.{totals_line}
 use Rattle.blk_inspect.specs.Texts.{dropped_line, end_line, kept_line, node_line, none_line, part_text, place_line, record_line, text_or_unfinished, unfinished_line, verdict_text, word_line}
 use Rattle.blk_inspect.specs.declared.findings.Findings.{Findings}
 use Rattle.blk_inspect.specs.declared.findings.Findings.TheVariants as findings

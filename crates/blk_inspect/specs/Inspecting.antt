@@ -2,10 +2,10 @@
 use Rattle.std.specs.Prelude.{◌≡◌, ◌++◌, ◌⊎◌, ℕ, List, Result, Ok, Err, Some}
 use Rattle.std.specs.declared.option.Option.{Option}
 use Rattle.std.specs.Option.{option_map}
-use Rattle.blk_image.specs.Image.{Image}
-use Rattle.blk_image.specs.Told.{Told}
-use Rattle.blk_format.specs.BlockFiles.{first_damage}
-use Rattle.blk_format.specs.Headers.{IsUnfinished, block_fields_length, header_length}
+use Rattle.spec_image.specs.Image.{Image}
+use Rattle.spec_image.specs.Told.{Told}
+use Rattle.spec_format.specs.BlockFiles.{first_damage}
+use Rattle.spec_format.specs.Headers.{IsUnfinished, block_fields_length, header_length}
 use Rattle.blk_io.specs.declared.fault.Damage.{Damage}
 use Rattle.blk_io.specs.declared.folder.FileId.TheVariants as names
 use Rattle.blk_io.specs.Faults.{IsShort, damage_of}
@@ -15,7 +15,7 @@ use Rattle.blk_disk.specs.declared.tables.BlockFiles.{BlockFiles}
 use Rattle.blk_audit.specs.declared.fault.ScanFault.{ScanFault}
 use Rattle.blk_audit.specs.declared.fault.ScanFault.TheVariants as scan
 use Rattle.blk_scan.specs.Faults.{IsBlocksDamage, IsScanDamage}
-use Rattle.blk_headline.specs.Opening.{IsUsable}
+use Rattle.spec_run.specs.Opening.{IsUsable}
 use Rattle.blk_inspect.specs.declared.fault.InspectFault.{InspectFault}
 use Rattle.blk_inspect.specs.declared.fault.InspectFault.TheVariants.{Device, Damaged, Sink, Memory}
 

@@ -1,22 +1,22 @@
 -- The texts of a folder that is inspected or verified, line by line.
 use Rattle.std.specs.Prelude.{ℕ, ◌==◌, List, [], ◌∷◌, ◌++◌, length, codes, is_some, slice_index, if◌then◌else◌}
 use Rattle.std.specs.List.{flat_map, sum_by}
-use Rattle.blk_image.specs.Image.{Block, Image, Index, byte}
+use Rattle.spec_image.specs.Image.{Block, Image, Index, byte}
 use Rattle.blk_model.specs.declared.Answer.TheVariants as answer
-use Rattle.blk_format.specs.Address.{block_count, blocks_256, external, external_number, file_selector, first_block, is_address, kind_of}
-use Rattle.blk_format.specs.BlockFiles.{linked_as}
-use Rattle.blk_format.specs.Headers.{allocations_of, crash_of, empty_of, entry_size_of, experiment_of, heads_of, hints_of, last_file_of, magic_of, max_entries_of, next_file_of, num_bytes_of, num_entries_of, operation_of, sizes_of, stats_of, table_len_of, tails_of, this_file_of, this_id_of, transaction_of, unfinished, updating_of, version_of}
-use Rattle.blk_format.specs.Records.{Entry}
-use Rattle.blk_volume.specs.Chains.{chain}
-use Rattle.blk_volume.specs.Found.{charge_of, dropped, kept}
-use Rattle.blk_volume.specs.ListImages.{completed_walk}
-use Rattle.blk_volume.specs.Reasons as reason
-use Rattle.blk_volume.specs.Reasons.{Reason}
-use Rattle.blk_volume.specs.View.{entry_at, node_at, stands_as, store_of}
+use Rattle.spec_format.specs.Address.{block_count, blocks_256, external, external_number, file_selector, first_block, is_address, kind_of}
+use Rattle.spec_format.specs.BlockFiles.{linked_as}
+use Rattle.spec_format.specs.Headers.{allocations_of, crash_of, empty_of, entry_size_of, experiment_of, heads_of, hints_of, last_file_of, magic_of, max_entries_of, next_file_of, num_bytes_of, num_entries_of, operation_of, sizes_of, stats_of, table_len_of, tails_of, this_file_of, this_id_of, transaction_of, unfinished, updating_of, version_of}
+use Rattle.spec_format.specs.Records.{Entry}
+use Rattle.spec_folder.specs.Chains.{chain}
+use Rattle.spec_folder.specs.Found.{charge_of, dropped, kept}
+use Rattle.spec_folder.specs.ListImages.{completed_walk}
+use Rattle.spec_folder.specs.Reasons as reason
+use Rattle.spec_folder.specs.Reasons.{Reason}
+use Rattle.spec_folder.specs.View.{entry_at, node_at, stands_as, store_of}
 use Rattle.blk_io.specs.Texts.{hex_text}
 use Rattle.blk_script.specs.Reply.{answer_line}
 use Rattle.blk_script.specs.Spelling.{line, number_text}
-use Rattle.blk_headline.specs.Script.{totals_line}
+use Rattle.spec_run.specs.Script.{totals_line}
 use Rattle.blk_inspect.specs.declared.inspecting.Part.{Part}
 use Rattle.blk_inspect.specs.declared.inspecting.Part.TheVariants as part
 

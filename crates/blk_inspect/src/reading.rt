@@ -1,13 +1,13 @@
 // What is asked of a folder is read.
 ghost use Rattle.std.specs.Prelude.{◌≡◌, ◌⊎◌, ◌≤◌, IfOk, None, Some};
 ghost use Rattle.std.specs.Option.{ForSome};
-ghost use Rattle.blk_image.specs.Told.{Rises, Stays};
-ghost use Rattle.blk_format.specs.BlockFiles.{first_block_damage};
-ghost use Rattle.blk_format.specs.Headers.{HasWholeIndex};
+ghost use Rattle.spec_image.specs.Told.{Rises, Stays};
+ghost use Rattle.spec_format.specs.BlockFiles.{first_block_damage};
+ghost use Rattle.spec_format.specs.Headers.{HasWholeIndex};
 ghost use Rattle.blk_io.specs.Faults.{damage_of};
 ghost use Rattle.blk_disk.specs.Open.{IsOpen};
 ghost use Rattle.blk_audit.specs.Faults.{IfScanDamaged, IfScanDevice};
-ghost use Rattle.blk_headline.specs.Opening.{IsUsable};
+ghost use Rattle.spec_run.specs.Opening.{IsUsable};
 ghost use Rattle.blk_inspect.specs.Findings.{findings_text, finished_text, question_text};
 ghost use Rattle.blk_inspect.specs.Inspecting.{IsDamagedFirst, IsFinishedDamage, IsInspectDamage, IsReadDamage};
 ghost use Rattle.blk_inspect.specs.Texts.{address_text, part_text, verdict_text};

@@ -2,9 +2,9 @@
 ghost use Rattle.std.specs.Prelude.{◌≡◌, ◌≤◌, ◌++◌, ◌∷◌, [], OnOk, OnErr, codes, length};
 ghost use Rattle.std.specs.List.{flat_map};
 ghost use Rattle.std.specs.Option.{option_map};
-ghost use Rattle.blk_image.specs.Told.{Rises};
+ghost use Rattle.spec_image.specs.Told.{Rises};
 ghost use Rattle.blk_io.specs.Streams.{Appends};
-ghost use Rattle.blk_headline.specs.Script.{totals_line};
+ghost use Rattle.spec_run.specs.Script.{totals_line};
 ghost use Rattle.blk_script.specs.Spelling.{data_text, line, number_text};
 ghost use Rattle.blk_verdict.specs.Reasons.{reason_of};
 ghost use Rattle.blk_inspect.specs.Findings.{dropped_line_told, scan_text};

@@ -2,13 +2,13 @@
 use Rattle.std.proofs.Common.{◌≡◌, ℕ, ◌+◌, ◌*◌, ◌%◌, ◌-◌, ◌≤◌, ◌<◌, List, [], ◌∷◌, ◌++◌, take, drop, take-add, length, map, get_or, refl, sym, ◌∙◌, ap, arith}
 use Rattle.std.proofs.lemmas.List.{take-append-drop}
 use Rattle.std.specs.List.{flat_map}
-use Rattle.blk_image.specs.Bytes.{word_bytes}
-use Rattle.blk_image.specs.Image.{File, Image}
-use Rattle.blk_image.specs.Steps.{TrailStep, Word, applied, words, word_step, word_steps}
-use Rattle.blk_image.specs.Told.{Along}
-use Rattle.blk_image.proofs.Images.{length-after_write}
-use Rattle.blk_image.proofs.WordSteps.{SameLengths}
-use Rattle.blk_image.proofs.Cuts.{words-word, words-split, word_steps-append}
+use Rattle.spec_image.specs.Bytes.{word_bytes}
+use Rattle.spec_image.specs.Image.{File, Image}
+use Rattle.spec_image.specs.Steps.{TrailStep, Word, applied, words, word_step, word_steps}
+use Rattle.spec_image.specs.Told.{Along}
+use Rattle.spec_image.proofs.Images.{length-after_write}
+use Rattle.spec_image.proofs.WordSteps.{SameLengths}
+use Rattle.spec_image.proofs.Cuts.{words-word, words-split, word_steps-append}
 use Rattle.blk_io.specs.Neighbours.{AreSideBySide, run_from}
 
 -- the words of the joined bytes

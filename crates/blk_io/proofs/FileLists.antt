@@ -3,10 +3,10 @@ use Rattle.std.proofs.Common.{◌≡◌, ◌≢◌, ℕ, zero, suc, ◌+◌, ◌
 use Rattle.std.proofs.Math.ListN.{set}
 use Rattle.std.proofs.lemmas.List.{take_more, get_or_default, take_at}
 use Rattle.std.specs.Option.{ForSome}
-use Rattle.blk_image.specs.Image.{File, Image, same_file, with_file}
-use Rattle.blk_image.specs.Order.{IsAfter, IsUpTo, IsNextFile, IsBefore}
-use Rattle.blk_image.proofs.Images.{same_file-refl, same_file-true, same_file-swap, with_file-id}
-use Rattle.blk_image.proofs.Orders.{before_trans}
+use Rattle.spec_image.specs.Image.{File, Image, same_file, with_file}
+use Rattle.spec_image.specs.Order.{IsAfter, IsUpTo, IsNextFile, IsBefore}
+use Rattle.spec_image.proofs.Images.{same_file-refl, same_file-true, same_file-swap, with_file-id}
+use Rattle.spec_image.proofs.Orders.{before_trans}
 use Rattle.blk_io.specs.declared.mem_files.MemFile.{MemFile}
 use Rattle.blk_io.specs.declared.folder.FileId.{FileId}
 use Rattle.blk_io.specs.FileNames.{file_of}

@@ -1,9 +1,9 @@
 -- What a read of a file gives.
 use Rattle.std.proofs.Common.{◌≡◌, ℕ, zero, suc, ◌-◌, min, List, [], length, take, drop, Option, None, unwrap_or, refl, sym, ◌∙◌, ap, arith}
-use Rattle.blk_image.specs.Bytes.{content, range_at}
-use Rattle.blk_image.specs.Image.{File, Image, bytes_of, length_of}
-use Rattle.blk_image.specs.Told.{GivesBytes}
-use Rattle.blk_image.proofs.Words.{range-is}
+use Rattle.spec_image.specs.Bytes.{content, range_at}
+use Rattle.spec_image.specs.Image.{File, Image, bytes_of, length_of}
+use Rattle.spec_image.specs.Told.{GivesBytes}
+use Rattle.spec_image.proofs.Words.{range-is}
 
 -- the front of what is behind a place, as a range
 front_is : (n place : ℕ) (bytes : List ℕ) (old : List ℕ) → n ≡ min (length old) (length bytes - place) → range_at (content bytes) place n ≡ take n (drop place bytes)

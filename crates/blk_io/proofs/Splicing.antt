@@ -1,6 +1,6 @@
 -- A write over bytes, cut to the bytes that are there.
 use Rattle.std.proofs.Common.{◌≡◌, ℕ, zero, suc, ◌+◌, ◌≤◌, List, [], ◌∷◌, length, take, refl, ap, arith}
-use Rattle.blk_image.specs.Bytes.{spliced}
+use Rattle.spec_image.specs.Bytes.{spliced}
 
 -- past the end nothing is written
 pub spliced-past : (i : ℕ) (new old : List ℕ) → length old ≤ i → spliced i new old ≡ old

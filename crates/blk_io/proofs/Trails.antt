@@ -2,17 +2,17 @@
 use Rattle.std.proofs.Common.{ℕ, zero, suc, get_or, ◌≡◌, ◌+◌, ◌-◌, ◌<◌, ◌≤◌, nat_le, Bool, true, false, append_assoc, drop, take, length, arith, subst, length-append, List, [], ◌∷◌, ◌++◌, Option, None, Some, refl, sym, ◌∙◌, ap}
 use Rattle.std.specs.Option.{option_map, ForSome}
 use Rattle.blk_io.specs.declared.mem_files.MemFile.{MemFile}
-use Rattle.blk_image.specs.Image.{File, Image, AreBytes, with_file}
-use Rattle.blk_image.specs.Steps.{TrailStep, after, image_at}
-use Rattle.blk_image.specs.Told.{Told, Trail, Along, Applies, longer}
-use Rattle.blk_image.proofs.Runs.{along_front}
+use Rattle.spec_image.specs.Image.{File, Image, AreBytes, with_file}
+use Rattle.spec_image.specs.Steps.{TrailStep, after, image_at}
+use Rattle.spec_image.specs.Told.{Told, Trail, Along, Applies, longer}
+use Rattle.spec_image.proofs.Runs.{along_front}
 use Rattle.std.proofs.lemmas.Bool.Decides.{nat_tests}
 use Rattle.blk_io.specs.Files.{image_of}
 use Rattle.std.proofs.lemmas.List.{append-nil, take_at, take_all, take_more, take-append-drop}
 use Rattle.blk_io.specs.declared.mem_trail.Change.{Change}
 use Rattle.blk_io.specs.Trail.{told_of, AreBytesAlong, IsTrailOf, steps_of, steps_of_call}
 use Rattle.blk_io.specs.MemFolder.{newly_told}
-use Rattle.blk_image.proofs.Cuts.{after-append}
+use Rattle.spec_image.proofs.Cuts.{after-append}
 
 pub some_inj : {A : Type 0} {x y : A} → Some x ≡ Some y → x ≡ y
 some_inj e = cc

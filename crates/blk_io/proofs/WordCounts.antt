@@ -2,9 +2,9 @@
 use Rattle.std.proofs.Common.{◌≡◌, ℕ, zero, suc, ◌+◌, ◌-◌, ◌*◌, ◌/◌, ◌%◌, ◌<◌, ◌≤◌, ◌==◌, nat_le, min, Bool, true, false, if◌then◌else◌, List, [], ◌∷◌, length, take, drop, refl, sym, ◌∙◌, ap, subst, arith}
 use Rattle.std.proofs.lemmas.Bool.Decides.{nat_tests}
 use Rattle.std.proofs.lemmas.List.{take_all, take_at, length-take-le}
-use Rattle.blk_image.specs.Image.{File}
-use Rattle.blk_image.specs.Steps.{TrailStep, Word, SetLength, Delete, Note, before_words, words}
-use Rattle.blk_image.proofs.Cuts.{words-split}
+use Rattle.spec_image.specs.Image.{File}
+use Rattle.spec_image.specs.Steps.{TrailStep, Word, SetLength, Delete, Note, before_words, words}
+use Rattle.spec_image.proofs.Cuts.{words-split}
 use Rattle.blk_io.specs.Trail.{front_in, words_in}
 
 -- the first of the steps is a write

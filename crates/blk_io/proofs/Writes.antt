@@ -3,8 +3,8 @@ use Rattle.std.proofs.Common.{◌≡◌, ℕ, ◌||◌, nat_lt, min, Bool, true,
 use Rattle.std.proofs.lemmas.Bool.Decides.{nat_tests}
 use Rattle.std.proofs.lemmas.List.{take-append-drop, take_min}
 use Rattle.std.specs.Option.{ForSome}
-use Rattle.blk_image.specs.Steps.{TrailStep}
-use Rattle.blk_image.specs.Told.{Told, Applies, AppliesPrefix}
+use Rattle.spec_image.specs.Steps.{TrailStep}
+use Rattle.spec_image.specs.Told.{Told, Applies, AppliesPrefix}
 use Rattle.blk_io.specs.Counts.{lasting}
 
 -- the first of the steps are some of them

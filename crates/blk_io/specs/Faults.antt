@@ -1,9 +1,9 @@
 -- The answers of calls that read and check.
 use Rattle.std.specs.Prelude.{◌≡◌, ℕ, ◌-◌, ◌<◌, min, Result, Ok, Err}
 use Rattle.std.specs.Option.{ForSome}
-use Rattle.blk_image.specs.Image.{File, length_of}
-use Rattle.blk_image.specs.Told.{Told}
-use Rattle.blk_image.specs.Checks as checks
+use Rattle.spec_image.specs.Image.{File, length_of}
+use Rattle.spec_image.specs.Told.{Told}
+use Rattle.spec_image.specs.Checks as checks
 use Rattle.blk_io.specs.declared.folder.FileId.{FileId}
 use Rattle.blk_io.specs.declared.fault.Damage.{Damage}
 use Rattle.blk_io.specs.declared.fault.Fault.{Fault}

@@ -1,7 +1,7 @@
 -- The names of files as the files of images.
 use Rattle.blk_io.specs.declared.folder.FileId.{FileId}
 use Rattle.blk_io.specs.declared.folder.FileId.TheVariants.{Index, Block, External}
-use Rattle.blk_image.specs.Image as image
+use Rattle.spec_image.specs.Image as image
 
 -- the file that a name stands for
 abbrev pub file_of : FileId → image.File

@@ -1,8 +1,8 @@
 -- The files that a folder in memory keeps, as an image.
 use Rattle.std.specs.Prelude.{◌≡◌, ℕ, ◌<◌, if◌then◌else◌, ◌⊎◌, List, [], ◌∷◌, length, take, slice_index_or, Option, None, Some}
 use Rattle.std.specs.Option.{ForSome}
-use Rattle.blk_image.specs.Image.{File, Image, same_file}
-use Rattle.blk_image.specs.Order.{IsAfter, IsBefore, IsUpTo}
+use Rattle.spec_image.specs.Image.{File, Image, same_file}
+use Rattle.spec_image.specs.Order.{IsAfter, IsBefore, IsUpTo}
 use Rattle.blk_io.specs.declared.mem_files.MemFile.{MemFile}
 use Rattle.blk_io.specs.FileNames.{file_of}
 

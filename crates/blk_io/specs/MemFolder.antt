@@ -4,9 +4,9 @@ use Rattle.std.specs.Option.{option_map}
 use Rattle.std.proofs.Common.{refl, sym, ◌∙◌, ap, subst}
 use Rattle.blk_io.specs.declared.mem_files.MemFile.{MemFile}
 use Rattle.blk_io.specs.declared.mem.MemFolder.{MemFolder}
-use Rattle.blk_image.specs.Steps.{TrailStep, after}
-use Rattle.blk_image.specs.Image.{File, Image, AreBytes, with_file}
-use Rattle.blk_image.specs.Told.{Told, Trail, AgreesWithTrail, TellsBytes}
+use Rattle.spec_image.specs.Steps.{TrailStep, after}
+use Rattle.spec_image.specs.Image.{File, Image, AreBytes, with_file}
+use Rattle.spec_image.specs.Told.{Told, Trail, AgreesWithTrail, TellsBytes}
 use Rattle.blk_io.specs.Calls.{counts_in}
 use Rattle.blk_io.specs.Counts.{Counts}
 use Rattle.blk_io.specs.Trail.{told_of, kept_steps, IsTrailOf}

@@ -1,7 +1,7 @@
 -- What a folder that stops tells: what the folder inside tells.
 use Rattle.std.specs.Prelude.{◌≡◌, ℕ, ◌<◌, ◌+◌, Bool, true}
 use Rattle.blk_io.specs.declared.stop.StopFolder.{StopFolder}
-use Rattle.blk_image.specs.Told.{Told, AgreesWithTrail, TellsBytes}
+use Rattle.spec_image.specs.Told.{Told, AgreesWithTrail, TellsBytes}
 use Rattle.blk_io.specs.Counts.{Counts, CountsCall}
 use Rattle.blk_io.specs.MemFolder.{mem_told, mem_counts, mem_agrees, mem_are_bytes}
 

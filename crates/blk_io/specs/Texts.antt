@@ -1,8 +1,8 @@
 -- What is printed of files, damages and faults.
 use Rattle.std.specs.Prelude.{false, ℕ, ◌-◌, List, ◌++◌, length, replicate, codes, decimal}
 use Rattle.std.specs.Fmt.{digits}
-use Rattle.blk_image.specs.Image.{File, Index, Block, External}
-use Rattle.blk_image.specs.Checks as checks
+use Rattle.spec_image.specs.Image.{File, Index, Block, External}
+use Rattle.spec_image.specs.Checks as checks
 use Rattle.blk_io.specs.declared.fault.Fault.{Fault}
 use Rattle.blk_io.specs.declared.fault.Fault.TheVariants.{Device, Damaged}
 use Rattle.blk_io.specs.Faults.{damage_of}

@@ -5,9 +5,9 @@ use Rattle.std.specs.declared.alloc.Global.{Global}
 use Rattle.blk_io.specs.declared.mem_files.MemFile.{MemFile}
 use Rattle.blk_io.specs.declared.mem_trail.Change.{Change}
 use Rattle.blk_io.specs.declared.mem_trail.Change.TheVariants.{Wrote, Sized, Deleted, Noted}
-use Rattle.blk_image.specs.Image.{File, AreBytes}
-use Rattle.blk_image.specs.Steps.{TrailStep, SetLength, Delete, Note, after, image_at, words}
-use Rattle.blk_image.specs.Told.{Told, Applies}
+use Rattle.spec_image.specs.Image.{File, AreBytes}
+use Rattle.spec_image.specs.Steps.{TrailStep, SetLength, Delete, Note, after, image_at, words}
+use Rattle.spec_image.specs.Told.{Told, Applies}
 use Rattle.blk_io.specs.FileNames.{file_of}
 use Rattle.blk_io.specs.Files.{image_of}
 

@@ -1,7 +1,7 @@
 -- What a folder tells that tells nothing.
 use Rattle.std.specs.Prelude.{◌≡◌, None, Some}
-use Rattle.blk_image.specs.Image.{Image}
-use Rattle.blk_image.specs.Told.{Told, AgreesWithTrail, TellsBytes}
+use Rattle.spec_image.specs.Image.{Image}
+use Rattle.spec_image.specs.Told.{Told, AgreesWithTrail, TellsBytes}
 
 -- neither files nor a trail
 abbrev pub untold : Told

@@ -1,7 +1,7 @@
 // The counts of the calls on an object in memory, and the calls that are to fail.
 ghost use Rattle.std.specs.Prelude.{◌≡◌, ◌≤◌, ◌==◌, find, OnOk, OnErr, is_err};
 ghost use Rattle.std.specs.Option.{option_map};
-ghost use Rattle.blk_image.specs.Told.{Rises};
+ghost use Rattle.spec_image.specs.Told.{Rises};
 ghost use Rattle.blk_io.specs.Counts.{no_calls, with_listed, next_failure, fails_next, CountsCall, begun, failed, lacking};
 
 use crate::{Failed, NoMemory};

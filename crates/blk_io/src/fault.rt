@@ -1,7 +1,7 @@
 // Why a call on a folder did not succeed.
 ghost use Rattle.std.specs.Prelude.{◌≡◌, ◌==◌, map};
 ghost use Rattle.std.specs.Option.{option_map};
-ghost use Rattle.blk_image.specs.Checks.{check_found, first_of};
+ghost use Rattle.spec_image.specs.Checks.{check_found, first_of};
 ghost use Rattle.blk_io.specs.FileNames.{file_of};
 ghost use Rattle.blk_io.specs.Faults.{damage_of};
 

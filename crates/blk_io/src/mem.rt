@@ -1,10 +1,10 @@
 // A folder in memory, which keeps its start files, its files and each step since.
 ghost use Rattle.std.specs.Prelude.{◌≡◌, ◌||◌, nat_lt, ◌+◌, ◌-◌, ◌^◌, ◌<◌, ◌≤◌, [], ◌∷◌, length, take, min, Some, None, OnOk, OnErr, IfOk, IsSome, is_some, is_err};
 ghost use Rattle.std.specs.Option.{ForSome, option_map};
-ghost use Rattle.blk_image.specs.Image.{HasRange, empty_image, AreBytes};
-ghost use Rattle.blk_image.specs.Order.{IsAfter, IsNextFile};
-ghost use Rattle.blk_image.specs.Steps.{SetLength, Delete, Note, words, image_at};
-ghost use Rattle.blk_image.specs.Told.{Applies, AppliesPrefix, Stays, Rises, GivesBytes};
+ghost use Rattle.spec_image.specs.Image.{HasRange, empty_image, AreBytes};
+ghost use Rattle.spec_image.specs.Order.{IsAfter, IsNextFile};
+ghost use Rattle.spec_image.specs.Steps.{SetLength, Delete, Note, words, image_at};
+ghost use Rattle.spec_image.specs.Told.{Applies, AppliesPrefix, Stays, Rises, GivesBytes};
 ghost use Rattle.blk_io.specs.FileNames.{file_of};
 ghost use Rattle.blk_io.specs.Files.{image_of};
 ghost use Rattle.blk_io.specs.Trail.{IsTrailOf, AreBytesAlong, kept_steps, UsesUp};

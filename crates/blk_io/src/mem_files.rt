@@ -1,11 +1,11 @@
 // Files in memory, with their bytes.
 ghost use Rattle.std.specs.Prelude.{◌≡◌, not, ◌+◌, ◌-◌, ◌≤◌, ◌<◌, [], ◌∷◌, length, take, drop, min, vec_len, vec_capacity, Some, None, OnOk, OnErr, IfOk, IfSome, IfNone};
 ghost use Rattle.std.specs.Option.{ForSome, option_map};
-ghost use Rattle.blk_image.specs.Bytes.{spliced};
-ghost use Rattle.blk_image.specs.Image.{same_file, with_file};
-ghost use Rattle.blk_image.specs.Steps.{SetLength, Delete, after, words};
-ghost use Rattle.blk_image.specs.Order.{IsAfter, IsNextFile};
-ghost use Rattle.blk_image.specs.Told.{GivesBytes};
+ghost use Rattle.spec_image.specs.Bytes.{spliced};
+ghost use Rattle.spec_image.specs.Image.{same_file, with_file};
+ghost use Rattle.spec_image.specs.Steps.{SetLength, Delete, after, words};
+ghost use Rattle.spec_image.specs.Order.{IsAfter, IsNextFile};
+ghost use Rattle.spec_image.specs.Told.{GivesBytes};
 ghost use Rattle.blk_io.specs.FileNames.{file_of};
 ghost use Rattle.blk_io.specs.Files.{image_of, IsPlaceOf, IsNearer};
 

@@ -1,10 +1,10 @@
 // A folder that tells nothing.
 ghost use Rattle.std.specs.Prelude.{◌≡◌, ◌≤◌, [], ◌∷◌, length, OnOk, OnErr, IfOk};
 ghost use Rattle.std.specs.Option.{ForSome, option_map};
-ghost use Rattle.blk_image.specs.Image.{length_of};
-ghost use Rattle.blk_image.specs.Order.{IsAfter, IsNextFile};
-ghost use Rattle.blk_image.specs.Steps.{SetLength, Delete, Note, words};
-ghost use Rattle.blk_image.specs.Told.{Applies, AppliesPrefix, GivesBytes, Rises, Stays};
+ghost use Rattle.spec_image.specs.Image.{length_of};
+ghost use Rattle.spec_image.specs.Order.{IsAfter, IsNextFile};
+ghost use Rattle.spec_image.specs.Steps.{SetLength, Delete, Note, words};
+ghost use Rattle.spec_image.specs.Told.{Applies, AppliesPrefix, GivesBytes, Rises, Stays};
 ghost use Rattle.blk_io.specs.Counts.{one_more};
 ghost use Rattle.blk_io.specs.FileNames.{file_of};
 

@@ -1,10 +1,10 @@
 // A folder that stops after so many steps.
 ghost use Rattle.std.specs.Prelude.{◌≡◌, ◌==◌, ◌||◌, nat_lt, ◌+◌, ◌≤◌, ◌<◌, [], ◌∷◌, length, take, OnOk, OnErr, IfOk, is_err, is_ok, if◌then◌else◌};
 ghost use Rattle.std.specs.Option.{ForSome, option_map};
-ghost use Rattle.blk_image.specs.Image.{HasRange};
-ghost use Rattle.blk_image.specs.Order.{IsAfter, IsNextFile};
-ghost use Rattle.blk_image.specs.Steps.{SetLength, Delete, Note, words};
-ghost use Rattle.blk_image.specs.Told.{Applies, AppliesPrefix, Stays, Rises, GivesBytes};
+ghost use Rattle.spec_image.specs.Image.{HasRange};
+ghost use Rattle.spec_image.specs.Order.{IsAfter, IsNextFile};
+ghost use Rattle.spec_image.specs.Steps.{SetLength, Delete, Note, words};
+ghost use Rattle.spec_image.specs.Told.{Applies, AppliesPrefix, Stays, Rises, GivesBytes};
 ghost use Rattle.blk_io.specs.FileNames.{file_of};
 ghost use Rattle.blk_io.specs.Counts.{next_failure, fails_next, lasting, FindsMemory};
 ghost use Rattle.blk_io.specs.Trail.{UsesUp};

@@ -1,10 +1,10 @@
 // Words and bytes that are read whole, and words that are written one by one or side by side.
 ghost use Rattle.std.specs.Prelude.{◌≡◌, ◌⊎◌, ◌+◌, ◌*◌, ◌%◌, ◌^◌, ◌≤◌, ◌<◌, ℕ, All, length, map, OnOk, OnErr, IfOk, take};
 ghost use Rattle.std.specs.Option.{ForSome};
-ghost use Rattle.blk_image.specs.Bytes.{range_at, word_bytes};
-ghost use Rattle.blk_image.specs.Image.{HasRange, byte, word};
-ghost use Rattle.blk_image.specs.Steps.{word_step, word_steps};
-ghost use Rattle.blk_image.specs.Told.{Applies, AppliesPrefix, Stays, Rises};
+ghost use Rattle.spec_image.specs.Bytes.{range_at, word_bytes};
+ghost use Rattle.spec_image.specs.Image.{HasRange, byte, word};
+ghost use Rattle.spec_image.specs.Steps.{word_step, word_steps};
+ghost use Rattle.spec_image.specs.Told.{Applies, AppliesPrefix, Stays, Rises};
 ghost use Rattle.blk_io.specs.FileNames.{file_of};
 ghost use Rattle.blk_io.specs.Faults.{IfDamaged, IfDevice, IsShort};
 ghost use Rattle.blk_io.specs.Neighbours.{AreSideBySide, run_from};

@@ -13,11 +13,11 @@ use Rattle.blk_model.specs.State.{IsValidState, Object, State, is_named, object_
 use Rattle.blk_model.specs.Totals.{doomed_charge, is_doomed_slot, row_charge, signature_for}
 use Rattle.blk_model.proofs.Doomed.{state_doomed}
 use Rattle.blk_model.proofs.Sums.{totals_are_sums}
-use Rattle.blk_volume.specs.Removal.{is_of_another}
-use Rattle.blk_laws.proofs.commands.DoomedObjects.{object-aside, row-aside}
-use Rattle.blk_laws.proofs.commands.Dooming.{no-item, not-its}
-use Rattle.blk_laws.proofs.commands.Touches.{in-times}
-use Rattle.blk_laws.proofs.states.Settling.{main-listed, main-owned}
+use Rattle.spec_folder.specs.Removal.{is_of_another}
+use Rattle.law_folder.proofs.commands.DoomedObjects.{object-aside, row-aside}
+use Rattle.law_folder.proofs.commands.Dooming.{no-item, not-its}
+use Rattle.law_folder.proofs.commands.Touches.{in-times}
+use Rattle.law_folder.proofs.states.Settling.{main-listed, main-owned}
 use Rattle.blk_items.specs.RoomLaws.{item_charge}
 use Rattle.blk_items.proofs.RoomCounts.{all-have, alone-once, has-row, long-sum, of-key, of-rows, same-sum, split-sum}
 

@@ -3,28 +3,28 @@ use Rattle.std.proofs.Common.{◌≡◌, ◌≢◌, ⊎_elim, ℕ, Bool, true, f
 use Rattle.std.specs.Prelude.{◌==◌, ◌||◌, filter, if◌then◌else◌, not}
 use Rattle.std.specs.Str.{bytes_eq}
 use Rattle.std.proofs.lemmas.Bool.{and_parts, cases_Bool, cases_eq, eq-eqb, eqb-true}
-use Rattle.blk_image.specs.Image.{Image}
-use Rattle.blk_image.proofs.Runs.{some_inj}
+use Rattle.spec_image.specs.Image.{Image}
+use Rattle.spec_image.proofs.Runs.{some_inj}
 use Rattle.blk_model.specs.Effects.{doomed, doomed_slot}
 use Rattle.blk_model.specs.Holding.{owner}
 use Rattle.blk_model.specs.Items.{Item, main}
 use Rattle.blk_model.specs.State.{Object, State, is_named, object_at}
 use Rattle.blk_model.proofs.Each.{some_within}
 use Rattle.blk_model.proofs.Same.{same_bytes}
-use Rattle.blk_format.specs.BlockFiles.{is_among}
-use Rattle.blk_format.specs.Claims.{Claim}
-use Rattle.blk_volume.specs.Layout.{IsDoomedAt, Layout, is_in, is_listed, order}
-use Rattle.blk_volume.specs.ListView.{put}
-use Rattle.blk_volume.specs.Loads.{Loaded}
-use Rattle.blk_volume.specs.Removal.{is_of_another, placed_doomed}
-use Rattle.blk_kept.specs.GroupLaws.{at_without, gone_nodes, layout_less, owners_without}
-use Rattle.blk_kept.specs.Keeping.{KeepsUncounted}
-use Rattle.blk_kept.specs.RemovalLaws.{layout_removed}
-use Rattle.blk_kept.specs.WholeRemovals.{is_no_part_of, layout_doomed_whole, part_nodes}
-use Rattle.blk_laws.proofs.commands.Removing.{in-filter}
-use Rattle.blk_laws.proofs.states.Changing.{same-place}
-use Rattle.blk_laws.proofs.states.Laid.{IsNodeOf, is_among-node, node-of}
-use Rattle.blk_laws.proofs.states.Settling.{main-listed, main-owned}
+use Rattle.spec_format.specs.BlockFiles.{is_among}
+use Rattle.spec_format.specs.Claims.{Claim}
+use Rattle.spec_folder.specs.Layout.{IsDoomedAt, Layout, is_in, is_listed, order}
+use Rattle.spec_folder.specs.ListView.{put}
+use Rattle.spec_folder.specs.Loads.{Loaded}
+use Rattle.spec_folder.specs.Removal.{is_of_another, placed_doomed}
+use Rattle.law_state.specs.GroupLaws.{at_without, gone_nodes, layout_less, owners_without}
+use Rattle.law_state.specs.Keeping.{KeepsUncounted}
+use Rattle.law_state.specs.RemovalLaws.{layout_removed}
+use Rattle.law_state.specs.WholeRemovals.{is_no_part_of, layout_doomed_whole, part_nodes}
+use Rattle.law_folder.proofs.commands.Removing.{in-filter}
+use Rattle.law_folder.proofs.states.Changing.{same-place}
+use Rattle.law_folder.proofs.states.Laid.{IsNodeOf, is_among-node, node-of}
+use Rattle.law_folder.proofs.states.Settling.{main-listed, main-owned}
 use Rattle.blk_object.specs.Writing.{node_of_object}
 use Rattle.blk_items.specs.DoomingObjects.{NamedObjectsLieOn}
 

@@ -5,9 +5,9 @@ use Rattle.std.specs.List.{AllByRecursion}
 use Rattle.std.proofs.lemmas.Bool.{cases_Bool}
 use Rattle.std.proofs.lemmas.Bool.Decides.{nat_tests}
 use Rattle.std.proofs.lemmas.List.Sums.{sum_by-cons}
-use Rattle.blk_image.specs.Image.{Image}
-use Rattle.blk_image.specs.Told.{Passes, Told}
-use Rattle.blk_image.proofs.Runs.{some_inj}
+use Rattle.spec_image.specs.Image.{Image}
+use Rattle.spec_image.specs.Told.{Passes, Told}
+use Rattle.spec_image.proofs.Runs.{some_inj}
 use Rattle.blk_model.specs.Effects.{doomed}
 use Rattle.blk_model.specs.Items.{Item, main, part}
 use Rattle.blk_model.specs.Refusals.{no_key}
@@ -15,20 +15,20 @@ use Rattle.blk_model.specs.Room.{items, own_charge, parts_among}
 use Rattle.blk_model.specs.State.{IsObject, Object, State, is_named, object_at}
 use Rattle.blk_model.proofs.Chosen.{Owner}
 use Rattle.blk_model.proofs.Doomed.{state_doomed}
-use Rattle.blk_laws.specs.CommandLaws.{IsPlacedAsLive}
-use Rattle.blk_laws.proofs.states.Settling.{main-owned}
-use Rattle.blk_volume.specs.Entries.{IsParent, IsPart, IsPlain, Role}
-use Rattle.blk_volume.specs.Found.{charge_of}
-use Rattle.blk_volume.specs.Layout.{Layout, is_listed}
-use Rattle.blk_volume.specs.Loads.{Loaded}
-use Rattle.blk_volume.specs.Removal.{is_of_another, without_items}
-use Rattle.blk_kept.specs.Changes.{SameSession}
-use Rattle.blk_kept.specs.DoomLaws.{CanBeDoomed}
-use Rattle.blk_kept.specs.GroupLaws.{gone_nodes, layout_less}
-use Rattle.blk_kept.specs.Keeping.{Keeps}
-use Rattle.blk_kept.specs.RemovalLaws.{chains_without, layout_removed}
-use Rattle.blk_kept.specs.WholeRemovals.{layout_doomed_whole}
-use Rattle.blk_kept.proofs.Keeping.{kept-found}
+use Rattle.law_folder.specs.CommandLaws.{IsPlacedAsLive}
+use Rattle.law_folder.proofs.states.Settling.{main-owned}
+use Rattle.spec_folder.specs.Entries.{IsParent, IsPart, IsPlain, Role}
+use Rattle.spec_folder.specs.Found.{charge_of}
+use Rattle.spec_folder.specs.Layout.{Layout, is_listed}
+use Rattle.spec_folder.specs.Loads.{Loaded}
+use Rattle.spec_folder.specs.Removal.{is_of_another, without_items}
+use Rattle.law_state.specs.Changes.{SameSession}
+use Rattle.law_state.specs.DoomLaws.{CanBeDoomed}
+use Rattle.law_state.specs.GroupLaws.{gone_nodes, layout_less}
+use Rattle.law_state.specs.Keeping.{Keeps}
+use Rattle.law_state.specs.RemovalLaws.{chains_without, layout_removed}
+use Rattle.law_state.specs.WholeRemovals.{layout_doomed_whole}
+use Rattle.law_state.proofs.Keeping.{kept-found}
 use Rattle.blk_object.specs.Dooming.{layout_held}
 use Rattle.blk_object.specs.Owning.{LoadsWith}
 use Rattle.blk_object.specs.RemovingFound.{LiesAsFound}

@@ -1,17 +1,17 @@
 -- What a search for a key finds, as an object that is to be doomed.
 use Rattle.std.proofs.Common.{◌≡◌, ℕ, List, refl, sym, ap, subst, ◌∙◌, true, false, Some}
-use Rattle.blk_image.specs.Image.{Image}
+use Rattle.spec_image.specs.Image.{Image}
 use Rattle.blk_model.specs.Items.{main}
 use Rattle.blk_model.specs.State.{Object, State, is_named, object_at}
 use Rattle.blk_model.proofs.StopRests.{owner_live}
-use Rattle.blk_volume.specs.Layout.{Layout}
-use Rattle.blk_volume.specs.Searches.{IsOfLive}
-use Rattle.blk_volume.specs.View.{RecordFields, entry_at, view_of}
-use Rattle.blk_laws.proofs.chains.ChainWords.{shown-fields}
-use Rattle.blk_laws.proofs.chains.Searches.{found-live}
-use Rattle.blk_laws.proofs.claims.Owner.{IsOwned, its-key, owned}
+use Rattle.spec_folder.specs.Layout.{Layout}
+use Rattle.spec_folder.specs.Searches.{IsOfLive}
+use Rattle.spec_folder.specs.View.{RecordFields, entry_at, view_of}
+use Rattle.law_folder.proofs.chains.ChainWords.{shown-fields}
+use Rattle.law_folder.proofs.chains.Searches.{found-live}
+use Rattle.law_folder.proofs.claims.Owner.{IsOwned, its-key, owned}
 use Rattle.blk_chain.specs.Finding.{IsFound}
-use Rattle.blk_kept.specs.Keeping.{KeepsUncounted}
+use Rattle.law_state.specs.Keeping.{KeepsUncounted}
 use Rattle.blk_object.specs.Owning.{LoadsWith}
 use Rattle.blk_object.specs.RemovingFound.{LiesAsFound}
 use Rattle.blk_object.proofs.FoundEntries.{found-lies}

@@ -6,9 +6,9 @@ use Rattle.std.specs.Option.{option_and_then, option_map, option_map_or}
 use Rattle.std.specs.Str.{bytes_eq}
 use Rattle.std.proofs.lemmas.Bool.{and_from, and_parts, cases_Bool, eq-eqb, or_left, or_right}
 use Rattle.std.proofs.lemmas.List.Sums.{sum_by-cons}
-use Rattle.blk_image.specs.Image.{Image}
-use Rattle.blk_image.specs.Told.{Passes, Told}
-use Rattle.blk_image.proofs.Runs.{passes_none, some_inj}
+use Rattle.spec_image.specs.Image.{Image}
+use Rattle.spec_image.specs.Told.{Passes, Told}
+use Rattle.spec_image.proofs.Runs.{passes_none, some_inj}
 use Rattle.blk_model.specs.Effects.{doomed}
 use Rattle.blk_model.specs.Items.{Item, Row, Shape, is_sparse, item_of, main, main_row, part, part_row, plain, same_item}
 use Rattle.blk_model.specs.Holding as model
@@ -18,34 +18,34 @@ use Rattle.blk_model.specs.Totals.{row_charge}
 use Rattle.blk_model.proofs.Chosen.{Owner, has_owner}
 use Rattle.blk_model.proofs.StopRests.{owner_key, owner_live}
 use Rattle.blk_script.specs.Reply.{evicted_line, evicted_text}
-use Rattle.blk_format.specs.Names.{Name, read_name}
-use Rattle.blk_format.specs.Records.{child, parent}
-use Rattle.blk_format.specs.SparseIndex.{ParentIndex, read_parent_index}
-use Rattle.blk_volume.specs.Entries.{IsParent, IsPart, IsPlain, Role, parent_role, part_role, role_of, stream}
-use Rattle.blk_volume.specs.Found.{charge_of, row_of_loaded, row_with}
-use Rattle.blk_volume.specs.Layout.{IsPlacedAt, Layout, is_in, is_listed, rule_of}
-use Rattle.blk_volume.specs.Loads.{Loaded, is_part_role}
-use Rattle.blk_volume.specs.Removal.{is_of_another, without_items}
-use Rattle.blk_volume.specs.View.{RecordFields, entry_at, store_of, view_of}
-use Rattle.blk_laws.proofs.chains.ChainWords.{shown-fields}
-use Rattle.blk_laws.proofs.commands.Touches.{in-times}
-use Rattle.blk_laws.proofs.states.Charges.{items-charged}
-use Rattle.blk_laws.proofs.states.Laid.{item-of}
-use Rattle.blk_laws.proofs.walks.Loads.{load-then}
-use Rattle.blk_laws.proofs.walks.Shown.{role-name, role-part}
+use Rattle.spec_format.specs.Names.{Name, read_name}
+use Rattle.spec_format.specs.Records.{child, parent}
+use Rattle.spec_format.specs.SparseIndex.{ParentIndex, read_parent_index}
+use Rattle.spec_folder.specs.Entries.{IsParent, IsPart, IsPlain, Role, parent_role, part_role, role_of, stream}
+use Rattle.spec_folder.specs.Found.{charge_of, row_of_loaded, row_with}
+use Rattle.spec_folder.specs.Layout.{IsPlacedAt, Layout, is_in, is_listed, rule_of}
+use Rattle.spec_folder.specs.Loads.{Loaded, is_part_role}
+use Rattle.spec_folder.specs.Removal.{is_of_another, without_items}
+use Rattle.spec_folder.specs.View.{RecordFields, entry_at, store_of, view_of}
+use Rattle.law_folder.proofs.chains.ChainWords.{shown-fields}
+use Rattle.law_folder.proofs.commands.Touches.{in-times}
+use Rattle.law_folder.proofs.states.Charges.{items-charged}
+use Rattle.law_folder.proofs.states.Laid.{item-of}
+use Rattle.law_folder.proofs.walks.Loads.{load-then}
+use Rattle.law_folder.proofs.walks.Shown.{role-name, role-part}
 use Rattle.blk_chain.specs.declared.found.Found.{Found}
 use Rattle.blk_chain.specs.Finding.{IsAnswer}
 use Rattle.blk_entry.specs.declared.keys.Head.{Head}
 use Rattle.blk_entry.specs.Keys.{IsPiece, IsRecordHead, key_at}
 use Rattle.blk_ranges.specs.ChildNames.{name_within}
 use Rattle.blk_ranges.specs.declared.names.ChildName.{ChildName}
-use Rattle.blk_kept.specs.Changes.{SameSession}
-use Rattle.blk_kept.specs.Keeping.{Keeps, KeepsUncounted}
-use Rattle.blk_kept.specs.CommandEnds.{without_part}
-use Rattle.blk_kept.specs.RemovalLaws.{IsWithout, layout_removed}
-use Rattle.blk_kept.proofs.Keeping.{kept-found}
-use Rattle.blk_kept.proofs.GroupsGone.{whole-groups-go}
-use Rattle.blk_kept.proofs.PlainRemovals.{part-gone-without}
+use Rattle.law_state.specs.Changes.{SameSession}
+use Rattle.law_state.specs.Keeping.{Keeps, KeepsUncounted}
+use Rattle.law_state.specs.CommandEnds.{without_part}
+use Rattle.law_state.specs.RemovalLaws.{IsWithout, layout_removed}
+use Rattle.law_state.proofs.Keeping.{kept-found}
+use Rattle.law_state.proofs.GroupsGone.{whole-groups-go}
+use Rattle.law_state.proofs.PlainRemovals.{part-gone-without}
 use Rattle.blk_object.specs.FindingOut.{IsFoundListed, is_child_item}
 use Rattle.blk_object.specs.Owning.{LoadsWith}
 use Rattle.blk_object.specs.Removing.{LiesBehind}

@@ -5,19 +5,19 @@ use Rattle.std.specs.List.{cons_option, filter_map, flat_map}
 use Rattle.std.proofs.lemmas.Grind.{flat_map-append}
 use Rattle.std.proofs.lemmas.List.{length-map}
 use Rattle.std.proofs.lemmas.List.Elements.{filter_map-append}
-use Rattle.blk_image.specs.Image.{Image}
-use Rattle.blk_image.proofs.Runs.{some_inj}
+use Rattle.spec_image.specs.Image.{Image}
+use Rattle.spec_image.proofs.Runs.{some_inj}
 use Rattle.blk_model.specs.Holding.{row_of, rows}
 use Rattle.blk_model.specs.Items.{Item, Row}
 use Rattle.blk_model.specs.State.{State}
 use Rattle.blk_model.proofs.Same.{same_item_self}
-use Rattle.blk_volume.specs.Found.{row_of_loaded}
-use Rattle.blk_volume.specs.Layout.{IsPlacedAt, Layout, is_in, is_listed, nodes_of, rule_of}
-use Rattle.blk_volume.specs.ListImages.{HasListAtRest, walked}
-use Rattle.blk_volume.specs.View.{list_of}
-use Rattle.blk_laws.proofs.commands.Opening.{in-append, nodes-append}
-use Rattle.blk_laws.proofs.lists.Walks.{walk_list}
-use Rattle.blk_kept.specs.Keeping.{Keeps}
+use Rattle.spec_folder.specs.Found.{row_of_loaded}
+use Rattle.spec_folder.specs.Layout.{IsPlacedAt, Layout, is_in, is_listed, nodes_of, rule_of}
+use Rattle.spec_folder.specs.ListImages.{HasListAtRest, walked}
+use Rattle.spec_folder.specs.View.{list_of}
+use Rattle.law_folder.proofs.commands.Opening.{in-append, nodes-append}
+use Rattle.law_folder.proofs.lists.Walks.{walk_list}
+use Rattle.law_state.specs.Keeping.{Keeps}
 use Rattle.blk_script.specs.Reply.{row_line}
 use Rattle.blk_items.specs.RoomPrinting.{Prints, PrintsInPart}
 use Rattle.blk_lru.specs.Lists.{IsListAtRest, IsListed, first_node_of}

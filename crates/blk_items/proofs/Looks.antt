@@ -1,30 +1,30 @@
 -- What a search for a key finds where a state is kept.
 use Rattle.std.proofs.Common.{◌≡◌, ℕ, List, [], refl, sym, ◌∙◌, ap, subst, true, false, Option, Some, None}
 use Rattle.std.specs.Option.{option_and_then}
-use Rattle.blk_image.specs.Image.{Image}
-use Rattle.blk_image.proofs.Runs.{some_inj}
+use Rattle.spec_image.specs.Image.{Image}
+use Rattle.spec_image.proofs.Runs.{some_inj}
 use Rattle.blk_model.specs.Items.{main, main_row}
 use Rattle.blk_model.specs.Totals.{row_charge}
 use Rattle.blk_model.specs.Holding as model
 use Rattle.blk_model.specs.Room.{own_charge}
 use Rattle.blk_model.specs.State.{Object, State, live_with, object_at}
-use Rattle.blk_format.specs.BlockFiles.{is_among}
-use Rattle.blk_volume.specs.Found.{charge_of, row_of_loaded}
-use Rattle.blk_volume.specs.Layout.{IsPlacedAt, Layout, Represents, is_listed, rule_of}
-use Rattle.blk_volume.specs.Loads.{Loaded}
-use Rattle.blk_volume.specs.Searches.{HasCheckedKey, IsOfLive, chained_for}
-use Rattle.blk_volume.specs.View.{RecordFields, entry_at, stands_as, store_of, view_of}
-use Rattle.blk_format.specs.Address.{rankings}
+use Rattle.spec_format.specs.BlockFiles.{is_among}
+use Rattle.spec_folder.specs.Found.{charge_of, row_of_loaded}
+use Rattle.spec_folder.specs.Layout.{IsPlacedAt, Layout, Represents, is_listed, rule_of}
+use Rattle.spec_folder.specs.Loads.{Loaded}
+use Rattle.spec_folder.specs.Searches.{HasCheckedKey, IsOfLive, chained_for}
+use Rattle.spec_folder.specs.View.{RecordFields, entry_at, stands_as, store_of, view_of}
+use Rattle.spec_format.specs.Address.{rankings}
 use Rattle.blk_object.specs.Owning.{LoadsWith}
 use Rattle.blk_object.proofs.OwnedCharges.{record-charge}
 use Rattle.blk_object.proofs.OwnedPlaces.{kept-load}
-use Rattle.blk_laws.specs.SearchLaws.{IsSearchable}
-use Rattle.blk_laws.proofs.chains.ChainWords.{shown-fields}
-use Rattle.blk_laws.proofs.chains.Searches.{found-live, searchable}
-use Rattle.blk_laws.proofs.claims.Owner.{IsOwned, its-key, owned}
-use Rattle.blk_laws.proofs.commands.Opening.{first-some}
-use Rattle.blk_laws.proofs.states.Charges.{items-charged}
-use Rattle.blk_laws.proofs.walks.Shown.{node-is}
+use Rattle.law_folder.specs.SearchLaws.{IsSearchable}
+use Rattle.law_folder.proofs.chains.ChainWords.{shown-fields}
+use Rattle.law_folder.proofs.chains.Searches.{found-live, searchable}
+use Rattle.law_folder.proofs.claims.Owner.{IsOwned, its-key, owned}
+use Rattle.law_folder.proofs.commands.Opening.{first-some}
+use Rattle.law_folder.proofs.states.Charges.{items-charged}
+use Rattle.law_folder.proofs.walks.Shown.{node-is}
 use Rattle.blk_disk.specs.declared.tables.BlockFiles.{BlockFiles}
 use Rattle.blk_disk.specs.Tables.{Agrees, is_node_among}
 use Rattle.blk_lru.proofs.NodeWords.{names_node}
@@ -32,8 +32,8 @@ use Rattle.blk_entry.specs.Keys.{HasReadableKey, key_at}
 use Rattle.blk_chain.specs.Finding.{CanBeSearched, IsFound}
 use Rattle.blk_chain.specs.Unlinking.{StandsBehind}
 use Rattle.blk_chain.proofs.Apart.{behind-there, middle-there}
-use Rattle.blk_kept.specs.Keeping.{KeepsUncounted}
-use Rattle.blk_kept.proofs.Free.{standing-at}
+use Rattle.law_state.specs.Keeping.{KeepsUncounted}
+use Rattle.law_state.proofs.Free.{standing-at}
 use Rattle.blk_items.specs.declared.looking.Live.{Live}
 use Rattle.blk_items.specs.Looking.{IsLiveAt, charge_at}
 

@@ -1,12 +1,12 @@
 -- A live object that a handle names, as its record and a search for its key tell it.
 use Rattle.std.proofs.Common.{◌≡◌, ℕ, List, [], sym, ap, true}
-use Rattle.blk_image.specs.Image.{Image}
+use Rattle.spec_image.specs.Image.{Image}
 use Rattle.blk_model.specs.Items.{key_of, main, part}
 use Rattle.blk_model.specs.State.{Object, State}
-use Rattle.blk_volume.specs.Layout.{Layout, is_listed}
-use Rattle.blk_laws.proofs.states.Settling.{main-listed}
+use Rattle.spec_folder.specs.Layout.{Layout, is_listed}
+use Rattle.law_folder.proofs.states.Settling.{main-listed}
 use Rattle.blk_chain.specs.declared.found.Found.{Found}
-use Rattle.blk_kept.specs.Keeping.{Keeps}
+use Rattle.law_state.specs.Keeping.{Keeps}
 use Rattle.blk_object.specs.Owning.{LoadsWith}
 use Rattle.blk_object.specs.Removing.{LiesBehind}
 use Rattle.blk_items.specs.declared.item_names.EntryKind.TheVariants as kinds

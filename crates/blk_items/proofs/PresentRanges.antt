@@ -3,19 +3,19 @@ use Rattle.std.proofs.Common.{◌≡◌, ◌≢◌, Bool, false, ℕ, suc, ◌+�
 use Rattle.std.specs.Prelude.{◌==◌, ◌/◌, ◌%◌, ◌&&◌, min, nat_le, take_while}
 use Rattle.std.proofs.lemmas.Bool.{eq-eqb, eqb-false, eqb-true, leb-false, leb-true}
 use Rattle.std.proofs.lemmas.List.{length-append, length-take, take_min}
-use Rattle.blk_image.specs.Image.{AreBytes, Image}
+use Rattle.spec_image.specs.Image.{AreBytes, Image}
 use Rattle.blk_io.specs.declared.fault.Fault.{Fault}
 use Rattle.blk_io.specs.Faults.{IfDamaged}
 use Rattle.blk_entry.proofs.KeyPlaces.{damaged_any}
 use Rattle.blk_model.specs.Bytes.{bytes_from, numbers_from}
 use Rattle.blk_model.specs.Sparse.{is_present_in, sparse_bytes}
 use Rattle.blk_model.specs.State.{Object, part_at}
-use Rattle.blk_format.specs.Address.{blocks_256, is_address, kind_of}
+use Rattle.spec_format.specs.Address.{blocks_256, is_address, kind_of}
 use Rattle.blk_model.specs.Items.{main}
-use Rattle.blk_format.specs.SparseIndex.{ParentIndex}
-use Rattle.blk_volume.specs.Entries.{IsParent, stream}
-use Rattle.blk_volume.specs.Layout.{rule_of}
-use Rattle.blk_volume.specs.Loads.{Loaded}
+use Rattle.spec_format.specs.SparseIndex.{ParentIndex}
+use Rattle.spec_folder.specs.Entries.{IsParent, stream}
+use Rattle.spec_folder.specs.Layout.{rule_of}
+use Rattle.spec_folder.specs.Loads.{Loaded}
 use Rattle.blk_disk.specs.declared.tables.BlockFiles.{BlockFiles}
 use Rattle.blk_disk.specs.Tables.{Agrees, is_record_among, names_among, stands_among}
 use Rattle.blk_object.specs.Owning.{LoadsWith}

@@ -3,10 +3,10 @@ use Rattle.std.proofs.Common.{◌≡◌, ℕ, ◌+◌, ◌-◌, ◌≤◌, ◌<�
 use Rattle.std.specs.Prelude.{codes, min}
 use Rattle.std.proofs.lemmas.List.{append-nil, drop-drop, drop-take, drop_all, length-append, length-drop, length-take, take-append-drop, take-take, take_all}
 use Rattle.hex.specs.Hex.{encode_lower}
-use Rattle.blk_image.specs.Image.{Image}
+use Rattle.spec_image.specs.Image.{Image}
 use Rattle.blk_model.specs.Bytes.{bytes_from}
 use Rattle.blk_model.specs.Reply.{gave}
-use Rattle.blk_volume.specs.Entries.{stream}
+use Rattle.spec_folder.specs.Entries.{stream}
 use Rattle.blk_disk.specs.declared.tables.BlockFiles.{BlockFiles}
 use Rattle.blk_entry.specs.Keys.{IsPiece}
 use Rattle.blk_stream.specs.Streams.{StreamsCanBeRead, streams_at}

@@ -4,25 +4,25 @@ use Rattle.std.specs.Prelude.{◌==◌, filter, if◌then◌else◌, not}
 use Rattle.std.specs.Option.{option_and_then, option_map_or}
 use Rattle.std.specs.Str.{bytes_eq}
 use Rattle.std.proofs.lemmas.Bool.{and_parts, cases_Bool, eqb-true}
-use Rattle.blk_image.specs.Image.{Image}
-use Rattle.blk_image.proofs.Runs.{some_inj}
+use Rattle.spec_image.specs.Image.{Image}
+use Rattle.spec_image.proofs.Runs.{some_inj}
 use Rattle.blk_model.specs.Items.{Item, key_of, main, part}
 use Rattle.blk_model.specs.Room.{Group, is_pinned, left_of, without}
 use Rattle.blk_model.specs.State.{IsValidState, Object, State, is_named, live_with, object_at}
 use Rattle.blk_model.proofs.Evicted.{IsLoose, kept_parts, map_at, named_left}
 use Rattle.blk_model.proofs.Same.{same_bytes}
-use Rattle.blk_format.specs.BlockFiles.{is_among}
-use Rattle.blk_volume.specs.Layout.{IsDoomedAt, Layout, is_in, is_listed, order}
-use Rattle.blk_volume.specs.ListView.{put}
-use Rattle.blk_volume.specs.Loads.{Loaded}
-use Rattle.blk_volume.specs.Removal.{is_of_another}
-use Rattle.blk_kept.specs.GroupLaws.{gone_nodes, layout_less}
-use Rattle.blk_kept.specs.Keeping.{KeepsUncounted}
-use Rattle.blk_kept.specs.RemovalLaws.{layout_removed}
-use Rattle.blk_laws.proofs.commands.Removing.{in-filter}
-use Rattle.blk_laws.proofs.states.Changing.{same-place}
-use Rattle.blk_laws.proofs.states.Laid.{IsNodeOf, is_among-node, node-of}
-use Rattle.blk_laws.proofs.states.Settling.{main-listed, main-owned}
+use Rattle.spec_format.specs.BlockFiles.{is_among}
+use Rattle.spec_folder.specs.Layout.{IsDoomedAt, Layout, is_in, is_listed, order}
+use Rattle.spec_folder.specs.ListView.{put}
+use Rattle.spec_folder.specs.Loads.{Loaded}
+use Rattle.spec_folder.specs.Removal.{is_of_another}
+use Rattle.law_state.specs.GroupLaws.{gone_nodes, layout_less}
+use Rattle.law_state.specs.Keeping.{KeepsUncounted}
+use Rattle.law_state.specs.RemovalLaws.{layout_removed}
+use Rattle.law_folder.proofs.commands.Removing.{in-filter}
+use Rattle.law_folder.proofs.states.Changing.{same-place}
+use Rattle.law_folder.proofs.states.Laid.{IsNodeOf, is_among-node, node-of}
+use Rattle.law_folder.proofs.states.Settling.{main-listed, main-owned}
 use Rattle.blk_object.specs.Writing.{node_of_object}
 use Rattle.blk_items.specs.RoomLaws.{MayGo, NamedObjectsStay, group_for}
 use Rattle.blk_items.proofs.RoomGroups.{in-middle, loose-for}

@@ -16,7 +16,7 @@ use Rattle.blk_model.proofs.Same.{one_item, same_bytes, same_item_self}
 use Rattle.blk_model.proofs.Slots.{owners-first_none}
 use Rattle.blk_model.proofs.Sums.{totals_are_sums}
 use Rattle.blk_model.proofs.Times.{times-cons}
-use Rattle.blk_laws.proofs.claims.Owner.{IsOwned, its-key, owned}
+use Rattle.law_folder.proofs.claims.Owner.{IsOwned, its-key, owned}
 use Rattle.blk_items.specs.RoomLaws.{GroupsAreCountedLess, MayGo, group_for, item_charge}
 use Rattle.blk_items.proofs.RoomGroups.{first-same, loose-for}
 

@@ -12,8 +12,8 @@ use Rattle.blk_model.specs.State.{Object, State, first_with, is_named, slot_has_
 use Rattle.blk_model.specs.Room.{Group, whole, single, evicted_until, groups_from_back, is_out, is_pinned, left_of, part_number, parts_among, shortest, without}
 use Rattle.blk_model.proofs.Evicted.{IsLoose, left_slot_has, evicted_are_loose}
 use Rattle.blk_model.proofs.Same.{one_item, same_bytes, same_item_self}
-use Rattle.blk_volume.specs.Layout.{is_in}
-use Rattle.blk_kept.proofs.RestRoom.{others-go}
+use Rattle.spec_folder.specs.Layout.{is_in}
+use Rattle.law_state.proofs.RestRoom.{others-go}
 use Rattle.blk_items.specs.RoomLaws.{AreOfNamed, CoveredPartsStayOfNamed, IsLastUnpinned, IsOfNamed, ItemsThatStayArePinnedAsBefore, MayGo, NothingMoreGoes, TheLastUnpinnedGoesNext, TheLastUnpinnedMayGo, TheOthersGoFromWhatIsLeft, group_for}
 
 clash : true ≡ false → ⊥

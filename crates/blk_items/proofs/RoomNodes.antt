@@ -1,12 +1,12 @@
 -- The node in front of a place of the list.
 use Rattle.std.proofs.Common.{◌++◌, ◌+◌, ◌∙◌, ◌∷◌, ◌≡◌, List, None, Option, Some, [], ap, append-nil, refl, subst, sym, true, ℕ}
 use Rattle.blk_chain.proofs.Apart.{middle-there}
-use Rattle.blk_image.specs.Image.{Image}
-use Rattle.blk_format.specs.Address.{place}
-use Rattle.blk_format.specs.BlockFiles.{is_among}
-use Rattle.blk_volume.specs.ListImages.{HasListAtRest, walked}
-use Rattle.blk_volume.specs.View.{list_of}
-use Rattle.blk_laws.proofs.lists.Walks.{walk_list}
+use Rattle.spec_image.specs.Image.{Image}
+use Rattle.spec_format.specs.Address.{place}
+use Rattle.spec_format.specs.BlockFiles.{is_among}
+use Rattle.spec_folder.specs.ListImages.{HasListAtRest, walked}
+use Rattle.spec_folder.specs.View.{list_of}
+use Rattle.law_folder.proofs.lists.Walks.{walk_list}
 use Rattle.blk_lru.specs.Lists.{IsListAtRest, IsListed, first_node_of}
 use Rattle.blk_items.specs.ListPlaces.{AreInFront, IsPlaceInList}
 

@@ -7,7 +7,7 @@ use Rattle.std.proofs.lemmas.Bool.{and_from, eq-eqb, or_left, or_right}
 use Rattle.std.proofs.lemmas.Bool.Decides.{nat_tests}
 use Rattle.std.proofs.lemmas.Grind.{flat_map-append}
 use Rattle.std.proofs.lemmas.List.Sums.{sum_by-cons}
-use Rattle.blk_image.specs.Image.{Image}
+use Rattle.spec_image.specs.Image.{Image}
 use Rattle.blk_model.specs.Effects.{doomed}
 use Rattle.blk_model.specs.Items.{IsKey, Item, main, part, same_item}
 use Rattle.blk_model.specs.Room.{Group, items_of_group, part_number, parts_among, whole, without}
@@ -16,17 +16,17 @@ use Rattle.blk_model.specs.State.{IsObject, Object, State, is_named}
 use Rattle.blk_model.proofs.Chosen.{Owner}
 use Rattle.blk_model.proofs.StopRests.{owner_key, owner_live}
 use Rattle.blk_script.specs.Reply.{evicted_line, evicted_text}
-use Rattle.blk_volume.specs.Entries.{IsParent, IsPart, IsPlain, Role}
-use Rattle.blk_volume.specs.Found.{charge_of}
-use Rattle.blk_volume.specs.Layout.{IsPlacedAt, Layout, is_in, is_listed, nodes_of}
-use Rattle.blk_volume.specs.Loads.{Loaded}
-use Rattle.blk_volume.specs.Removal.{is_of_another}
-use Rattle.blk_format.specs.SparseIndex.{ParentIndex}
-use Rattle.blk_kept.specs.Changes.{SameSession}
-use Rattle.blk_kept.specs.CountsOfParts.{charges_at}
-use Rattle.blk_kept.specs.GroupLaws.{gone_nodes, layout_less}
-use Rattle.blk_kept.specs.Keeping.{Keeps, KeepsUncounted}
-use Rattle.blk_kept.proofs.GroupsGone.{whole-groups-go}
+use Rattle.spec_folder.specs.Entries.{IsParent, IsPart, IsPlain, Role}
+use Rattle.spec_folder.specs.Found.{charge_of}
+use Rattle.spec_folder.specs.Layout.{IsPlacedAt, Layout, is_in, is_listed, nodes_of}
+use Rattle.spec_folder.specs.Loads.{Loaded}
+use Rattle.spec_folder.specs.Removal.{is_of_another}
+use Rattle.spec_format.specs.SparseIndex.{ParentIndex}
+use Rattle.law_state.specs.Changes.{SameSession}
+use Rattle.law_state.specs.CountsOfParts.{charges_at}
+use Rattle.law_state.specs.GroupLaws.{gone_nodes, layout_less}
+use Rattle.law_state.specs.Keeping.{Keeps, KeepsUncounted}
+use Rattle.law_state.proofs.GroupsGone.{whole-groups-go}
 use Rattle.blk_object.specs.FindingOut.{is_child_item}
 use Rattle.blk_object.specs.Removing.{LiesBehind}
 use Rattle.blk_sparse.specs.declared.dropping.Gone.{Gone}

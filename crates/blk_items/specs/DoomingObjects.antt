@@ -2,17 +2,17 @@
 use Rattle.std.specs.Prelude.{◌≡◌, ℕ, ◌+◌, List, [], Bool, false, true}
 use Rattle.std.specs.declared.option.Option.{Option}
 use Rattle.std.specs.declared.option.Option.TheVariants.{None, Some}
-use Rattle.blk_image.specs.Image.{Image}
+use Rattle.spec_image.specs.Image.{Image}
 use Rattle.blk_model.specs.Effects.{doomed}
 use Rattle.blk_model.specs.Items.{main}
 use Rattle.blk_model.specs.Room.{items, total}
 use Rattle.blk_model.specs.State.{Object, State, is_named, live_with, object_at}
-use Rattle.blk_laws.specs.CommandLaws.{IsPlacedAsLive}
-use Rattle.blk_volume.specs.Found.{charge_of}
-use Rattle.blk_volume.specs.Layout.{Layout}
-use Rattle.blk_volume.specs.Loads.{Loaded}
-use Rattle.blk_kept.specs.Changes.{SameSession}
-use Rattle.blk_kept.specs.Keeping.{Keeps}
+use Rattle.law_folder.specs.CommandLaws.{IsPlacedAsLive}
+use Rattle.spec_folder.specs.Found.{charge_of}
+use Rattle.spec_folder.specs.Layout.{Layout}
+use Rattle.spec_folder.specs.Loads.{Loaded}
+use Rattle.law_state.specs.Changes.{SameSession}
+use Rattle.law_state.specs.Keeping.{Keeps}
 use Rattle.blk_object.specs.RemovingFound.{LiesAsFound}
 use Rattle.blk_object.specs.Writing.{node_of_object}
 use Rattle.blk_sparse.specs.declared.dropping.Gone.{Gone}

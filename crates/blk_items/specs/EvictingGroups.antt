@@ -3,18 +3,18 @@ use Rattle.std.specs.Prelude.{◌≡◌, ◌==◌, ℕ, Bool, List, [], ◌∷�
 use Rattle.std.specs.List.{flat_map}
 use Rattle.blk_script.specs.Reply.{evicted_line}
 use Rattle.std.specs.declared.option.Option.TheVariants.{Some}
-use Rattle.blk_image.specs.Image.{Image}
+use Rattle.spec_image.specs.Image.{Image}
 use Rattle.blk_model.specs.Items.{Item, part}
 use Rattle.blk_model.specs.Room.{Group, items_of_group, without}
 use Rattle.blk_model.specs.State.{State}
-use Rattle.blk_format.specs.Records.{child, parent}
-use Rattle.blk_volume.specs.Entries.{IsParent, IsPart, IsPlain, Role}
-use Rattle.blk_volume.specs.Found.{charge_of}
-use Rattle.blk_volume.specs.Layout.{Layout, is_listed}
-use Rattle.blk_volume.specs.Loads.{Loaded}
+use Rattle.spec_format.specs.Records.{child, parent}
+use Rattle.spec_folder.specs.Entries.{IsParent, IsPart, IsPlain, Role}
+use Rattle.spec_folder.specs.Found.{charge_of}
+use Rattle.spec_folder.specs.Layout.{Layout, is_listed}
+use Rattle.spec_folder.specs.Loads.{Loaded}
 use Rattle.blk_entry.specs.Keys.{key_bytes}
-use Rattle.blk_kept.specs.Changes.{SameSession}
-use Rattle.blk_kept.specs.Keeping.{Keeps, KeepsUncounted}
+use Rattle.law_state.specs.Changes.{SameSession}
+use Rattle.law_state.specs.Keeping.{Keeps, KeepsUncounted}
 use Rattle.blk_object.specs.FindingOut.{is_child_item}
 use Rattle.blk_sparse.specs.declared.dropping.Gone.{Gone}
 use Rattle.blk_items.specs.declared.item_names.EntryKind.{EntryKind}

@@ -2,19 +2,19 @@
 use Rattle.std.specs.Prelude.{◌≡◌, ◌<◌, ℕ, List, [], length, slice_index}
 use Rattle.std.specs.List.{filter_map, flat_map}
 use Rattle.std.specs.declared.option.Option.TheVariants.{Some}
-use Rattle.blk_image.specs.Image.{Image}
+use Rattle.spec_image.specs.Image.{Image}
 use Rattle.blk_model.specs.Holding.{row_of}
 use Rattle.blk_model.specs.Items.{Item}
 use Rattle.blk_model.specs.State.{State}
-use Rattle.blk_format.specs.Names.{Name, read_name}
-use Rattle.blk_format.specs.SparseIndex.{PartIndex}
-use Rattle.blk_volume.specs.Entries.{IsPart, stream}
-use Rattle.blk_volume.specs.Layout.{Layout}
-use Rattle.blk_volume.specs.Loads.{Loaded}
+use Rattle.spec_format.specs.Names.{Name, read_name}
+use Rattle.spec_format.specs.SparseIndex.{PartIndex}
+use Rattle.spec_folder.specs.Entries.{IsPart, stream}
+use Rattle.spec_folder.specs.Layout.{Layout}
+use Rattle.spec_folder.specs.Loads.{Loaded}
 use Rattle.blk_disk.specs.declared.tables.BlockFiles.{BlockFiles}
 use Rattle.blk_disk.specs.Open.{IsOpen}
 use Rattle.blk_entry.specs.declared.keys.Head.{Head}
-use Rattle.blk_kept.specs.Keeping.{Keeps}
+use Rattle.law_state.specs.Keeping.{Keeps}
 use Rattle.blk_script.specs.Reply.{row_line}
 use Rattle.blk_items.specs.EvictingGroups.{kind_of_role, kind_said}
 

@@ -2,23 +2,23 @@
 use Rattle.std.specs.Prelude.{◌≡◌, ◌⊎◌, ℕ, ◌+◌, List, false, slice_index, true}
 use Rattle.std.specs.declared.option.Option.{Option}
 use Rattle.std.specs.declared.option.Option.TheVariants.{None, Some}
-use Rattle.blk_image.specs.Image.{Image}
-use Rattle.blk_image.specs.Told.{Told}
-use Rattle.blk_format.specs.Address.{file_selector, place}
+use Rattle.spec_image.specs.Image.{Image}
+use Rattle.spec_image.specs.Told.{Told}
+use Rattle.spec_format.specs.Address.{file_selector, place}
 use Rattle.blk_io.specs.declared.folder.FileId.TheVariants as names
 use Rattle.blk_io.specs.declared.fault.Damage.{Damage}
 use Rattle.blk_model.specs.Items.{main}
 use Rattle.blk_model.specs.Room.{own_charge}
 use Rattle.blk_model.specs.State.{Object, State, live_with, object_at}
-use Rattle.blk_volume.specs.Layout.{Layout}
-use Rattle.blk_volume.specs.Loads.{Loaded}
-use Rattle.blk_volume.specs.View.{entry_at}
+use Rattle.spec_folder.specs.Layout.{Layout}
+use Rattle.spec_folder.specs.Loads.{Loaded}
+use Rattle.spec_folder.specs.View.{entry_at}
 use Rattle.blk_disk.specs.declared.tables.BlockFiles.{BlockFiles}
 use Rattle.blk_disk.specs.Damages.{IsNodeWordDamage}
 use Rattle.blk_disk.specs.Tables.{is_record_among}
 use Rattle.blk_entry.specs.Keys.{IsHeadDamage, node_place}
 use Rattle.blk_chain.specs.Finding.{IsSearchDamage}
-use Rattle.blk_kept.specs.Keeping.{KeepsUncounted}
+use Rattle.law_state.specs.Keeping.{KeepsUncounted}
 use Rattle.blk_items.specs.declared.looking.Live.{Live}
 
 -- Charges.

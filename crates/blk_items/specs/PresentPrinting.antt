@@ -1,9 +1,9 @@
 -- Bytes of an object with parts that are printed.
 use Rattle.std.specs.Prelude.{◌≡◌, ℕ, List, length}
-use Rattle.blk_image.specs.Image.{Image}
+use Rattle.spec_image.specs.Image.{Image}
 use Rattle.blk_model.specs.Sparse.{sparse_bytes}
 use Rattle.blk_model.specs.State.{Object, State}
-use Rattle.blk_volume.specs.Layout.{Layout}
+use Rattle.spec_folder.specs.Layout.{Layout}
 use Rattle.blk_sparse.specs.SparseObjects.{KeepsParent}
 use Rattle.blk_items.specs.declared.present_printing.PresentRange.{PresentRange}
 

@@ -1,9 +1,9 @@
 -- Bytes of a stream that are printed.
 use Rattle.std.specs.Prelude.{◌≡◌, ℕ, List, length}
 use Rattle.std.specs.declared.option.Option.TheVariants.{Some}
-use Rattle.blk_image.specs.Image.{Image}
+use Rattle.spec_image.specs.Image.{Image}
 use Rattle.blk_model.specs.Bytes.{bytes_from}
-use Rattle.blk_volume.specs.Entries.{stream}
+use Rattle.spec_folder.specs.Entries.{stream}
 use Rattle.blk_disk.specs.declared.tables.BlockFiles.{BlockFiles}
 use Rattle.blk_stream.specs.Streams.{StreamsCanBeRead, streams_at}
 use Rattle.blk_items.specs.declared.range_printing.StreamRange.{StreamRange}

@@ -8,7 +8,7 @@ use Rattle.blk_model.specs.Items.{Item, main, part}
 use Rattle.blk_model.specs.Room.{Group, single, whole, evicted_until, is_out, is_pinned, items, items_of_group, parts_among, total, without}
 use Rattle.blk_model.specs.State.{IsValidState, Object, State, is_named, object_at}
 use Rattle.blk_model.specs.Totals.{row_charge}
-use Rattle.blk_volume.specs.Layout.{Layout}
+use Rattle.spec_folder.specs.Layout.{Layout}
 use Rattle.blk_object.specs.Writing.{node_of_object}
 
 -- Eviction.

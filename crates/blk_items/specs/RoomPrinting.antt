@@ -1,7 +1,7 @@
 -- What is printed, unless the sink failed.
 use Rattle.std.specs.Prelude.{◌≡◌, ℕ, ◌≤◌, Bool, true, false, List, [], ◌++◌, Option}
 use Rattle.std.specs.Option.{option_map}
-use Rattle.blk_image.specs.Told.{Rises}
+use Rattle.spec_image.specs.Told.{Rises}
 use Rattle.blk_io.specs.Streams.{Appends}
 
 -- a text was printed, or a front of it where the sink failed; where it failed before, nothing was

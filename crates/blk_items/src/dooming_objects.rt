@@ -1,18 +1,18 @@
 // A live object is doomed in a folder.
 ghost use Rattle.std.specs.Prelude.{◌≡◌, ◌≤◌, ℕ, IfOk, IfSome, IsTrue, List, None, OnOk, Some, false, length, true};
 ghost use Rattle.std.specs.Option.{ForSome};
-ghost use Rattle.blk_image.specs.Told.{Passes, Rises, Stays};
+ghost use Rattle.spec_image.specs.Told.{Passes, Rises, Stays};
 ghost use Rattle.blk_io.specs.Faults.{IfDamaged, IfDevice};
 ghost use Rattle.blk_model.specs.Effects.{doomed};
 ghost use Rattle.blk_model.specs.Sizes.{longest_key};
 ghost use Rattle.blk_model.specs.State.{State};
-ghost use Rattle.blk_format.specs.Address.{blocks_256, kind_of};
-ghost use Rattle.blk_format.specs.Names.{longest_name};
-ghost use Rattle.blk_volume.specs.Layout.{Layout};
+ghost use Rattle.spec_format.specs.Address.{blocks_256, kind_of};
+ghost use Rattle.spec_format.specs.Names.{longest_name};
+ghost use Rattle.spec_folder.specs.Layout.{Layout};
 ghost use Rattle.blk_disk.specs.Open.{IsOpen};
 ghost use Rattle.blk_disk.specs.Tables.{is_node_among, is_record_among, stands_among};
-ghost use Rattle.blk_kept.specs.Changes.{SameSession};
-ghost use Rattle.blk_kept.specs.Keeping.{KeepsUncounted};
+ghost use Rattle.law_state.specs.Changes.{SameSession};
+ghost use Rattle.law_state.specs.Keeping.{KeepsUncounted};
 ghost use Rattle.blk_object.specs.FailedChecks.{IsFailedCheck};
 ghost use Rattle.blk_object.specs.RemovingObjects.{FindsEither};
 ghost use Rattle.blk_items.specs.DoomingObjects.{ForEachOpenAt, ForEachTarget, ForEachWithKey, IsDoomed, IsTarget, has_index};

@@ -1,7 +1,7 @@
 // A group goes out of a folder, and is printed.
 ghost use Rattle.std.specs.Prelude.{◌≡◌, ◌≤◌, ◌<◌, ◌^◌, ◌+◌, [], ◌∷◌, All, IfOk, IfSome, IsTrue, None, OnOk, length, true};
 ghost use Rattle.std.specs.Option.{ForSome};
-ghost use Rattle.blk_image.specs.Told.{Passes, Rises, Stays};
+ghost use Rattle.spec_image.specs.Told.{Passes, Rises, Stays};
 ghost use Rattle.blk_io.specs.Faults.{IfDamaged, IfDevice};
 ghost use Rattle.blk_io.specs.Streams.{Appends};
 ghost use Rattle.blk_model.specs.Effects.{doomed};
@@ -9,12 +9,12 @@ ghost use Rattle.blk_model.specs.Refusals.{no_key};
 ghost use Rattle.blk_model.specs.Room.{parts_among, without};
 ghost use Rattle.blk_model.specs.Sizes.{longest_key};
 ghost use Rattle.blk_script.specs.Reply.{evicted_text};
-ghost use Rattle.blk_format.specs.Address.{blocks_256, kind_of};
-ghost use Rattle.blk_format.specs.Names.{IsName, longest_name};
+ghost use Rattle.spec_format.specs.Address.{blocks_256, kind_of};
+ghost use Rattle.spec_format.specs.Names.{IsName, longest_name};
 ghost use Rattle.blk_ranges.specs.ChildNames.{name_within};
 ghost use Rattle.blk_disk.specs.Open.{IsOpen};
 ghost use Rattle.blk_disk.specs.Tables.{is_node_among, is_record_among, stands_among};
-ghost use Rattle.blk_kept.specs.Changes.{SameSession};
+ghost use Rattle.law_state.specs.Changes.{SameSession};
 ghost use Rattle.blk_object.specs.FailedChecks.{IsFailedCheck};
 ghost use Rattle.blk_object.specs.Freeing.{IsPlaceAmong};
 ghost use Rattle.blk_object.specs.Removing.{LiesBehind};

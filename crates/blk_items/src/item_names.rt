@@ -1,9 +1,9 @@
 // What an item is, by its record: its kind, and its key or name.
 ghost use Rattle.std.specs.Prelude.{◌≡◌, ◌≤◌, ◌<◌, ◌^◌, All, IfOk, IsTrue, None, length, take};
 ghost use Rattle.std.specs.Option.{ForSome};
-ghost use Rattle.blk_image.specs.Told.{Rises, Stays};
+ghost use Rattle.spec_image.specs.Told.{Rises, Stays};
 ghost use Rattle.blk_io.specs.Faults.{IfDamaged, IfDevice};
-ghost use Rattle.blk_volume.specs.Loads.{Loaded};
+ghost use Rattle.spec_folder.specs.Loads.{Loaded};
 ghost use Rattle.blk_disk.specs.Tables.{Agrees, is_record_among};
 ghost use Rattle.blk_entry.specs.Keys.{most_key};
 ghost use Rattle.blk_object.specs.FailedChecks.{IsFailedCheck};

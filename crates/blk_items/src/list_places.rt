@@ -1,7 +1,7 @@
 // Places of the use list: the node in front of one, and an item that may go.
 ghost use Rattle.std.specs.Prelude.{◌≡◌, ◌≤◌, ℕ, IfOk, IfSome, IsTrue, List, None};
 ghost use Rattle.std.specs.Option.{ForSome};
-ghost use Rattle.blk_image.specs.Told.{Rises, Stays};
+ghost use Rattle.spec_image.specs.Told.{Rises, Stays};
 ghost use Rattle.blk_io.specs.Faults.{IfDamaged, IfDevice};
 ghost use Rattle.blk_lru.specs.Lists.{last_node_of};
 ghost use Rattle.blk_disk.specs.Open.{IsOpen};

@@ -1,17 +1,17 @@
 // The live object of a key, as it is found in the folder.
 ghost use Rattle.std.specs.Prelude.{◌≡◌, ◌≤◌, ◌<◌, ℕ, IfOk, IfSome, IsTrue, List, None, true};
 ghost use Rattle.std.specs.Option.{ForSome};
-ghost use Rattle.blk_image.specs.Told.{Rises, Stays};
-ghost use Rattle.blk_format.specs.Address.{blocks_256, kind_of};
+ghost use Rattle.spec_image.specs.Told.{Rises, Stays};
+ghost use Rattle.spec_format.specs.Address.{blocks_256, kind_of};
 ghost use Rattle.blk_io.specs.Faults.{IfDamaged, IfDevice};
 ghost use Rattle.blk_model.specs.State.{State};
-ghost use Rattle.blk_volume.specs.Layout.{Layout};
-ghost use Rattle.blk_volume.specs.Loads.{Loaded};
-ghost use Rattle.blk_volume.specs.View.{entry_at};
+ghost use Rattle.spec_folder.specs.Layout.{Layout};
+ghost use Rattle.spec_folder.specs.Loads.{Loaded};
+ghost use Rattle.spec_folder.specs.View.{entry_at};
 ghost use Rattle.blk_disk.specs.Open.{IsOpen};
 ghost use Rattle.blk_disk.specs.Tables.{Agrees, is_node_among, is_record_among, stands_among};
 ghost use Rattle.blk_entry.specs.Keys.{IsHeadDamage};
-ghost use Rattle.blk_kept.specs.Keeping.{KeepsUncounted};
+ghost use Rattle.law_state.specs.Keeping.{KeepsUncounted};
 ghost use Rattle.blk_object.specs.Owning.{LoadsWith};
 ghost use Rattle.blk_items.specs.EvictingGroups.{kind_said};
 ghost use Rattle.blk_items.specs.Looking.{IsEntryDamage, IsLive, IsLookDamage, KeepsSomeState, charge_at};

@@ -1,13 +1,13 @@
 // Bytes of an object with parts are printed, where they are all present.
 ghost use Rattle.std.specs.Prelude.{◌≡◌, ◌≤◌, ◌+◌, IfSome, IsTrue, None, OnOk, length};
 ghost use Rattle.std.specs.Option.{ForSome};
-ghost use Rattle.blk_image.specs.Told.{Rises, Stays};
+ghost use Rattle.spec_image.specs.Told.{Rises, Stays};
 ghost use Rattle.blk_io.specs.Faults.{IfDamaged, IfDevice};
 ghost use Rattle.blk_model.specs.Reply.{gave};
 ghost use Rattle.blk_model.specs.Sizes.{largest_offset, longest_key, part_size};
 ghost use Rattle.blk_model.specs.Sparse.{sparse_bytes};
-ghost use Rattle.blk_format.specs.Address.{blocks_256, is_address, kind_of};
-ghost use Rattle.blk_format.specs.Names.{longest_name};
+ghost use Rattle.spec_format.specs.Address.{blocks_256, is_address, kind_of};
+ghost use Rattle.spec_format.specs.Names.{longest_name};
 ghost use Rattle.blk_disk.specs.Open.{IsOpen};
 ghost use Rattle.blk_disk.specs.Tables.{is_record_among, stands_among};
 ghost use Rattle.blk_script.specs.Reply.{reply_text};

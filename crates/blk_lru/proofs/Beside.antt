@@ -2,11 +2,11 @@
 use Rattle.std.proofs.Common.{◌≡◌, ◌≢◌, ℕ, Bool, true, false, List, [], ◌∷◌, ◌++◌, if◌then◌else◌, refl, ap, ◌∙◌, subst}
 use Rattle.std.specs.Prelude.{◌==◌}
 use Rattle.std.proofs.lemmas.Bool.{eqb-true, ne_eqb}
-use Rattle.blk_volume.specs.ListView.{ListView, ListWrite, Next, Prev, Head, Tail, Transaction, Operation}
-use Rattle.blk_volume.specs.Completion.{insert, remove, move, taking_out, putting_in_front, take_out}
-use Rattle.blk_volume.specs.ListPlans.{writes_of}
-use Rattle.blk_volume.specs.ListSteps.{AreOf}
-use Rattle.blk_laws.proofs.lists.ListWrites.{pending_remove, pending_move}
+use Rattle.spec_folder.specs.ListView.{ListView, ListWrite, Next, Prev, Head, Tail, Transaction, Operation}
+use Rattle.spec_folder.specs.Completion.{insert, remove, move, taking_out, putting_in_front, take_out}
+use Rattle.spec_folder.specs.ListPlans.{writes_of}
+use Rattle.spec_folder.specs.ListSteps.{AreOf}
+use Rattle.law_folder.proofs.lists.ListWrites.{pending_remove, pending_move}
 use Rattle.blk_lru.specs.Lists.{HasGoodLinks}
 use Rattle.blk_lru.proofs.Performing.{first_nodes}
 

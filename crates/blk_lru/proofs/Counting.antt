@@ -3,11 +3,11 @@ use Rattle.blk_disk.specs.Tables.{is_node_among}
 use Rattle.std.proofs.Common.{⊎_elim, ◌≡◌, ◌≢◌, ℕ, Bool, true, false, ◌||◌, Option, None, Some, refl, sym, ap, ◌∙◌}
 use Rattle.std.specs.Prelude.{◌==◌}
 use Rattle.std.proofs.lemmas.Bool.{eq-eqb, ne_eqb, or_right, false_from_ne_true}
-use Rattle.blk_volume.specs.ListView.{ListView}
-use Rattle.blk_volume.specs.Completion.{counts, head_counts, links_count}
-use Rattle.blk_volume.specs.ListPlans.{completion_writes}
-use Rattle.blk_laws.proofs.lists.ListCompletions.{completion_true}
-use Rattle.blk_laws.proofs.lists.ListWrites.{counting}
+use Rattle.spec_folder.specs.ListView.{ListView}
+use Rattle.spec_folder.specs.Completion.{counts, head_counts, links_count}
+use Rattle.spec_folder.specs.ListPlans.{completion_writes}
+use Rattle.law_folder.proofs.lists.ListCompletions.{completion_true}
+use Rattle.law_folder.proofs.lists.ListWrites.{counting}
 use Rattle.blk_disk.specs.declared.tables.BlockFiles.{BlockFiles}
 use Rattle.blk_lru.specs.declared.completing.InFlight.{InFlight}
 use Rattle.blk_lru.specs.declared.completing.Usable.TheVariants.{Counts}

@@ -1,13 +1,13 @@
 -- The conditions of the calls can be met: at a folder of two listed nodes, and a third that isn't listed.
 use Rattle.std.proofs.Common.{◌≡◌, ℕ, List, [], ◌∷◌, sym, ap, subst}
-use Rattle.blk_image.specs.Image.{Image}
-use Rattle.blk_volume.specs.ListView.{CanBeInserted}
-use Rattle.blk_volume.specs.View.{list_of}
-use Rattle.blk_volume.specs.ListImages.{HasListAtRest, walked}
-use Rattle.blk_format.specs.BlockFiles.{is_among}
-use Rattle.blk_laws.proofs.examples.ExampleWords.{another, first, last, pair_folder, pair-at_rest, pair-can_be_more}
-use Rattle.blk_laws.proofs.lists.Walks.{walk_list}
-use Rattle.blk_laws.proofs.lists.WordTurns.{touches-can}
+use Rattle.spec_image.specs.Image.{Image}
+use Rattle.spec_folder.specs.ListView.{CanBeInserted}
+use Rattle.spec_folder.specs.View.{list_of}
+use Rattle.spec_folder.specs.ListImages.{HasListAtRest, walked}
+use Rattle.spec_format.specs.BlockFiles.{is_among}
+use Rattle.law_folder.proofs.examples.ExampleWords.{another, first, last, pair_folder, pair-at_rest, pair-can_be_more}
+use Rattle.law_folder.proofs.lists.Walks.{walk_list}
+use Rattle.law_folder.proofs.lists.WordTurns.{touches-can}
 use Rattle.blk_lru.specs.Lists.{CanBeTouched, HasGoodLinks, IsListAtRest, IsListed}
 use Rattle.blk_lru.proofs.Listed.{linked}
 

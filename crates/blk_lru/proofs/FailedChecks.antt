@@ -1,11 +1,11 @@
 -- Damages, as the callers see them.
 use Rattle.blk_disk.specs.Tables.{is_node_among}
 use Rattle.std.proofs.Common.{◌⊎◌, ◌+◌, arith, ◌≡◌, ℕ, Result, Ok, Err, subst, sym, true}
-use Rattle.blk_image.specs.Told.{Told, Stays}
-use Rattle.blk_format.specs.Address.{file_selector, place}
-use Rattle.blk_format.specs.Records.{node_size}
-use Rattle.blk_format.specs.Sealed.{record_size}
-use Rattle.blk_format.proofs.SealedRecords.{node_bytes}
+use Rattle.spec_image.specs.Told.{Told, Stays}
+use Rattle.spec_format.specs.Address.{file_selector, place}
+use Rattle.spec_format.specs.Records.{node_size}
+use Rattle.spec_format.specs.Sealed.{record_size}
+use Rattle.spec_format.proofs.SealedRecords.{node_bytes}
 use Rattle.blk_io.specs.declared.folder.FileId.TheVariants as names
 use Rattle.blk_io.specs.declared.fault.Damage.{Damage}
 use Rattle.blk_io.specs.declared.fault.Fault.{Fault}

@@ -2,11 +2,11 @@
 use Rattle.std.proofs.Common.{⊎_elim, ◌≡◌, ◌≢◌, ℕ, ◌+◌, ◌≤◌, Bool, true, false, ◌&&◌, if◌then◌else◌, None, refl, sym, ap, subst, ◌∙◌, arith}
 use Rattle.std.specs.Prelude.{◌⊎◌}
 use Rattle.std.proofs.lemmas.Bool.{false_from_ne_true}
-use Rattle.blk_image.specs.Image.{Block, HasRange, Image, Index, length_of}
-use Rattle.blk_format.specs.Address.{file_selector, place, rankings}
-use Rattle.blk_format.specs.Records.{node_checks, node_in}
-use Rattle.blk_volume.specs.Completion.{head_counts}
-use Rattle.blk_volume.specs.View.{checks_at, list_of, next_at, node_at, prev_at, stands_as}
+use Rattle.spec_image.specs.Image.{Block, HasRange, Image, Index, length_of}
+use Rattle.spec_format.specs.Address.{file_selector, place, rankings}
+use Rattle.spec_format.specs.Records.{node_checks, node_in}
+use Rattle.spec_folder.specs.Completion.{head_counts}
+use Rattle.spec_folder.specs.View.{checks_at, list_of, next_at, node_at, prev_at, stands_as}
 use Rattle.blk_disk.specs.declared.tables.BlockFiles.{BlockFiles}
 use Rattle.blk_disk.specs.Tables.{Agrees, is_node_among}
 use Rattle.blk_lru.specs.declared.nodes.Links.{Links}

@@ -1,18 +1,18 @@
 -- Each word that is written into the list keeps the index's length and what is kept of the block files.
 use Rattle.std.proofs.Common.{ℕ, ◌+◌, List, [], ◌∷◌, length, refl, ◌∙◌}
-use Rattle.blk_image.specs.Bytes.{word_bytes}
-use Rattle.blk_image.specs.Image.{File, Index, Block, Image}
-use Rattle.blk_image.specs.Footprint.{range}
-use Rattle.blk_image.specs.Steps.{Word, applied, after, word_step, word_steps}
-use Rattle.blk_image.specs.Told.{Along}
-use Rattle.blk_image.proofs.Footprints.{outside_write}
-use Rattle.blk_image.proofs.Images.{length-after_write}
-use Rattle.blk_image.proofs.Runs.{until-append, until_last}
-use Rattle.blk_format.specs.Address.{file_selector, place}
-use Rattle.blk_format.specs.Sealed.{placed, seal_place, new_seal, sealed_steps, update_steps, update_words}
-use Rattle.blk_format.proofs.SpareHeaders.{SparesHeaders, blocks_spare}
-use Rattle.blk_volume.specs.ListView.{ListWrite, Next, Prev, Head, Tail, Transaction, Operation}
-use Rattle.blk_volume.specs.ListSteps.{steps_of_writes, write_steps}
+use Rattle.spec_image.specs.Bytes.{word_bytes}
+use Rattle.spec_image.specs.Image.{File, Index, Block, Image}
+use Rattle.spec_image.specs.Footprint.{range}
+use Rattle.spec_image.specs.Steps.{Word, applied, after, word_step, word_steps}
+use Rattle.spec_image.specs.Told.{Along}
+use Rattle.spec_image.proofs.Footprints.{outside_write}
+use Rattle.spec_image.proofs.Images.{length-after_write}
+use Rattle.spec_image.proofs.Runs.{until-append, until_last}
+use Rattle.spec_format.specs.Address.{file_selector, place}
+use Rattle.spec_format.specs.Sealed.{placed, seal_place, new_seal, sealed_steps, update_steps, update_words}
+use Rattle.spec_format.proofs.SpareHeaders.{SparesHeaders, blocks_spare}
+use Rattle.spec_folder.specs.ListView.{ListWrite, Next, Prev, Head, Tail, Transaction, Operation}
+use Rattle.spec_folder.specs.ListSteps.{steps_of_writes, write_steps}
 use Rattle.blk_record.specs.declared.index_head.TheConstants.IndexHead as IndexHead
 use Rattle.blk_record.specs.declared.node.TheConstants.NodeView as NodeView
 use Rattle.blk_disk.proofs.Agreeing.{agrees_still}

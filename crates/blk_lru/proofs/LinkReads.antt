@@ -1,12 +1,12 @@
 -- A word that was read and names no node.
 use Rattle.std.proofs.Common.{w32, length, arith, ◌≡◌, ℕ, ◌+◌, List, Option, None, Some, refl, ap, ◌∙◌}
 use Rattle.std.specs.Option.{ForSome}
-use Rattle.blk_image.specs.Bytes.{range_at}
-use Rattle.blk_image.specs.Image.{Block, Image, byte}
+use Rattle.spec_image.specs.Bytes.{range_at}
+use Rattle.spec_image.specs.Image.{Block, Image, byte}
 use Rattle.std.specs.Int.{from_le_bytes}
 use Rattle.std.proofs.lemmas.List.{take_all}
-use Rattle.blk_image.proofs.Words.{word-from_bytes, length-range}
-use Rattle.blk_format.specs.Address.{file_selector, place}
+use Rattle.spec_image.proofs.Words.{word-from_bytes, length-range}
+use Rattle.spec_format.specs.Address.{file_selector, place}
 use Rattle.blk_lru.specs.Nodes.{link_at}
 
 -- the word of four bytes that were read

@@ -2,10 +2,10 @@
 use Rattle.std.proofs.Common.{inl, inr, ◌≡◌, ℕ, Bool, true, false, ◌||◌, eqb, List, [], ◌∷◌, ◌++◌, Option, None, Some, if◌then◌else◌, refl, sym, ap, ◌∙◌}
 use Rattle.std.specs.Prelude.{◌==◌, ◌⊎◌}
 use Rattle.std.proofs.lemmas.Bool.{eq-eqb, eqb-true, or_parts}
-use Rattle.blk_format.specs.BlockFiles.{is_among}
-use Rattle.blk_volume.specs.ListView.{ListView, first_or, last_or, Distinct, Segment, IsList}
-use Rattle.blk_laws.proofs.lists.ListCompletions.{last_good}
-use Rattle.blk_laws.proofs.lists.Lists.{split, last-append, not_zero, apart_right, Distinct-right, eqb-sym}
+use Rattle.spec_format.specs.BlockFiles.{is_among}
+use Rattle.spec_folder.specs.ListView.{ListView, first_or, last_or, Distinct, Segment, IsList}
+use Rattle.law_folder.proofs.lists.ListCompletions.{last_good}
+use Rattle.law_folder.proofs.lists.Lists.{split, last-append, not_zero, apart_right, Distinct-right, eqb-sym}
 use Rattle.blk_lru.specs.Lists.{first_node_of, last_node_of}
 use Rattle.blk_lru.specs.Plans.{word_or_zero}
 

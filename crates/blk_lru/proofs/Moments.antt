@@ -1,21 +1,21 @@
 -- What holds at each word of an operation, from a front of its writes.
 use Rattle.std.proofs.Common.{◌≡◌, ℕ, false, ◌<◌, List, refl, ap, ◌∙◌}
 use Rattle.std.proofs.lemmas.Bool.{or_from}
-use Rattle.blk_image.specs.Image.{File, Index, Block, Image}
-use Rattle.blk_image.specs.Footprint.{Footprint, SameOutside, either}
-use Rattle.blk_image.specs.Steps.{TrailStep}
-use Rattle.blk_image.specs.Told.{Along}
-use Rattle.blk_image.proofs.Runs.{until_weaker2}
-use Rattle.blk_format.specs.Sealed.{record_range}
-use Rattle.blk_volume.specs.ListView.{ListView, ListWrite}
-use Rattle.blk_volume.specs.ListPlans.{CommitsAtTwo, completion_writes}
-use Rattle.blk_volume.specs.Completion.{completed_list}
-use Rattle.blk_volume.specs.Walk.{walk}
-use Rattle.blk_volume.specs.View.{list_of}
-use Rattle.blk_volume.specs.ListSteps.{IsPartly, IsTouched, touched_by_writes}
-use Rattle.blk_laws.proofs.lists.ListFootprints.{spare_record, spares_headers, spares_sizes}
-use Rattle.blk_laws.proofs.lists.WordStops.{partly-alike}
-use Rattle.blk_laws.proofs.lists.WriteSteps.{nothing_made}
+use Rattle.spec_image.specs.Image.{File, Index, Block, Image}
+use Rattle.spec_image.specs.Footprint.{Footprint, SameOutside, either}
+use Rattle.spec_image.specs.Steps.{TrailStep}
+use Rattle.spec_image.specs.Told.{Along}
+use Rattle.spec_image.proofs.Runs.{until_weaker2}
+use Rattle.spec_format.specs.Sealed.{record_range}
+use Rattle.spec_folder.specs.ListView.{ListView, ListWrite}
+use Rattle.spec_folder.specs.ListPlans.{CommitsAtTwo, completion_writes}
+use Rattle.spec_folder.specs.Completion.{completed_list}
+use Rattle.spec_folder.specs.Walk.{walk}
+use Rattle.spec_folder.specs.View.{list_of}
+use Rattle.spec_folder.specs.ListSteps.{IsPartly, IsTouched, touched_by_writes}
+use Rattle.law_folder.proofs.lists.ListFootprints.{spare_record, spares_headers, spares_sizes}
+use Rattle.law_folder.proofs.lists.WordStops.{partly-alike}
+use Rattle.law_folder.proofs.lists.WriteSteps.{nothing_made}
 use Rattle.blk_disk.proofs.Agreeing.{agrees_still}
 use Rattle.blk_disk.specs.declared.tables.BlockFiles.{BlockFiles}
 use Rattle.blk_lru.specs.Moments.{IsMidCompletion, IsMidOperation, IsMidTouch}

@@ -1,14 +1,14 @@
 -- A node that checks, as a record of bytes.
 use Rattle.std.proofs.Common.{◌≡◌, ℕ, ◌+◌, ◌≤◌, Bool, true, false, if◌then◌else◌, None, Some, List, refl, ap, sym, ◌∙◌, subst, arith}
-use Rattle.blk_image.specs.Bytes.{content, word_at, range_at}
-use Rattle.blk_image.specs.Image.{Block, Image, AreBytes, byte}
-use Rattle.blk_format.specs.Address.{file_selector, place}
-use Rattle.blk_format.specs.Records.{checks}
-use Rattle.blk_format.specs.Sealed.{record_at, RecordChecks}
-use Rattle.blk_format.proofs.SealedFields.{record_word}
-use Rattle.blk_format.proofs.SealedRecords.{node_bytes, node_seal}
-use Rattle.blk_volume.specs.View.{checks_at, list_of}
-use Rattle.blk_laws.proofs.updates.NodeRecords.{checks_bytes}
+use Rattle.spec_image.specs.Bytes.{content, word_at, range_at}
+use Rattle.spec_image.specs.Image.{Block, Image, AreBytes, byte}
+use Rattle.spec_format.specs.Address.{file_selector, place}
+use Rattle.spec_format.specs.Records.{checks}
+use Rattle.spec_format.specs.Sealed.{record_at, RecordChecks}
+use Rattle.spec_format.proofs.SealedFields.{record_word}
+use Rattle.spec_format.proofs.SealedRecords.{node_bytes, node_seal}
+use Rattle.spec_folder.specs.View.{checks_at, list_of}
+use Rattle.law_folder.proofs.updates.NodeRecords.{checks_bytes}
 use Rattle.blk_disk.proofs.SealedReads.{record_read}
 use Rattle.blk_disk.specs.declared.tables.BlockFiles.{BlockFiles}
 use Rattle.blk_disk.specs.Tables.{Agrees, is_node_among}

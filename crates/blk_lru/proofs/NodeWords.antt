@@ -2,13 +2,13 @@
 use Rattle.std.proofs.Common.{inl, inr, ⊎_elim, ◌≡◌, ℕ, ◌+◌, ◌*◌, ◌≤◌, Bool, true, false, ◌&&◌, if◌then◌else◌, refl, sym, ap, ◌∙◌, arith}
 use Rattle.std.specs.Prelude.{◌==◌, ◌⊎◌}
 use Rattle.std.proofs.lemmas.Bool.{eqb-true, and_parts, and_from}
-use Rattle.blk_image.specs.Image.{External, Image, has_file}
-use Rattle.blk_format.specs.Address.{is_address, kind_of, external, rankings, block_count, block_size, byte_size, place, block_place, first_block, external_number}
-use Rattle.blk_format.specs.Standing.{stands}
-use Rattle.blk_format.specs.Records.{node_in, node_checks}
-use Rattle.blk_format.specs.BlockFiles.{stands_in, stands_in_blocks}
-use Rattle.blk_format.proofs.Words.{AreFields-of}
-use Rattle.blk_volume.specs.View.{stands_as, checks_at, next_at, prev_at, list_of, node_at}
+use Rattle.spec_image.specs.Image.{External, Image, has_file}
+use Rattle.spec_format.specs.Address.{is_address, kind_of, external, rankings, block_count, block_size, byte_size, place, block_place, first_block, external_number}
+use Rattle.spec_format.specs.Standing.{stands}
+use Rattle.spec_format.specs.Records.{node_in, node_checks}
+use Rattle.spec_format.specs.BlockFiles.{stands_in, stands_in_blocks}
+use Rattle.spec_format.proofs.Words.{AreFields-of}
+use Rattle.spec_folder.specs.View.{stands_as, checks_at, next_at, prev_at, list_of, node_at}
 use Rattle.blk_disk.specs.declared.tables.BlockFiles.{BlockFiles}
 use Rattle.blk_disk.specs.Tables.{Agrees, stands_among, is_node_among, names_among}
 use Rattle.blk_disk.proofs.Ranges.{stands_agree}

@@ -3,13 +3,13 @@ use Rattle.std.proofs.Common.{◌≡◌, List, None, Some, Result, sym, ap, ◌�
 use Rattle.std.specs.Prelude.{OnOk}
 use Rattle.std.specs.Option.{ForSome, option_map}
 use Rattle.std.proofs.lemmas.Result.{on_ok_weaker}
-use Rattle.blk_image.specs.Image.{Image}
-use Rattle.blk_image.specs.Steps.{TrailStep, after}
-use Rattle.blk_image.specs.Told.{Told, Along, Applies, AppliesPrefix, Passes, IsQuiet}
-use Rattle.blk_image.proofs.Runs.{passes_none, passes_part, some_inj}
-use Rattle.blk_volume.specs.ListView.{ListWrite}
-use Rattle.blk_volume.specs.ListSteps.{steps_of_writes}
-use Rattle.blk_volume.specs.ListImages.{CanBeMade}
+use Rattle.spec_image.specs.Image.{Image}
+use Rattle.spec_image.specs.Steps.{TrailStep, after}
+use Rattle.spec_image.specs.Told.{Told, Along, Applies, AppliesPrefix, Passes, IsQuiet}
+use Rattle.spec_image.proofs.Runs.{passes_none, passes_part, some_inj}
+use Rattle.spec_folder.specs.ListView.{ListWrite}
+use Rattle.spec_folder.specs.ListSteps.{steps_of_writes}
+use Rattle.spec_folder.specs.ListImages.{CanBeMade}
 use Rattle.blk_io.specs.declared.fault.Fault.{Fault}
 use Rattle.blk_io.specs.Faults.{IfDamaged}
 

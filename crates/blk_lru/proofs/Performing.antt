@@ -2,16 +2,16 @@
 use Rattle.std.proofs.Common.{zero, suc, arith, Bool, ◌≡◌, ℕ, ◌+◌, ◌<◌, ◌≤◌, length, get_or, drop, map, List, [], ◌∷◌, ◌++◌, Option, None, Some, refl, sym, ap, ◌∙◌, subst, append_assoc, true}
 use Rattle.std.specs.Option.{option_map, ForSome}
 use Rattle.std.proofs.lemmas.List.{append-nil, drop_more, drop_all}
-use Rattle.blk_image.specs.Image.{Image, AreBytes}
-use Rattle.blk_image.specs.Steps.{TrailStep, after, applied}
-use Rattle.blk_image.specs.Told.{Told, Along, Applies, AppliesPrefix}
-use Rattle.blk_image.proofs.Cuts.{after-append}
-use Rattle.blk_image.proofs.Runs.{grows_none, grows_then, part_then, part_only, part_whole, some_inj, until_last}
-use Rattle.blk_volume.specs.ListView.{ListWrite, Next, Prev, Head, Tail, Transaction, Operation}
-use Rattle.blk_volume.specs.View.{list_of}
-use Rattle.blk_volume.specs.ListSteps.{write_steps, steps_of_writes, AreOf, AllWriteWords}
-use Rattle.blk_volume.specs.ListImages.{IsWritable, CanBeMade}
-use Rattle.blk_laws.proofs.lists.WriteSteps.{writes_show, writable-after, rest_can, first_can, one_write, still_check}
+use Rattle.spec_image.specs.Image.{Image, AreBytes}
+use Rattle.spec_image.specs.Steps.{TrailStep, after, applied}
+use Rattle.spec_image.specs.Told.{Told, Along, Applies, AppliesPrefix}
+use Rattle.spec_image.proofs.Cuts.{after-append}
+use Rattle.spec_image.proofs.Runs.{grows_none, grows_then, part_then, part_only, part_whole, some_inj, until_last}
+use Rattle.spec_folder.specs.ListView.{ListWrite, Next, Prev, Head, Tail, Transaction, Operation}
+use Rattle.spec_folder.specs.View.{list_of}
+use Rattle.spec_folder.specs.ListSteps.{write_steps, steps_of_writes, AreOf, AllWriteWords}
+use Rattle.spec_folder.specs.ListImages.{IsWritable, CanBeMade}
+use Rattle.law_folder.proofs.lists.WriteSteps.{writes_show, writable-after, rest_can, first_can, one_write, still_check}
 use Rattle.blk_disk.specs.declared.tables.BlockFiles.{BlockFiles}
 use Rattle.blk_lru.specs.Writes.{meant}
 use Rattle.blk_lru.specs.declared.writes.Write.{Write}

@@ -2,10 +2,10 @@
 use Rattle.std.proofs.Common.{◌≡◌, ◌≢◌, ℕ, ◌^◌, ◌<◌, Bool, true, false, [], ◌∷◌, Option, None, Some, if◌then◌else◌, refl, sym, ap, ◌∙◌, subst, arith}
 use Rattle.std.specs.Prelude.{◌==◌, ◌&&◌, ◌/◌, ◌||◌, IfSome}
 use Rattle.std.proofs.lemmas.Bool.{and_parts, eqb-true}
-use Rattle.blk_format.specs.Address.{is_address, is_initialized, names_external, names_blocks, kind_of, rankings}
-use Rattle.blk_volume.specs.ListView.{Transaction, Operation}
-use Rattle.blk_volume.specs.Completion.{putting_in_front}
-use Rattle.blk_laws.proofs.lists.WriteWords.{Each, Good, Each-append, front_good, out_good}
+use Rattle.spec_format.specs.Address.{is_address, is_initialized, names_external, names_blocks, kind_of, rankings}
+use Rattle.spec_folder.specs.ListView.{Transaction, Operation}
+use Rattle.spec_folder.specs.Completion.{putting_in_front}
+use Rattle.law_folder.proofs.lists.WriteWords.{Each, Good, Each-append, front_good, out_good}
 use Rattle.blk_disk.specs.declared.tables.BlockFiles.{BlockFiles}
 use Rattle.blk_disk.specs.Tables.{stands_among, is_node_among, names_among}
 use Rattle.blk_lru.specs.declared.plans.Neighbours.{Neighbours}

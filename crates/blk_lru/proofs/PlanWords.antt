@@ -3,11 +3,11 @@ use Rattle.std.proofs.Common.{◌≡◌, ℕ, Bool, true, false, List, [], ◌�
 use Rattle.std.specs.Prelude.{◌==◌}
 use Rattle.std.proofs.lemmas.Bool.{eq-eqb, ne_eqb}
 use Rattle.std.proofs.lemmas.List.{map-append}
-use Rattle.blk_format.specs.Address.{is_address, is_initialized}
-use Rattle.blk_volume.specs.ListView.{ListView, after_writes, ListWrite, Next, Prev, Head, Tail, Transaction, Operation}
-use Rattle.blk_volume.specs.Completion.{taking_out, putting_in_front, take_out, unlinking}
-use Rattle.blk_volume.specs.ListPlans.{pending_writes, writes_of}
-use Rattle.blk_laws.proofs.lists.ListWrites.{pending_insert, pending_remove, pending_move}
+use Rattle.spec_format.specs.Address.{is_address, is_initialized}
+use Rattle.spec_folder.specs.ListView.{ListView, after_writes, ListWrite, Next, Prev, Head, Tail, Transaction, Operation}
+use Rattle.spec_folder.specs.Completion.{taking_out, putting_in_front, take_out, unlinking}
+use Rattle.spec_folder.specs.ListPlans.{pending_writes, writes_of}
+use Rattle.law_folder.proofs.lists.ListWrites.{pending_insert, pending_remove, pending_move}
 use Rattle.blk_lru.specs.declared.plans.Neighbours.{Neighbours}
 use Rattle.blk_lru.specs.declared.plans.Operation as code
 use Rattle.blk_lru.specs.declared.plans.Operation.TheVariants as operations

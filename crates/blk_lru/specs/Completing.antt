@@ -1,8 +1,8 @@
 -- The operation in flight as it is found, and what completing it writes and leaves.
 use Rattle.blk_disk.specs.Tables.{is_node_among}
 use Rattle.std.specs.Prelude.{ℕ, ◌≡◌, true, false, Option, None, Some, IfSome}
-use Rattle.blk_volume.specs.ListView.{ListView}
-use Rattle.blk_volume.specs.Completion.{counts, head_counts, links_count}
+use Rattle.spec_folder.specs.ListView.{ListView}
+use Rattle.spec_folder.specs.Completion.{counts, head_counts, links_count}
 use Rattle.blk_disk.specs.declared.tables.BlockFiles.{BlockFiles}
 use Rattle.blk_lru.specs.declared.completing.InFlight.{InFlight}
 use Rattle.blk_lru.specs.declared.completing.Usable.{Usable}

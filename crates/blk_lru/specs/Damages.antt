@@ -1,8 +1,8 @@
 -- What is told of a damage that a call on the use list meets: it has the place that was read, and what was found there.
 use Rattle.std.specs.Prelude.{ℕ, ◌≡◌, ◌⊎◌, ◌+◌, true, Option, None, Some}
-use Rattle.blk_image.specs.Told.{Told, Stays}
-use Rattle.blk_format.specs.Address.{file_selector, place}
-use Rattle.blk_format.specs.Records.{node_size}
+use Rattle.spec_image.specs.Told.{Told, Stays}
+use Rattle.spec_format.specs.Address.{file_selector, place}
+use Rattle.spec_format.specs.Records.{node_size}
 use Rattle.blk_record.specs.declared.index_head.TheConstants.IndexHead as IndexHead
 use Rattle.blk_record.specs.declared.node.TheConstants.NodeView as NodeView
 use Rattle.blk_io.specs.declared.folder.FileId.TheVariants as names

@@ -1,8 +1,8 @@
 -- What is read of an operation in flight is there.
 use Rattle.std.specs.Prelude.{ℕ, ◌≡◌, ◌⊎◌, true}
-use Rattle.blk_image.specs.Image.{HasRange, Image, Index}
-use Rattle.blk_volume.specs.ListView.{ListView}
-use Rattle.blk_volume.specs.Completion.{head_counts, insert, move, remove}
+use Rattle.spec_image.specs.Image.{HasRange, Image, Index}
+use Rattle.spec_folder.specs.ListView.{ListView}
+use Rattle.spec_folder.specs.Completion.{head_counts, insert, move, remove}
 use Rattle.blk_record.specs.declared.index_head.TheConstants.IndexHead as IndexHead
 use Rattle.blk_disk.specs.declared.tables.BlockFiles.{BlockFiles}
 use Rattle.blk_lru.specs.Nodes.{HasNode, list_among}

@@ -1,11 +1,11 @@
 -- The use list of an image.
 use Rattle.std.specs.Prelude.{ℕ, ◌≡◌, ◌≢◌, true, List, [], ◌∷◌, Option, None, Some}
-use Rattle.blk_image.specs.Image.{Image}
-use Rattle.blk_format.specs.BlockFiles.{is_among}
-use Rattle.blk_volume.specs.ListView.{ListView, last_or}
-use Rattle.blk_volume.specs.ListImages.{CanBeMade, HasListAtRest, walked}
-use Rattle.blk_volume.specs.ListPlans.{touch_writes}
-use Rattle.blk_volume.specs.View.{list_of}
+use Rattle.spec_image.specs.Image.{Image}
+use Rattle.spec_format.specs.BlockFiles.{is_among}
+use Rattle.spec_folder.specs.ListView.{ListView, last_or}
+use Rattle.spec_folder.specs.ListImages.{CanBeMade, HasListAtRest, walked}
+use Rattle.spec_folder.specs.ListPlans.{touch_writes}
+use Rattle.spec_folder.specs.View.{list_of}
 
 -- the list is whole, and no operation is in flight
 abbrev pub IsListAtRest : Image → Type 0

@@ -1,11 +1,11 @@
 -- What holds at each word that a change of the use list writes.
 use Rattle.std.specs.Prelude.{ℕ, nat_lt, if◌then◌else◌, List}
-use Rattle.blk_image.specs.Image.{Image}
-use Rattle.blk_volume.specs.ListView.{ListWrite}
-use Rattle.blk_volume.specs.ListPlans.{completion_writes}
-use Rattle.blk_volume.specs.View.{list_of}
-use Rattle.blk_volume.specs.ListSteps.{IsPartly, IsTouched}
-use Rattle.blk_volume.specs.ListImages.{CompletesTo, CompletesAlike}
+use Rattle.spec_image.specs.Image.{Image}
+use Rattle.spec_folder.specs.ListView.{ListWrite}
+use Rattle.spec_folder.specs.ListPlans.{completion_writes}
+use Rattle.spec_folder.specs.View.{list_of}
+use Rattle.spec_folder.specs.ListSteps.{IsPartly, IsTouched}
+use Rattle.spec_folder.specs.ListImages.{CompletesTo, CompletesAlike}
 use Rattle.blk_disk.specs.declared.tables.BlockFiles.{BlockFiles}
 use Rattle.blk_disk.specs.Open.{IsOpen}
 

@@ -1,13 +1,13 @@
 -- Words that name nodes, and the checks of what is read.
 use Rattle.std.specs.Prelude.{ℕ, ◌≡◌, ◌⊎◌, ◌+◌, true, false, ◌&&◌, if◌then◌else◌, Option, None, Some}
-use Rattle.blk_image.specs.Image.{Block, HasRange, Image, word}
-use Rattle.blk_format.specs.Address.{file_selector, place}
-use Rattle.blk_format.specs.Records.{node_checks, node_size}
+use Rattle.spec_image.specs.Image.{Block, HasRange, Image, word}
+use Rattle.spec_format.specs.Address.{file_selector, place}
+use Rattle.spec_format.specs.Records.{node_checks, node_size}
 use Rattle.blk_record.specs.declared.node.TheConstants.NodeView as NodeView
 use Rattle.blk_disk.specs.declared.tables.BlockFiles.{BlockFiles}
 use Rattle.blk_disk.specs.Tables.{is_node_among}
-use Rattle.blk_volume.specs.ListView.{ListView}
-use Rattle.blk_volume.specs.View.{list_of, node_at}
+use Rattle.spec_folder.specs.ListView.{ListView}
+use Rattle.spec_folder.specs.View.{list_of, node_at}
 use Rattle.blk_lru.specs.declared.nodes.Links.{Links}
 
 -- the places of a node's links: next, and prev

@@ -1,8 +1,8 @@
 -- What an operation on the use list writes, by the nodes that it goes by.
 use Rattle.blk_disk.specs.Tables.{is_node_among}
 use Rattle.std.specs.Prelude.{ℕ, ◌≡◌, ◌≢◌, ◌==◌, if◌then◌else◌, Option, None, Some, List, [], ◌∷◌, ◌++◌, IfSome, true}
-use Rattle.blk_volume.specs.ListView.{ListView, ListWrite, Next, Operation, Transaction}
-use Rattle.blk_volume.specs.Completion.{insert, remove, move, unlinking, putting_in_front}
+use Rattle.spec_folder.specs.ListView.{ListView, ListWrite, Next, Operation, Transaction}
+use Rattle.spec_folder.specs.Completion.{insert, remove, move, unlinking, putting_in_front}
 use Rattle.blk_disk.specs.declared.tables.BlockFiles.{BlockFiles}
 use Rattle.blk_lru.specs.declared.plans.Neighbours.{Neighbours}
 use Rattle.blk_lru.specs.declared.plans.Operation as code

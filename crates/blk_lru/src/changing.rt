@@ -1,14 +1,14 @@
 // Changes of the use list, each a transaction.
 ghost use Rattle.std.specs.Prelude.{◌≡◌, ◌≢◌, ◌++◌, ◌∷◌, ◌≤◌, ℕ, List, IfOk, IfSome, IsTrue, None, OnOk, Some, true};
 ghost use Rattle.std.specs.Option.{ForSome};
-ghost use Rattle.blk_image.specs.Told.{Applies, MakesPartOf, Passes, Rises, Stays};
-ghost use Rattle.blk_format.specs.Sealed.{sealed_steps};
-ghost use Rattle.blk_volume.specs.Completion.{insert, move, remove as removal};
-ghost use Rattle.blk_volume.specs.ListPlans.{touch_writes, writes_of};
-ghost use Rattle.blk_volume.specs.View.{list_of};
-ghost use Rattle.blk_volume.specs.ListView.{CanBeInserted};
-ghost use Rattle.blk_volume.specs.ListSteps.{AreTimes, IsSealed, Seals, steps_of_writes, times_of};
-ghost use Rattle.blk_volume.specs.ListImages.{CanBeMade, HasListAtRest, operation_steps, steps_of_touch, walked};
+ghost use Rattle.spec_image.specs.Told.{Applies, MakesPartOf, Passes, Rises, Stays};
+ghost use Rattle.spec_format.specs.Sealed.{sealed_steps};
+ghost use Rattle.spec_folder.specs.Completion.{insert, move, remove as removal};
+ghost use Rattle.spec_folder.specs.ListPlans.{touch_writes, writes_of};
+ghost use Rattle.spec_folder.specs.View.{list_of};
+ghost use Rattle.spec_folder.specs.ListView.{CanBeInserted};
+ghost use Rattle.spec_folder.specs.ListSteps.{AreTimes, IsSealed, Seals, steps_of_writes, times_of};
+ghost use Rattle.spec_folder.specs.ListImages.{CanBeMade, HasListAtRest, operation_steps, steps_of_touch, walked};
 ghost use Rattle.blk_io.specs.Faults.{IfDamaged, IfDevice};
 ghost use Rattle.blk_disk.specs.Tables.{Agrees, is_node_among};
 ghost use Rattle.blk_lru.specs.Damages.{IsInsertDamage, IsNeighbourDamage, IsWrongNode, IsRemovalDamage, IsTouchDamage};

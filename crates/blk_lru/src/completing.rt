@@ -1,11 +1,11 @@
 // The operation in flight, completed.
 ghost use Rattle.std.specs.Prelude.{◌≡◌, ◌≤◌, None, IfOk, IfSome, OnOk, map, true};
 ghost use Rattle.std.specs.Option.{ForSome};
-ghost use Rattle.blk_image.specs.Told.{Applies, MakesPartOf, Passes, Rises, Stays};
-ghost use Rattle.blk_volume.specs.ListPlans.{completion_writes};
-ghost use Rattle.blk_volume.specs.View.{list_of};
-ghost use Rattle.blk_volume.specs.ListSteps.{AreOf, AllWriteWords, Seals};
-ghost use Rattle.blk_volume.specs.ListImages.{IsCompleted, completion_steps};
+ghost use Rattle.spec_image.specs.Told.{Applies, MakesPartOf, Passes, Rises, Stays};
+ghost use Rattle.spec_folder.specs.ListPlans.{completion_writes};
+ghost use Rattle.spec_folder.specs.View.{list_of};
+ghost use Rattle.spec_folder.specs.ListSteps.{AreOf, AllWriteWords, Seals};
+ghost use Rattle.spec_folder.specs.ListImages.{IsCompleted, completion_steps};
 ghost use Rattle.blk_io.specs.Faults.{IfDamaged, IfDevice};
 ghost use Rattle.blk_disk.specs.Tables.{Agrees, is_node_among};
 ghost use Rattle.blk_lru.specs.Damages.{IsCompletingDamage, IsPendingDamage, IsShortNode};

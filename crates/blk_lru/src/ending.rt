@@ -1,11 +1,11 @@
 // The end of the use list.
 ghost use Rattle.std.specs.Prelude.{◌≡◌, ◌≤◌, IfOk, IfSome, None, OnOk, map, true};
 ghost use Rattle.std.specs.Option.{ForSome};
-ghost use Rattle.blk_image.specs.Told.{Applies, MakesPartOf, Rises, Stays};
-ghost use Rattle.blk_volume.specs.ListPlans.{ending_writes, front_of};
-ghost use Rattle.blk_volume.specs.ListSteps.{AllWriteWords, AreOf, Seals, steps_of_writes};
-ghost use Rattle.blk_volume.specs.ListImages.{CanBeMade};
-ghost use Rattle.blk_volume.specs.View.{list_of};
+ghost use Rattle.spec_image.specs.Told.{Applies, MakesPartOf, Rises, Stays};
+ghost use Rattle.spec_folder.specs.ListPlans.{ending_writes, front_of};
+ghost use Rattle.spec_folder.specs.ListSteps.{AllWriteWords, AreOf, Seals, steps_of_writes};
+ghost use Rattle.spec_folder.specs.ListImages.{CanBeMade};
+ghost use Rattle.spec_folder.specs.View.{list_of};
 ghost use Rattle.blk_io.specs.Faults.{IfDamaged, IfDevice};
 ghost use Rattle.blk_disk.specs.Open.{IsOpen};
 ghost use Rattle.blk_disk.specs.Tables.{Agrees, is_node_among};

@@ -1,11 +1,11 @@
 // Words that name nodes, and the links of nodes.
 ghost use Rattle.std.specs.Prelude.{◌≡◌, ◌+◌, ◌≤◌, IfOk, IfSome, IsTrue, None, OnOk, Some, if◌then◌else◌, length, true};
 ghost use Rattle.std.specs.Option.{ForSome};
-ghost use Rattle.blk_image.specs.Bytes.{content, word_at};
-ghost use Rattle.blk_image.specs.Image.{Block as block, HasRange};
-ghost use Rattle.blk_image.specs.Told.{Rises, Stays};
-ghost use Rattle.blk_format.specs.Address.{file_selector, place};
-ghost use Rattle.blk_format.specs.Records.{checks, node_seal_place, node_size};
+ghost use Rattle.spec_image.specs.Bytes.{content, word_at};
+ghost use Rattle.spec_image.specs.Image.{Block as block, HasRange};
+ghost use Rattle.spec_image.specs.Told.{Rises, Stays};
+ghost use Rattle.spec_format.specs.Address.{file_selector, place};
+ghost use Rattle.spec_format.specs.Records.{checks, node_seal_place, node_size};
 ghost use Rattle.blk_io.specs.declared.folder.FileId.TheVariants as names;
 ghost use Rattle.blk_io.specs.Faults.{IfDamaged, IfDevice, IsShort};
 ghost use Rattle.blk_disk.specs.Tables.{Agrees, is_node_among};

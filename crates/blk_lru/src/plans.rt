@@ -1,8 +1,8 @@
 // What an operation on the use list writes.
 ghost use Rattle.std.specs.Prelude.{◌≡◌, ◌+◌, ◌++◌, ◌∷◌, ◌≤◌, [], length, map};
-ghost use Rattle.blk_volume.specs.Completion.{putting_in_front};
-ghost use Rattle.blk_volume.specs.ListPlans.{ending_by};
-ghost use Rattle.blk_volume.specs.ListView as list;
+ghost use Rattle.spec_folder.specs.Completion.{putting_in_front};
+ghost use Rattle.spec_folder.specs.ListPlans.{ending_by};
+ghost use Rattle.spec_folder.specs.ListView as list;
 ghost use Rattle.blk_lru.specs.Plans.{operation_code, leaving, pending, whole_plan, word_or_zero};
 ghost use Rattle.blk_lru.specs.Plans as plans;
 ghost use Rattle.blk_lru.specs.Writes.{meant};

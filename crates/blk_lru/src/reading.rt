@@ -1,12 +1,12 @@
 // The order of the use list.
 ghost use Rattle.std.specs.Prelude.{◌≡◌, ◌+◌, ◌++◌, ◌∷◌, ◌≤◌, ◌<◌, ◌%◌, ◌==◌, ℕ, List, IfOk, IfSome, IsTrue, None, OnOk, Some, if◌then◌else◌};
 ghost use Rattle.std.specs.Option.{ForSome};
-ghost use Rattle.blk_image.specs.Image.{word as image_word, Block as block, Index as index, HasRange};
-ghost use Rattle.blk_image.specs.Told.{Rises, Stays};
-ghost use Rattle.blk_format.specs.Address.{file_selector, place};
-ghost use Rattle.blk_format.specs.Headers.{header_length, HasWholeIndex};
-ghost use Rattle.blk_volume.specs.View.{list_of};
-ghost use Rattle.blk_volume.specs.ListImages.{HasListAtRest, walked};
+ghost use Rattle.spec_image.specs.Image.{word as image_word, Block as block, Index as index, HasRange};
+ghost use Rattle.spec_image.specs.Told.{Rises, Stays};
+ghost use Rattle.spec_format.specs.Address.{file_selector, place};
+ghost use Rattle.spec_format.specs.Headers.{header_length, HasWholeIndex};
+ghost use Rattle.spec_folder.specs.View.{list_of};
+ghost use Rattle.spec_folder.specs.ListImages.{HasListAtRest, walked};
 ghost use Rattle.blk_io.specs.declared.folder.FileId.TheVariants as names;
 ghost use Rattle.blk_io.specs.Faults.{IfDamaged, IfDevice};
 ghost use Rattle.blk_disk.specs.Tables.{Agrees, is_node_among};

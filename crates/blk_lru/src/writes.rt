@@ -1,14 +1,14 @@
 // Writes into the use list.
 ghost use Rattle.std.specs.Prelude.{◌≡◌, ◌<◌, ◌≤◌, ◌^◌, ◌%◌, [], ◌∷◌, None, OnOk, map, true};
 ghost use Rattle.std.specs.Option.{ForSome};
-ghost use Rattle.blk_image.specs.Image.{Index as index};
-ghost use Rattle.blk_image.specs.Steps.{word_step};
-ghost use Rattle.blk_image.specs.Told.{Applies, AppliesPrefix, MakesPartOf, Rises};
-ghost use Rattle.blk_format.specs.Headers.{header_length, HasWholeIndex};
-ghost use Rattle.blk_format.specs.Sealed.{sealed_steps};
-ghost use Rattle.blk_volume.specs.View.{list_of};
-ghost use Rattle.blk_volume.specs.ListImages.{CanBeMade};
-ghost use Rattle.blk_volume.specs.ListSteps.{AreOf, AllWriteWords, steps_of_writes, write_steps};
+ghost use Rattle.spec_image.specs.Image.{Index as index};
+ghost use Rattle.spec_image.specs.Steps.{word_step};
+ghost use Rattle.spec_image.specs.Told.{Applies, AppliesPrefix, MakesPartOf, Rises};
+ghost use Rattle.spec_format.specs.Headers.{header_length, HasWholeIndex};
+ghost use Rattle.spec_format.specs.Sealed.{sealed_steps};
+ghost use Rattle.spec_folder.specs.View.{list_of};
+ghost use Rattle.spec_folder.specs.ListImages.{CanBeMade};
+ghost use Rattle.spec_folder.specs.ListSteps.{AreOf, AllWriteWords, steps_of_writes, write_steps};
 ghost use Rattle.blk_io.specs.Faults.{IfDamaged, IfDevice};
 ghost use Rattle.blk_disk.specs.Tables.{Agrees, is_node_among};
 ghost use Rattle.blk_lru.specs.Damages.{IsWrongNode};
@@ -70,7 +70,7 @@ pub(crate) fn perform<F: Folder>(
 }
 
 // Makes a write, by one folder call for a word of the index and four for a link.
-#[tactic(auto, unfolding(blk_volume::specs::ListSteps::write_steps))]
+#[tactic(auto, unfolding(spec_folder::specs::ListSteps::write_steps))]
 fn write_one<F: Folder>(f: &mut F, files: &BlockFiles, write: Write) -> Result<(), Fault>
     requires stand { AreOf (λ n. is_node_among files.now n ≡ true) (meant write ∷ []) }
     requires is_open { ForSome (F.told f.old).files (IsOpen files.now) }

@@ -4,34 +4,34 @@ use Rattle.std.specs.Prelude.{◌&&◌, ◌==◌, filter, not}
 use Rattle.std.specs.Option.{option_map_or}
 use Rattle.std.proofs.lemmas.Bool.{and_parts, cases_Bool, eq-eqb, eqb-true, or_left, or_right, or_parts}
 use Rattle.std.proofs.lemmas.Nat.{mod_below}
-use Rattle.blk_image.specs.Footprint.{SameOutside}
-use Rattle.blk_image.specs.Image.{AreBytes, Block, Image}
-use Rattle.blk_image.proofs.Words.{same-range}
-use Rattle.blk_format.specs.Address.{blocks_256, file_selector, kind_of, place, rankings}
-use Rattle.blk_format.specs.BlockFiles.{is_among, stands_in}
-use Rattle.blk_format.specs.Sealed.{RecordChecks, record_range, record_size, size_by_kind}
-use Rattle.blk_format.specs.Records.{entry_size}
-use Rattle.blk_volume.specs.Chains.{IsChain, Linked, bucket_at, bucket_of_hash, chain, file_and_block, is_of_bucket}
-use Rattle.blk_volume.specs.Footprint.{OnlyLinksChange}
-use Rattle.blk_volume.specs.Layout.{Layout}
-use Rattle.blk_volume.specs.ListView.{Distinct}
-use Rattle.blk_volume.specs.View.{RecordFields, StoreView, block_bytes, entry_at, key_place_at, store_of}
-use Rattle.blk_laws.proofs.chains.ChainEnds.{chain-back}
-use Rattle.blk_laws.proofs.chains.Chains.{chain-is}
-use Rattle.blk_laws.proofs.chains.ChainWords.{record_checks, shown-fields}
-use Rattle.blk_laws.proofs.updates.StillShown.{core-standing, named-still, standing-parts}
-use Rattle.blk_laws.proofs.chains.ShortChains.{distinct-map}
-use Rattle.blk_laws.proofs.lists.Lists.{has_not}
-use Rattle.blk_laws.proofs.states.Bare.{no-record}
-use Rattle.blk_laws.proofs.claims.Covers.{out-range}
-use Rattle.blk_laws.proofs.claims.Inside.{record-changes}
+use Rattle.spec_image.specs.Footprint.{SameOutside}
+use Rattle.spec_image.specs.Image.{AreBytes, Block, Image}
+use Rattle.spec_image.proofs.Words.{same-range}
+use Rattle.spec_format.specs.Address.{blocks_256, file_selector, kind_of, place, rankings}
+use Rattle.spec_format.specs.BlockFiles.{is_among, stands_in}
+use Rattle.spec_format.specs.Sealed.{RecordChecks, record_range, record_size, size_by_kind}
+use Rattle.spec_format.specs.Records.{entry_size}
+use Rattle.spec_folder.specs.Chains.{IsChain, Linked, bucket_at, bucket_of_hash, chain, file_and_block, is_of_bucket}
+use Rattle.spec_folder.specs.Footprint.{OnlyLinksChange}
+use Rattle.spec_folder.specs.Layout.{Layout}
+use Rattle.spec_folder.specs.ListView.{Distinct}
+use Rattle.spec_folder.specs.View.{RecordFields, StoreView, block_bytes, entry_at, key_place_at, store_of}
+use Rattle.law_folder.proofs.chains.ChainEnds.{chain-back}
+use Rattle.law_folder.proofs.chains.Chains.{chain-is}
+use Rattle.law_folder.proofs.chains.ChainWords.{record_checks, shown-fields}
+use Rattle.law_folder.proofs.updates.StillShown.{core-standing, named-still, standing-parts}
+use Rattle.law_folder.proofs.chains.ShortChains.{distinct-map}
+use Rattle.law_folder.proofs.lists.Lists.{has_not}
+use Rattle.law_folder.proofs.states.Bare.{no-record}
+use Rattle.law_folder.proofs.claims.Covers.{out-range}
+use Rattle.law_folder.proofs.claims.Inside.{record-changes}
 use Rattle.blk_chain.specs.Unlinking.{BeforeChecks, CanBeUnlinked, IsStillLinked, IsUnlinked, StandsBehind, next_record, without_record}
 use Rattle.blk_chain.proofs.Pairs.{chain-words}
-use Rattle.blk_kept.specs.Arranging.{LeavesFiles}
-use Rattle.blk_kept.specs.PartlyOut.{chains_but}
-use Rattle.blk_kept.specs.RemovalLaws.{IsUnlinking}
-use Rattle.blk_kept.proofs.AtNodes.{updates-change}
-use Rattle.blk_kept.proofs.Links.{table-files, table-links}
+use Rattle.law_state.specs.Arranging.{LeavesFiles}
+use Rattle.law_state.specs.PartlyOut.{chains_but}
+use Rattle.law_state.specs.RemovalLaws.{IsUnlinking}
+use Rattle.law_state.proofs.AtNodes.{updates-change}
+use Rattle.law_state.proofs.Links.{table-files, table-links}
 use Rattle.blk_object.specs.Removing.{IsYetLinked}
 
 -- ---- lists without a word

@@ -2,22 +2,22 @@
 use Rattle.std.proofs.Common.{◌≡◌, ℕ, ◌+◌, ◌%◌, ◌<◌, ◌≤◌, List, [], ◌∷◌, refl, sym, ◌∙◌, subst, arith, lit≤}
 use Rattle.std.specs.Prelude.{◌^◌, ◌-◌, length}
 use Rattle.std.specs.Option.{ForSome}
-use Rattle.blk_image.specs.Footprint.{one_word}
-use Rattle.blk_image.specs.Image.{AreBytes, Image, Index, byte}
-use Rattle.blk_image.proofs.ByteSteps.{word-small}
-use Rattle.blk_image.specs.Bytes.{word_bytes}
-use Rattle.blk_image.specs.Steps.{TrailStep, after, word_step, word_steps}
-use Rattle.blk_image.specs.Told.{Along, Applies, AppliesPrefix, IsQuiet, Passes, Told}
-use Rattle.blk_image.proofs.Images.{length-after_write}
-use Rattle.blk_image.proofs.Runs.{passes_part, some_inj, told_part, told_whole}
+use Rattle.spec_image.specs.Footprint.{one_word}
+use Rattle.spec_image.specs.Image.{AreBytes, Image, Index, byte}
+use Rattle.spec_image.proofs.ByteSteps.{word-small}
+use Rattle.spec_image.specs.Bytes.{word_bytes}
+use Rattle.spec_image.specs.Steps.{TrailStep, after, word_step, word_steps}
+use Rattle.spec_image.specs.Told.{Along, Applies, AppliesPrefix, IsQuiet, Passes, Told}
+use Rattle.spec_image.proofs.Images.{length-after_write}
+use Rattle.spec_image.proofs.Runs.{passes_part, some_inj, told_part, told_whole}
 use Rattle.blk_disk.specs.declared.tables.BlockFiles.{BlockFiles}
 use Rattle.blk_disk.specs.Open.{IsOpen}
 use Rattle.blk_disk.proofs.Agreeing.{agrees_still}
 use Rattle.blk_chain.proofs.Links.{index_spares, index_word}
-use Rattle.blk_format.specs.Headers.{num_bytes_of, num_entries_of, sizes_of}
-use Rattle.blk_laws.specs.IndexWrites.{IsIndexWord}
-use Rattle.blk_kept.specs.Changes.{KeepsWith}
-use Rattle.blk_kept.proofs.Counters.{counter-keeps, counters-count}
+use Rattle.spec_format.specs.Headers.{num_bytes_of, num_entries_of, sizes_of}
+use Rattle.law_folder.specs.IndexWrites.{IsIndexWord}
+use Rattle.law_state.specs.Changes.{KeepsWith}
+use Rattle.law_state.proofs.Counters.{counter-keeps, counters-count}
 use Rattle.blk_object.specs.Counters.{AreCountedLess, AreCountedMore, AreCountersWritten, AreCounters, LessIsCounted, MoreIsCounted, charges}
 use Rattle.blk_object.specs.declared.counters.Counters.{Counters}
 

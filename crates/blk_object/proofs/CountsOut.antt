@@ -3,10 +3,10 @@ use Rattle.std.proofs.Common.{◌≡◌, ℕ, ◌%◌, ◌<◌, List, [], ◌∷
 use Rattle.std.specs.Prelude.{◌^◌, filter}
 use Rattle.std.specs.List.{sum_by}
 use Rattle.std.specs.Option.{ForSome}
-use Rattle.blk_image.specs.Image.{Image}
-use Rattle.blk_image.specs.Steps.{word_step}
-use Rattle.blk_image.specs.Told.{Along, AppliesPrefix, Passes, Told}
-use Rattle.blk_image.proofs.Runs.{passes_part, some_inj}
+use Rattle.spec_image.specs.Image.{Image}
+use Rattle.spec_image.specs.Steps.{word_step}
+use Rattle.spec_image.specs.Told.{Along, AppliesPrefix, Passes, Told}
+use Rattle.spec_image.proofs.Runs.{passes_part, some_inj}
 use Rattle.blk_disk.specs.declared.tables.BlockFiles.{BlockFiles}
 use Rattle.blk_disk.specs.Open.{IsOpen}
 use Rattle.blk_model.specs.Effects.{doomed}
@@ -14,25 +14,25 @@ use Rattle.blk_model.specs.Items.{Item}
 use Rattle.blk_model.specs.Room.{whole, without}
 use Rattle.blk_model.specs.State.{State}
 use Rattle.blk_model.proofs.Doomed.{state_doomed}
-use Rattle.blk_format.specs.Claims.{Claim}
-use Rattle.blk_laws.specs.IndexWrites.{IsIndexWord}
-use Rattle.blk_volume.specs.Found.{charge_of}
-use Rattle.blk_volume.specs.Layout.{Layout, nodes_of}
-use Rattle.blk_volume.specs.Loads.{Loaded}
-use Rattle.blk_volume.specs.Removal.{is_of_another}
-use Rattle.blk_kept.specs.Changes.{ChangesOnly, SameCounters}
-use Rattle.blk_kept.specs.CountsOfParts.{charges_at}
-use Rattle.blk_kept.specs.GroupLaws.{gone_nodes, layout_less}
-use Rattle.blk_kept.specs.Keeping.{Keeps}
-use Rattle.blk_kept.specs.PartlyOut.{keeps_but}
-use Rattle.blk_kept.proofs.ChangedStates.{same-state, unheld-less}
-use Rattle.blk_kept.proofs.CommandEnding.{dooms-end, groups-turn}
-use Rattle.blk_kept.proofs.CountsOfParts.{next-less}
-use Rattle.blk_kept.proofs.Groups as groups
-use Rattle.blk_kept.proofs.GroupsGone.{whole-groups-go}
-use Rattle.blk_kept.proofs.PartlyFreed.{out-changes}
-use Rattle.blk_kept.proofs.PartlyOut.{partly-out-ends}
-use Rattle.blk_kept.proofs.Writes.{index-words, other-word}
+use Rattle.spec_format.specs.Claims.{Claim}
+use Rattle.law_folder.specs.IndexWrites.{IsIndexWord}
+use Rattle.spec_folder.specs.Found.{charge_of}
+use Rattle.spec_folder.specs.Layout.{Layout, nodes_of}
+use Rattle.spec_folder.specs.Loads.{Loaded}
+use Rattle.spec_folder.specs.Removal.{is_of_another}
+use Rattle.law_state.specs.Changes.{ChangesOnly, SameCounters}
+use Rattle.law_state.specs.CountsOfParts.{charges_at}
+use Rattle.law_state.specs.GroupLaws.{gone_nodes, layout_less}
+use Rattle.law_state.specs.Keeping.{Keeps}
+use Rattle.law_state.specs.PartlyOut.{keeps_but}
+use Rattle.law_state.proofs.ChangedStates.{same-state, unheld-less}
+use Rattle.law_state.proofs.CommandEnding.{dooms-end, groups-turn}
+use Rattle.law_state.proofs.CountsOfParts.{next-less}
+use Rattle.law_state.proofs.Groups as groups
+use Rattle.law_state.proofs.GroupsGone.{whole-groups-go}
+use Rattle.law_state.proofs.PartlyFreed.{out-changes}
+use Rattle.law_state.proofs.PartlyOut.{partly-out-ends}
+use Rattle.law_state.proofs.Writes.{index-words, other-word}
 use Rattle.blk_object.specs.RemovingNext.{CountedLessIsStillOut, CountedOutDoomsEnd, CountedOutEndsKept, CountedOutGroupsAreGone, CountsLeft, KeepsOut, KeptStatesCountAll, NextItemsAreCountedLess}
 use Rattle.blk_object.proofs.CounterWords.{bytes-set, charge-less, counter_steps, entries-set, first, one-less, quiet-counters, second, size-set, third}
 

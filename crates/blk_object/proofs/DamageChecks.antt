@@ -2,21 +2,21 @@
 use Rattle.std.proofs.Common.{◌≡◌, ◌≢◌, ◌⊎◌, inl, inr, ℕ, List, Bool, true, Option, None, Some, length, refl, sym, subst, Result, Ok, Err, ap, ◌∙◌, ◌+◌, ◌≤◌, take, arith}
 use Rattle.std.proofs.lemmas.Bool.{and_parts, leb-true}
 use Rattle.std.proofs.lemmas.List.{take_all}
-use Rattle.blk_image.proofs.Words.{length-range}
-use Rattle.blk_format.specs.Address.{block_count}
-use Rattle.blk_format.specs.Names.{read_name}
-use Rattle.blk_format.specs.Storage.{entry_blocks}
-use Rattle.blk_volume.specs.View.{entry_at}
+use Rattle.spec_image.proofs.Words.{length-range}
+use Rattle.spec_format.specs.Address.{block_count}
+use Rattle.spec_format.specs.Names.{read_name}
+use Rattle.spec_format.specs.Storage.{entry_blocks}
+use Rattle.spec_folder.specs.View.{entry_at}
 use Rattle.blk_object.specs.ListedParts.{SaysPart, number_said}
 use Rattle.std.specs.Prelude.{IfSome, IsErrAnd, ◌==◌, ◌&&◌, nat_le, slice_index}
 use Rattle.std.specs.Option.{ForSome}
-use Rattle.blk_image.specs.Bytes.{words_at as words_in}
-use Rattle.blk_image.specs.Image.{Block, Image, word}
-use Rattle.blk_image.specs.Told.{Told, Stays}
-use Rattle.blk_format.specs.Address.{blocks_256, external, file_selector, kind_of, place}
-use Rattle.blk_format.specs.BlockFiles.{is_among}
-use Rattle.blk_format.specs.Records.{entry_in, entry_size}
-use Rattle.blk_format.specs.Sealed.{BeginsWithRecord, record_size}
+use Rattle.spec_image.specs.Bytes.{words_at as words_in}
+use Rattle.spec_image.specs.Image.{Block, Image, word}
+use Rattle.spec_image.specs.Told.{Told, Stays}
+use Rattle.spec_format.specs.Address.{blocks_256, external, file_selector, kind_of, place}
+use Rattle.spec_format.specs.BlockFiles.{is_among}
+use Rattle.spec_format.specs.Records.{entry_in, entry_size}
+use Rattle.spec_format.specs.Sealed.{BeginsWithRecord, record_size}
 use Rattle.blk_addr.specs.declared.kinds.Kind.{Kind}
 use Rattle.blk_addr.specs.Kind.{kind_number}
 use Rattle.blk_io.specs.declared.folder.FileId.{FileId}

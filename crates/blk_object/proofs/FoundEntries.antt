@@ -3,22 +3,22 @@ use Rattle.std.proofs.Common.{◌≡◌, ℕ, List, [], ◌∷◌, ◌++◌, ap,
 use Rattle.std.specs.Str.{bytes_eq}
 use Rattle.std.proofs.lemmas.Bool.{and_parts, eqb-true}
 use Rattle.std.proofs.lemmas.Nat.{mod_below}
-use Rattle.blk_image.specs.Image.{Image}
-use Rattle.blk_image.proofs.Runs.{some_inj}
+use Rattle.spec_image.specs.Image.{Image}
+use Rattle.spec_image.proofs.Runs.{some_inj}
 use Rattle.blk_model.specs.Items.{main}
 use Rattle.blk_model.proofs.Same.{same_bytes}
-use Rattle.blk_format.specs.BlockFiles.{is_among}
-use Rattle.blk_format.specs.Hash.{hash}
-use Rattle.blk_volume.specs.Chains.{bucket_of_hash}
-use Rattle.blk_volume.specs.Entries.{is_key_length, stored_key}
-use Rattle.blk_volume.specs.Layout.{is_listed, rule_of}
-use Rattle.blk_volume.specs.Searches.{IsOfLive, bucket_of_key, chained_for}
-use Rattle.blk_volume.specs.View.{RecordFields, store_of, view_of}
-use Rattle.blk_laws.specs.SearchLaws.{IsSearchable}
-use Rattle.blk_laws.proofs.chains.Searches.{chains-are, found-live, searchable}
-use Rattle.blk_laws.proofs.claims.Owner.{IsOwned, owned}
-use Rattle.blk_laws.proofs.states.Settling.{main-listed}
-use Rattle.blk_laws.proofs.walks.Loads.{load-then}
+use Rattle.spec_format.specs.BlockFiles.{is_among}
+use Rattle.spec_format.specs.Hash.{hash}
+use Rattle.spec_folder.specs.Chains.{bucket_of_hash}
+use Rattle.spec_folder.specs.Entries.{is_key_length, stored_key}
+use Rattle.spec_folder.specs.Layout.{is_listed, rule_of}
+use Rattle.spec_folder.specs.Searches.{IsOfLive, bucket_of_key, chained_for}
+use Rattle.spec_folder.specs.View.{RecordFields, store_of, view_of}
+use Rattle.law_folder.specs.SearchLaws.{IsSearchable}
+use Rattle.law_folder.proofs.chains.Searches.{chains-are, found-live, searchable}
+use Rattle.law_folder.proofs.claims.Owner.{IsOwned, owned}
+use Rattle.law_folder.proofs.states.Settling.{main-listed}
+use Rattle.law_folder.proofs.walks.Loads.{load-then}
 use Rattle.blk_chain.specs.Unlinking.{StandsBehind}
 use Rattle.blk_entry.specs.Keys.{HasReadableKey, key_at}
 use Rattle.blk_object.specs.RemovingFound.{FoundEntriesLieBehind, KeptStatesCanBeSearched}

@@ -7,35 +7,35 @@ use Rattle.std.proofs.lemmas.Bool.Decides.{eqb_tells}
 use Rattle.std.proofs.Math.Dec.{eqb}
 use Rattle.std.proofs.lemmas.List.{length-map}
 use Rattle.std.proofs.lemmas.Nat.{mod_below}
-use Rattle.blk_image.specs.Image.{Image}
-use Rattle.blk_image.proofs.Runs.{some_inj}
+use Rattle.spec_image.specs.Image.{Image}
+use Rattle.spec_image.proofs.Runs.{some_inj}
 use Rattle.blk_model.specs.Items.{Item, item_of, main, part}
 use Rattle.blk_model.specs.State.{State}
-use Rattle.blk_format.specs.BlockFiles.{is_among}
-use Rattle.blk_format.specs.Hash.{hash}
-use Rattle.blk_format.specs.Names.{Name, read_name}
-use Rattle.blk_format.specs.Records.{child}
-use Rattle.blk_format.specs.SparseIndex.{PartIndex}
-use Rattle.blk_volume.specs.Chains.{Chain, IsChain, file_and_block}
-use Rattle.blk_volume.specs.Entries.{IsParent, IsPart, IsPlain, Role, is_key_length, stored_key}
-use Rattle.blk_volume.specs.Found.{row_with}
-use Rattle.blk_volume.specs.Layout.{IsListedRecord, Layout, is_listed, nodes_of, rule_of}
-use Rattle.blk_volume.specs.Loads.{Loaded, is_part, is_part_role, load}
-use Rattle.blk_volume.specs.Searches.{HasKey, bucket_of_key, chained_for}
-use Rattle.blk_volume.specs.View.{RecordFields, store_of}
-use Rattle.blk_laws.proofs.chains.Chains.{chain-is}
-use Rattle.blk_laws.proofs.chains.ShortChains.{distinct-map, no-more}
-use Rattle.blk_laws.proofs.states.Laid.{IsNodeOf, is_among-node, item-of, node-of}
-use Rattle.blk_laws.proofs.walks.Loads.{load-then}
-use Rattle.blk_laws.proofs.walks.Shown.{role-name, role-part}
+use Rattle.spec_format.specs.BlockFiles.{is_among}
+use Rattle.spec_format.specs.Hash.{hash}
+use Rattle.spec_format.specs.Names.{Name, read_name}
+use Rattle.spec_format.specs.Records.{child}
+use Rattle.spec_format.specs.SparseIndex.{PartIndex}
+use Rattle.spec_folder.specs.Chains.{Chain, IsChain, file_and_block}
+use Rattle.spec_folder.specs.Entries.{IsParent, IsPart, IsPlain, Role, is_key_length, stored_key}
+use Rattle.spec_folder.specs.Found.{row_with}
+use Rattle.spec_folder.specs.Layout.{IsListedRecord, Layout, is_listed, nodes_of, rule_of}
+use Rattle.spec_folder.specs.Loads.{Loaded, is_part, is_part_role, load}
+use Rattle.spec_folder.specs.Searches.{HasKey, bucket_of_key, chained_for}
+use Rattle.spec_folder.specs.View.{RecordFields, store_of}
+use Rattle.law_folder.proofs.chains.Chains.{chain-is}
+use Rattle.law_folder.proofs.chains.ShortChains.{distinct-map, no-more}
+use Rattle.law_folder.proofs.states.Laid.{IsNodeOf, is_among-node, item-of, node-of}
+use Rattle.law_folder.proofs.walks.Loads.{load-then}
+use Rattle.law_folder.proofs.walks.Shown.{role-name, role-part}
 use Rattle.blk_chain.specs.declared.found.Found.{Found}
 use Rattle.blk_chain.specs.Finding.{IsAnswer, IsFound}
 use Rattle.blk_chain.specs.Unlinking.{StandsBehind}
 use Rattle.blk_entry.specs.Keys.{HasReadableKey}
-use Rattle.blk_kept.specs.GroupLaws.{gone_nodes}
-use Rattle.blk_kept.specs.PartlyOut.{KeepsPartlyOut}
-use Rattle.blk_kept.proofs.Groups as groups
-use Rattle.blk_kept.proofs.PartlyOut.{kept-begin}
+use Rattle.law_state.specs.GroupLaws.{gone_nodes}
+use Rattle.law_state.specs.PartlyOut.{KeepsPartlyOut}
+use Rattle.law_state.proofs.Groups as groups
+use Rattle.law_state.proofs.PartlyOut.{kept-begin}
 use Rattle.blk_object.specs.FindingOut.{IsFoundLeft, LeftItemsAreFound, ListedItemsAreFound, PartlyOutCanBeSearched, is_child_item}
 use Rattle.blk_object.proofs.FoundEntries.{readable, standing-among}
 

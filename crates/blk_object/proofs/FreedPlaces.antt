@@ -2,34 +2,34 @@
 use Rattle.std.proofs.Common.{◌⊎◌, ◌≡◌, ◌≢◌, inl, inr, ℕ, List, [], ◌∷◌, ◌++◌, refl, ap, sym, ◌∙◌, subst, append_assoc, Bool, true, false, Option, None, Some}
 use Rattle.std.specs.Prelude.{◌==◌, ◌&&◌, filter, is_some}
 use Rattle.std.proofs.lemmas.Bool.{and_parts, eq-eqb, or_left}
-use Rattle.blk_image.specs.Image.{Image, Index, byte}
+use Rattle.spec_image.specs.Image.{Image, Index, byte}
 use Rattle.blk_model.specs.Effects.{doomed}
 use Rattle.blk_model.specs.Holding.{rest}
 use Rattle.blk_model.specs.Items.{Item}
 use Rattle.blk_model.specs.State.{Object, State, object_at}
-use Rattle.blk_format.specs.Address.{external, file_selector, kind_of}
-use Rattle.blk_format.specs.BlockFiles.{is_among, linked_as, stands_in}
-use Rattle.blk_format.specs.Claims.{is_in_file}
-use Rattle.blk_format.specs.Maps.{AreAllocations}
-use Rattle.blk_format.specs.Standing.{is_linked_as, stands_as_blocks}
-use Rattle.blk_volume.specs.Layout.{Layout}
-use Rattle.blk_volume.specs.Tidy.{loaded_at}
-use Rattle.blk_laws.proofs.claims.ByteChanges.{stands-blocks}
+use Rattle.spec_format.specs.Address.{external, file_selector, kind_of}
+use Rattle.spec_format.specs.BlockFiles.{is_among, linked_as, stands_in}
+use Rattle.spec_format.specs.Claims.{is_in_file}
+use Rattle.spec_format.specs.Maps.{AreAllocations}
+use Rattle.spec_format.specs.Standing.{is_linked_as, stands_as_blocks}
+use Rattle.spec_folder.specs.Layout.{Layout}
+use Rattle.spec_folder.specs.Tidy.{loaded_at}
+use Rattle.law_folder.proofs.claims.ByteChanges.{stands-blocks}
 use Rattle.blk_alloc.specs.Owning.{CanBeFreed}
-use Rattle.blk_kept.specs.Changes.{Finds, KeepsWith, RemovesAllocation, RemovesExternal, StillFinds}
-use Rattle.blk_format.specs.Headers.{num_bytes_of, num_entries_of, sizes_of}
-use Rattle.blk_kept.specs.Keeping.{KeepsUncounted, words_in_use}
-use Rattle.blk_kept.specs.PartlyOut.{KeepsPartlyOut, left_nodes}
-use Rattle.blk_kept.specs.PartlyOutStops.{LeavesOtherKeys}
-use Rattle.blk_kept.proofs.Allocating.{apart-kind, its-file}
-use Rattle.blk_kept.proofs.Externals.{deleting-finds}
-use Rattle.blk_kept.proofs.Freeing.{freed-gone}
-use Rattle.blk_kept.proofs.MakingFiles.{deleted-gone}
-use Rattle.blk_kept.proofs.PartlyFreed.{blocks-freed, files-deleted}
-use Rattle.blk_kept.proofs.PartlyOut.{kept-begin}
-use Rattle.blk_kept.proofs.PartlyOutStops.{deleting-doomed, freeing-finds, partly-out-finds}
-use Rattle.blk_kept.proofs.Free.{then-found}
-use Rattle.blk_kept.proofs.Writes.{growth-finds}
+use Rattle.law_state.specs.Changes.{Finds, KeepsWith, RemovesAllocation, RemovesExternal, StillFinds}
+use Rattle.spec_format.specs.Headers.{num_bytes_of, num_entries_of, sizes_of}
+use Rattle.law_state.specs.Keeping.{KeepsUncounted, words_in_use}
+use Rattle.law_state.specs.PartlyOut.{KeepsPartlyOut, left_nodes}
+use Rattle.law_state.specs.PartlyOutStops.{LeavesOtherKeys}
+use Rattle.law_state.proofs.Allocating.{apart-kind, its-file}
+use Rattle.law_state.proofs.Externals.{deleting-finds}
+use Rattle.law_state.proofs.Freeing.{freed-gone}
+use Rattle.law_state.proofs.MakingFiles.{deleted-gone}
+use Rattle.law_state.proofs.PartlyFreed.{blocks-freed, files-deleted}
+use Rattle.law_state.proofs.PartlyOut.{kept-begin}
+use Rattle.law_state.proofs.PartlyOutStops.{deleting-doomed, freeing-finds, partly-out-finds}
+use Rattle.law_state.proofs.Free.{then-found}
+use Rattle.law_state.proofs.Writes.{growth-finds}
 use Rattle.blk_object.specs.Freeing.{AreFreeable, AreGoing, FreedWordsAreGone, FreedWordsAreGonePartlyOut, FreedWordsLeaveCounters, GoingWordsFindDoomed, GoingWordsFindTheSame, IsNextGoing, IsPlaceGoing, Removes, RemovesPlace, UnlinkedWordsAreFreeable, words_at}
 
 -- ---- what may be freed

@@ -3,14 +3,14 @@ use Rattle.std.proofs.Common.{◌≡◌, inl, Option, ℕ, ◌+◌, ◌<◌, ◌
 use Rattle.std.specs.Option.{ForSome}
 use Rattle.std.proofs.lemmas.List.{append-nil, drop_all, drop_more, take_more}
 use Rattle.std.proofs.lemmas.List.Elements.{filter_map-append}
-use Rattle.blk_image.specs.Image.{Image, Index, length_of}
-use Rattle.blk_format.specs.Headers.{HasWholeIndex}
+use Rattle.spec_image.specs.Image.{Image, Index, length_of}
+use Rattle.spec_format.specs.Headers.{HasWholeIndex}
 use Rattle.blk_io.proofs.Carried.{told_at_end}
 use Rattle.blk_disk.specs.declared.tables.BlockFiles.{BlockFiles}
 use Rattle.blk_disk.specs.Open.{IsOpen}
 use Rattle.blk_disk.specs.Tables.{Agrees}
-use Rattle.blk_image.specs.Told.{Passes, Told}
-use Rattle.blk_image.proofs.Runs.{passes_none, passes_then, passes_weaker, some_inj}
+use Rattle.spec_image.specs.Told.{Passes, Told}
+use Rattle.spec_image.proofs.Runs.{passes_none, passes_then, passes_weaker, some_inj}
 use Rattle.blk_stream.proofs.Joined.{IsTold, told_then}
 use Rattle.blk_object.specs.Freeing.{AreFreeable, AreGoing, IsNextGoing, Removes, words_at}
 use Rattle.blk_object.proofs.FreedPlaces.{all-freed, all-may, front-may, none-going}

@@ -2,33 +2,33 @@
 use Rattle.std.proofs.Common.{◌≡◌, inl, inr, ℕ, ◌%◌, List, [], ◌++◌, refl, ap, sym, ◌∙◌, subst, Bool, true, Ok, Option, None, Some}
 use Rattle.std.specs.Prelude.{◌^◌}
 use Rattle.std.specs.Option.{ForSome}
-use Rattle.blk_image.specs.Image.{Image}
-use Rattle.blk_image.specs.Told.{Passes, Told}
-use Rattle.blk_image.proofs.Runs.{passes_stayed, passes_then, passes_weaker}
+use Rattle.spec_image.specs.Image.{Image}
+use Rattle.spec_image.specs.Told.{Passes, Told}
+use Rattle.spec_image.proofs.Runs.{passes_stayed, passes_then, passes_weaker}
 use Rattle.blk_model.specs.Effects.{doomed}
 use Rattle.blk_model.specs.Holding.{rest}
 use Rattle.blk_model.specs.Items.{Item, main, part}
 use Rattle.blk_model.specs.State.{Object, State, object_at}
-use Rattle.blk_volume.specs.Found.{charge_of}
-use Rattle.blk_volume.specs.Layout.{Layout}
+use Rattle.spec_folder.specs.Found.{charge_of}
+use Rattle.spec_folder.specs.Layout.{Layout}
 use Rattle.std.proofs.lemmas.Bool.{or_left}
 use Rattle.std.proofs.lemmas.Grind.{flat_map-append}
-use Rattle.blk_format.specs.Claims.{Claim, claims_of, claims_of_all, has_claim}
-use Rattle.blk_format.specs.Records.{entry_normal}
-use Rattle.blk_laws.proofs.claims.Allocations.{words-claims}
-use Rattle.blk_laws.proofs.claims.ClaimLists.{claim-append}
+use Rattle.spec_format.specs.Claims.{Claim, claims_of, claims_of_all, has_claim}
+use Rattle.spec_format.specs.Records.{entry_normal}
+use Rattle.law_folder.proofs.claims.Allocations.{words-claims}
+use Rattle.law_folder.proofs.claims.ClaimLists.{claim-append}
 use Rattle.blk_object.specs.UnlinkedLoads.{KeepsUnlinked, LiesUnlinked}
 use Rattle.blk_object.proofs.UnlinkedLoads.{counted-keeps, freed-keeps}
-use Rattle.blk_volume.specs.Loads.{Loaded, all_claims, load, unchained_rule}
-use Rattle.blk_volume.specs.Sound.{AreSealed, words_of}
-use Rattle.blk_volume.specs.View.{store_of}
-use Rattle.blk_kept.specs.Changes.{Finds, SameCounters, SameSession}
-use Rattle.blk_kept.specs.Keeping.{CountsItems, KeepsUncounted}
-use Rattle.blk_kept.specs.PartlyOut.{KeepsPartlyOut, chains_but, keeps_but}
-use Rattle.blk_kept.specs.PartlyOutStops.{LeavesOtherKeys}
-use Rattle.blk_kept.proofs.Free.{then-found}
-use Rattle.blk_kept.proofs.PartlyOut.{kept-begin}
-use Rattle.blk_kept.proofs.PartlyOutStops.{own-items-leave, partly-out-finds}
+use Rattle.spec_folder.specs.Loads.{Loaded, all_claims, load, unchained_rule}
+use Rattle.spec_folder.specs.Sound.{AreSealed, words_of}
+use Rattle.spec_folder.specs.View.{store_of}
+use Rattle.law_state.specs.Changes.{Finds, SameCounters, SameSession}
+use Rattle.law_state.specs.Keeping.{CountsItems, KeepsUncounted}
+use Rattle.law_state.specs.PartlyOut.{KeepsPartlyOut, chains_but, keeps_but}
+use Rattle.law_state.specs.PartlyOutStops.{LeavesOtherKeys}
+use Rattle.law_state.proofs.Free.{then-found}
+use Rattle.law_state.proofs.PartlyOut.{kept-begin}
+use Rattle.law_state.proofs.PartlyOutStops.{own-items-leave, partly-out-finds}
 use Rattle.blk_stream.proofs.Joined.{IsTold, told_then}
 use Rattle.blk_object.specs.Freeing.{AreFreeable, AreGoing, Removes}
 use Rattle.blk_object.specs.NextItems.{IsBeingFreed, IsGoingNext, IsMainOut, IsOutAndCounted, IsOutUncounted, LiesNext}

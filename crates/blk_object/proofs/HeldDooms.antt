@@ -5,57 +5,57 @@ use Rattle.std.specs.List.{sum_by}
 use Rattle.std.specs.Option.{ForSome, option_map_or}
 use Rattle.std.proofs.lemmas.Bool.{cases_Bool}
 use Rattle.std.proofs.lemmas.List.Elements.{All-cons, All-nil}
-use Rattle.blk_image.specs.Footprint.{SameOutside}
-use Rattle.blk_image.specs.Image.{AreBytes, Image}
-use Rattle.blk_image.specs.Steps.{after}
-use Rattle.blk_image.specs.Told.{Applies, Passes, TellsBytes, Told}
-use Rattle.blk_image.proofs.Runs.{passes_then, passes_weaker, some_inj, told_whole}
+use Rattle.spec_image.specs.Footprint.{SameOutside}
+use Rattle.spec_image.specs.Image.{AreBytes, Image}
+use Rattle.spec_image.specs.Steps.{after}
+use Rattle.spec_image.specs.Told.{Applies, Passes, TellsBytes, Told}
+use Rattle.spec_image.proofs.Runs.{passes_then, passes_weaker, some_inj, told_whole}
 use Rattle.blk_model.proofs.Same.{bytes_eq_self}
 use Rattle.blk_model.specs.Effects.{doomed}
 use Rattle.blk_model.specs.Holding.{rest}
 use Rattle.blk_model.specs.Items.{Item, main, same_item}
 use Rattle.blk_model.specs.State.{Object, State}
-use Rattle.blk_format.specs.Address.{blocks_256, kind_of, rankings}
-use Rattle.blk_format.specs.BlockFiles.{is_among}
-use Rattle.blk_format.specs.Claims.{Claim, claims_of, has_claim}
-use Rattle.blk_format.specs.Headers.{header_length}
-use Rattle.blk_format.specs.Records.{Node, node_is_sealed}
-use Rattle.blk_format.specs.Sealed.{AreChanges, IsMidUpdate, RecordChecks, record_range, seal_place, sealed_steps}
+use Rattle.spec_format.specs.Address.{blocks_256, kind_of, rankings}
+use Rattle.spec_format.specs.BlockFiles.{is_among}
+use Rattle.spec_format.specs.Claims.{Claim, claims_of, has_claim}
+use Rattle.spec_format.specs.Headers.{header_length}
+use Rattle.spec_format.specs.Records.{Node, node_is_sealed}
+use Rattle.spec_format.specs.Sealed.{AreChanges, IsMidUpdate, RecordChecks, record_range, seal_place, sealed_steps}
 use Rattle.blk_disk.specs.declared.tables.BlockFiles.{BlockFiles}
 use Rattle.blk_disk.specs.Open.{IsOpen}
-use Rattle.blk_volume.specs.Found.{charge_of}
-use Rattle.blk_volume.specs.Layout.{Layout, is_in, is_listed, nodes_of}
-use Rattle.blk_volume.specs.ListImages.{IsWritable}
-use Rattle.blk_volume.specs.Loads.{Loaded, load, unchained_rule}
-use Rattle.blk_volume.specs.Removal.{is_of_another, placed_doomed}
-use Rattle.blk_volume.specs.Sound.{AreSealed, words_of}
-use Rattle.blk_volume.specs.View.{RecordFields, stands_as, store_of}
-use Rattle.blk_laws.proofs.chains.ChainWords.{record_checks, shown-fields}
-use Rattle.blk_laws.proofs.claims.ByteChanges.{node-same}
-use Rattle.blk_laws.proofs.claims.ClaimLists.{contents-claims}
-use Rattle.blk_laws.proofs.states.Laid.{is_among-node}
-use Rattle.blk_laws.proofs.updates.StillShown.{core-standing, standing-parts}
-use Rattle.blk_laws.proofs.updates.Updates.{entry-seal}
-use Rattle.blk_laws.proofs.walks.Loads.{load-then}
-use Rattle.blk_kept.specs.Changes.{Finds, KeepsWith, SameSession}
-use Rattle.blk_kept.specs.DoomLaws.{CanBeDoomed}
-use Rattle.blk_kept.specs.GroupLaws.{at_without, gone_nodes, owners_without}
-use Rattle.blk_kept.specs.Keeping.{CountsItems, Keeps, KeepsUncounted}
-use Rattle.blk_kept.specs.PartlyOut.{KeepsPartlyOut, chains_but, keeps_but}
-use Rattle.blk_kept.specs.PartlyOutStops.{LeavesOtherKeys}
-use Rattle.blk_kept.specs.WholeRemovals.{is_no_part_of, part_nodes}
-use Rattle.blk_kept.proofs.AtNodes.{updates-change, updates-leave}
-use Rattle.blk_kept.proofs.Doomed.{doomed-less, other-items}
-use Rattle.blk_kept.proofs.DoomedNumbers.{its-main}
-use Rattle.blk_kept.proofs.DoomedPlaces as places
-use Rattle.blk_kept.proofs.DoomSteps.{IsDoomedRecord, doomed-record, with_doomed}
-use Rattle.blk_kept.proofs.Free.{standing-loaded, then-found}
-use Rattle.blk_kept.proofs.Groups as groups
-use Rattle.blk_kept.proofs.HeldPartlyOut.{held-out-objects-doomed}
-use Rattle.blk_kept.proofs.PartlyFreed.{out-changes}
-use Rattle.blk_kept.proofs.PartlyOut.{only-listed}
-use Rattle.blk_kept.proofs.PartlyOutStops.{partly-out-finds}
-use Rattle.blk_kept.proofs.Removals.{filter-alike}
+use Rattle.spec_folder.specs.Found.{charge_of}
+use Rattle.spec_folder.specs.Layout.{Layout, is_in, is_listed, nodes_of}
+use Rattle.spec_folder.specs.ListImages.{IsWritable}
+use Rattle.spec_folder.specs.Loads.{Loaded, load, unchained_rule}
+use Rattle.spec_folder.specs.Removal.{is_of_another, placed_doomed}
+use Rattle.spec_folder.specs.Sound.{AreSealed, words_of}
+use Rattle.spec_folder.specs.View.{RecordFields, stands_as, store_of}
+use Rattle.law_folder.proofs.chains.ChainWords.{record_checks, shown-fields}
+use Rattle.law_folder.proofs.claims.ByteChanges.{node-same}
+use Rattle.law_folder.proofs.claims.ClaimLists.{contents-claims}
+use Rattle.law_folder.proofs.states.Laid.{is_among-node}
+use Rattle.law_folder.proofs.updates.StillShown.{core-standing, standing-parts}
+use Rattle.law_folder.proofs.updates.Updates.{entry-seal}
+use Rattle.law_folder.proofs.walks.Loads.{load-then}
+use Rattle.law_state.specs.Changes.{Finds, KeepsWith, SameSession}
+use Rattle.law_state.specs.DoomLaws.{CanBeDoomed}
+use Rattle.law_state.specs.GroupLaws.{at_without, gone_nodes, owners_without}
+use Rattle.law_state.specs.Keeping.{CountsItems, Keeps, KeepsUncounted}
+use Rattle.law_state.specs.PartlyOut.{KeepsPartlyOut, chains_but, keeps_but}
+use Rattle.law_state.specs.PartlyOutStops.{LeavesOtherKeys}
+use Rattle.law_state.specs.WholeRemovals.{is_no_part_of, part_nodes}
+use Rattle.law_state.proofs.AtNodes.{updates-change, updates-leave}
+use Rattle.law_state.proofs.Doomed.{doomed-less, other-items}
+use Rattle.law_state.proofs.DoomedNumbers.{its-main}
+use Rattle.law_state.proofs.DoomedPlaces as places
+use Rattle.law_state.proofs.DoomSteps.{IsDoomedRecord, doomed-record, with_doomed}
+use Rattle.law_state.proofs.Free.{standing-loaded, then-found}
+use Rattle.law_state.proofs.Groups as groups
+use Rattle.law_state.proofs.HeldPartlyOut.{held-out-objects-doomed}
+use Rattle.law_state.proofs.PartlyFreed.{out-changes}
+use Rattle.law_state.proofs.PartlyOut.{only-listed}
+use Rattle.law_state.proofs.PartlyOutStops.{partly-out-finds}
+use Rattle.law_state.proofs.Removals.{filter-alike}
 use Rattle.blk_stream.proofs.Joined.{IsTold, told_then}
 use Rattle.blk_object.specs.Counters.{AreCountedLess, IsOneItemLess}
 use Rattle.blk_object.specs.Dooming.{ForEachOut, IsDoomedOut, IsDoomedUncounted, IsOutWhole, doomed_change, layout_held}

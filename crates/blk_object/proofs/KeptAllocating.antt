@@ -3,14 +3,14 @@ use Rattle.std.proofs.Common.{◌≡◌, ◌≢◌, inl, inr, ℕ, ◌+◌, ◌*
 use Rattle.std.specs.Prelude.{◌&&◌, ◌||◌, ◌==◌, if◌then◌else◌, is_some, nat_le, nat_lt}
 use Rattle.std.specs.List.{sum_by}
 use Rattle.std.proofs.lemmas.Bool.Decides.{nat_tests}
-use Rattle.blk_image.specs.Footprint.{Footprint, SameOutside, either}
-use Rattle.blk_image.specs.Image.{Block, Image, Index, byte, length_of, same_file}
-use Rattle.blk_image.proofs.Runs.{passes_weaker}
-use Rattle.blk_format.specs.Address.{block_place, external, header_size, file_selector, is_block_kind, kind_of}
-use Rattle.blk_format.specs.BlockFiles.{is_among, kind_among, linked, linked_as, max_entries_in, stands_in, stands_in_blocks}
-use Rattle.blk_format.specs.Growth.{StaysWhole}
-use Rattle.blk_format.specs.Headers.{allocations_of}
-use Rattle.blk_format.specs.Standing.{stands}
+use Rattle.spec_image.specs.Footprint.{Footprint, SameOutside, either}
+use Rattle.spec_image.specs.Image.{Block, Image, Index, byte, length_of, same_file}
+use Rattle.spec_image.proofs.Runs.{passes_weaker}
+use Rattle.spec_format.specs.Address.{block_place, external, header_size, file_selector, is_block_kind, kind_of}
+use Rattle.spec_format.specs.BlockFiles.{is_among, kind_among, linked, linked_as, max_entries_in, stands_in, stands_in_blocks}
+use Rattle.spec_format.specs.Growth.{StaysWhole}
+use Rattle.spec_format.specs.Headers.{allocations_of}
+use Rattle.spec_format.specs.Standing.{stands}
 use Rattle.blk_disk.specs.declared.tables.BlockFiles.{BlockFiles}
 use Rattle.blk_disk.specs.Growth.{addition_of, free_number, growth_of, last_file, size_as, whole_length}
 use Rattle.blk_disk.specs.Tables.{Agrees, all_files, blocks_of, files_of, length_in}
@@ -18,9 +18,9 @@ use Rattle.blk_disk.proofs.Joined.{among_kinds}
 use Rattle.blk_disk.proofs.Ranges.{stands_agree, stands_linked}
 use Rattle.blk_alloc.specs.Allocating.{AllocatesIn, AllocatesOrStops, ExtendsAnd}
 use Rattle.blk_alloc.specs.Marking.{taking_of}
-use Rattle.blk_laws.proofs.claims.ByteChanges.{stands-linked}
-use Rattle.blk_kept.specs.AllocationLaws.{AreAllocated}
-use Rattle.blk_kept.proofs.Freed.{allocated-added}
+use Rattle.law_folder.proofs.claims.ByteChanges.{stands-linked}
+use Rattle.law_state.specs.AllocationLaws.{AreAllocated}
+use Rattle.law_state.proofs.Freed.{allocated-added}
 use Rattle.blk_object.specs.KeptBlocks.{AllocationsAdd, AllocationsStayWhole, IsAllocation, KeptFilesAreCounted}
 
 pub files-counted : KeptFilesAreCounted

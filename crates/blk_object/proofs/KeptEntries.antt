@@ -3,24 +3,24 @@ use Rattle.std.proofs.Common.{◌≡◌, ℕ, ◌+◌, ◌<◌, List, length, re
 use Rattle.std.specs.Prelude.{◌&&◌, ◌==◌, nat_le, nat_lt}
 use Rattle.std.proofs.lemmas.Bool.{cases_Bool}
 use Rattle.std.proofs.lemmas.Bool.Decides.{nat_tests}
-use Rattle.blk_image.specs.Footprint.{Footprint, either, range}
-use Rattle.blk_image.specs.Image.{Block, External, File, Image, Index, same_file}
-use Rattle.blk_image.proofs.Footprints.{same_word_outside}
-use Rattle.blk_image.proofs.Runs.{passes_weaker}
-use Rattle.blk_format.specs.Address.{byte_size, external, external_number, file_selector, kind_of, place}
-use Rattle.blk_format.specs.Claims.{Claim, has_claim}
-use Rattle.blk_format.specs.Sealed.{record_range, record_size}
-use Rattle.blk_format.proofs.SpareHeaders.{past_header}
-use Rattle.blk_volume.specs.Loads.{all_claims}
-use Rattle.blk_volume.specs.Sound.{words_of}
-use Rattle.blk_laws.proofs.claims.Allocations.{words-claims}
-use Rattle.blk_laws.proofs.claims.ByteChanges.{covered-agrees}
+use Rattle.spec_image.specs.Footprint.{Footprint, either, range}
+use Rattle.spec_image.specs.Image.{Block, External, File, Image, Index, same_file}
+use Rattle.spec_image.proofs.Footprints.{same_word_outside}
+use Rattle.spec_image.proofs.Runs.{passes_weaker}
+use Rattle.spec_format.specs.Address.{byte_size, external, external_number, file_selector, kind_of, place}
+use Rattle.spec_format.specs.Claims.{Claim, has_claim}
+use Rattle.spec_format.specs.Sealed.{record_range, record_size}
+use Rattle.spec_format.proofs.SpareHeaders.{past_header}
+use Rattle.spec_folder.specs.Loads.{all_claims}
+use Rattle.spec_folder.specs.Sound.{words_of}
+use Rattle.law_folder.proofs.claims.Allocations.{words-claims}
+use Rattle.law_folder.proofs.claims.ByteChanges.{covered-agrees}
 use Rattle.blk_entry.specs.declared.writing.NewEntry.{NewEntry}
 use Rattle.blk_entry.specs.Keys.{data_file, data_start}
 use Rattle.blk_entry.specs.Writing.{WritesEntryInProgress, loaded_new, long_range, places_of}
 use Rattle.blk_entry.proofs.NewClaims.{new-places-covered}
-use Rattle.blk_kept.specs.Changes.{KeepsWith}
-use Rattle.blk_kept.proofs.Free.{unlinked-change}
+use Rattle.law_state.specs.Changes.{KeepsWith}
+use Rattle.law_state.proofs.Free.{unlinked-change}
 use Rattle.blk_object.specs.KeptEntries.{NewEntriesChangeTheirOwn, WritingEntriesKeepsStates}
 
 before : (t : Bool) (p n i : ℕ) → i < p → (t && (nat_le p i && nat_lt i (p + n))) ≡ false

@@ -3,20 +3,20 @@ use Rattle.std.proofs.Common.{◌≡◌, ℕ, [], ◌∷◌, ap, sym, ◌∙◌,
 use Rattle.std.specs.Prelude.{◌==◌, is_some}
 use Rattle.std.specs.Option.{option_map}
 use Rattle.std.proofs.lemmas.Bool.Decides.{nat_tests}
-use Rattle.blk_image.specs.Bytes.{word_bytes}
-use Rattle.blk_image.specs.Footprint.{SameOutside, either, one_word, whole}
-use Rattle.blk_image.specs.Image.{External, Image, Index, has_file}
-use Rattle.blk_image.specs.Steps.{SetLength, Word, after, applied, word_step}
-use Rattle.blk_image.proofs.Footprints.{outside-trans, outside_step, outside_wider, within_left, within_right}
-use Rattle.blk_image.proofs.Runs.{passes_end, passes_weaker, some_inj}
-use Rattle.blk_format.specs.Address.{external, external_number, is_address, kind_of}
-use Rattle.blk_format.specs.BlockFiles.{stands_in}
-use Rattle.blk_format.specs.Standing.{stands}
+use Rattle.spec_image.specs.Bytes.{word_bytes}
+use Rattle.spec_image.specs.Footprint.{SameOutside, either, one_word, whole}
+use Rattle.spec_image.specs.Image.{External, Image, Index, has_file}
+use Rattle.spec_image.specs.Steps.{SetLength, Word, after, applied, word_step}
+use Rattle.spec_image.proofs.Footprints.{outside-trans, outside_step, outside_wider, within_left, within_right}
+use Rattle.spec_image.proofs.Runs.{passes_end, passes_weaker, some_inj}
+use Rattle.spec_format.specs.Address.{external, external_number, is_address, kind_of}
+use Rattle.spec_format.specs.BlockFiles.{stands_in}
+use Rattle.spec_format.specs.Standing.{stands}
 use Rattle.blk_external.specs.Changes.{ChangesExternal}
 use Rattle.blk_external.specs.Making.{CreatesInProgress, making}
 use Rattle.blk_external.specs.Numbers.{named_file}
-use Rattle.blk_kept.specs.Changes.{StillFinds}
-use Rattle.blk_kept.proofs.Externals.{deleted-removed, deleting-finds, made-added, making-finds}
+use Rattle.law_state.specs.Changes.{StillFinds}
+use Rattle.law_state.proofs.Externals.{deleted-removed, deleting-finds, made-added, making-finds}
 use Rattle.blk_object.specs.KeptExternalFiles.{CreationsAdd, CreationsFindTheSame, DeletionsFindTheSame, DeletionsRemove}
 
 -- ---- create

@@ -5,16 +5,16 @@ use Rattle.std.specs.List.{sum_by}
 use Rattle.std.proofs.lemmas.Bool.{cases_Bool}
 use Rattle.std.proofs.lemmas.Bool.Decides.{nat_tests}
 use Rattle.std.proofs.lemmas.List.Sums.{sum_by-cons}
-use Rattle.blk_image.specs.Image.{External, Image, has_file}
+use Rattle.spec_image.specs.Image.{External, Image, has_file}
 use Rattle.blk_model.specs.Room.{items}
-use Rattle.blk_format.specs.Address.{external, external_number, kind_of}
-use Rattle.blk_format.specs.Claims.{Claim, ExternalOf, claims_of, claims_of_all, has_claim, same_claim}
-use Rattle.blk_laws.proofs.claims.ClaimLists.{claim-append, claim-head, no-claim}
+use Rattle.spec_format.specs.Address.{external, external_number, kind_of}
+use Rattle.spec_format.specs.Claims.{Claim, ExternalOf, claims_of, claims_of_all, has_claim, same_claim}
+use Rattle.law_folder.proofs.claims.ClaimLists.{claim-append, claim-head, no-claim}
 use Rattle.blk_external.specs.Numbers.{taken_count}
-use Rattle.blk_kept.specs.Keeping.{all_loaded, words_in_use}
-use Rattle.blk_kept.proofs.Allocating.{blocks-only}
-use Rattle.blk_kept.proofs.Bounds.{words-few}
-use Rattle.blk_kept.proofs.MakingFiles.{its-claims}
+use Rattle.law_state.specs.Keeping.{all_loaded, words_in_use}
+use Rattle.law_state.proofs.Allocating.{blocks-only}
+use Rattle.law_state.proofs.Bounds.{words-few}
+use Rattle.law_state.proofs.MakingFiles.{its-claims}
 use Rattle.blk_object.specs.KeptExternalFiles.{KeptStatesHaveFreeNumbers}
 
 -- how many of the numbers 1 to n pass a test

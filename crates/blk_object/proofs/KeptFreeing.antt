@@ -2,20 +2,20 @@
 use Rattle.std.proofs.Common.{◌≡◌, ◌≢◌, inl, inr, ℕ, ◌∙◌, refl, arith, Bool, true, false}
 use Rattle.std.specs.Prelude.{◌&&◌, ◌||◌, nat_le, nat_lt}
 use Rattle.std.proofs.lemmas.Bool.Decides.{nat_tests}
-use Rattle.blk_image.specs.Image.{Block, Image, same_file}
-use Rattle.blk_image.proofs.Runs.{passes_end, passes_weaker}
-use Rattle.blk_format.specs.Address.{external, file_selector, kind_of}
-use Rattle.blk_format.specs.Growth.{StaysWhole}
-use Rattle.blk_format.specs.Headers.{is_extent_place}
+use Rattle.spec_image.specs.Image.{Block, Image, same_file}
+use Rattle.spec_image.proofs.Runs.{passes_end, passes_weaker}
+use Rattle.spec_format.specs.Address.{external, file_selector, kind_of}
+use Rattle.spec_format.specs.Growth.{StaysWhole}
+use Rattle.spec_format.specs.Headers.{is_extent_place}
 use Rattle.blk_disk.specs.declared.tables.BlockFiles.{BlockFiles}
 use Rattle.blk_disk.specs.Tables.{stands_among}
 use Rattle.blk_disk.proofs.Standings.{no_blocks}
 use Rattle.blk_alloc.specs.Changes.{map_of}
 use Rattle.blk_alloc.specs.Owning.{FreesOrStops, IsFreed}
-use Rattle.blk_kept.specs.AllocationLaws.{AreFreed, IsOfMap}
-use Rattle.blk_kept.specs.Changes.{StillFinds}
-use Rattle.blk_kept.proofs.Freed.{freed-removed}
-use Rattle.blk_kept.proofs.Writes.{growth-finds}
+use Rattle.law_state.specs.AllocationLaws.{AreFreed, IsOfMap}
+use Rattle.law_state.specs.Changes.{StillFinds}
+use Rattle.law_state.proofs.Freed.{freed-removed}
+use Rattle.law_state.proofs.Writes.{growth-finds}
 use Rattle.blk_object.specs.KeptBlocks.{FreesRemove, FreesStayWhole, WholeFoldersFindTheSame}
 
 pub whole-finds : WholeFoldersFindTheSame

@@ -1,24 +1,24 @@
 -- Inserts, removals and touches of nodes of a kept state.
 use Rattle.std.proofs.Common.{◌≡◌, ℕ, ◌≤◌, List, ◌∷◌, ◌++◌, ap, sym, ◌∙◌, subst, lit≤, Some}
 use Rattle.std.specs.Option.{option_map}
-use Rattle.blk_image.specs.Image.{Image}
-use Rattle.blk_image.specs.Steps.{TrailStep, after}
-use Rattle.blk_image.specs.Told.{Applies, TellsBytes, Told}
-use Rattle.blk_image.proofs.Runs.{passes_weaker, some_inj}
-use Rattle.blk_format.specs.Headers.{header_length}
+use Rattle.spec_image.specs.Image.{Image}
+use Rattle.spec_image.specs.Steps.{TrailStep, after}
+use Rattle.spec_image.specs.Told.{Applies, TellsBytes, Told}
+use Rattle.spec_image.proofs.Runs.{passes_weaker, some_inj}
+use Rattle.spec_format.specs.Headers.{header_length}
 use Rattle.blk_disk.specs.declared.tables.BlockFiles.{BlockFiles}
 use Rattle.blk_disk.specs.Open.{IsOpen}
-use Rattle.blk_volume.specs.Completion.{insert, remove}
-use Rattle.blk_volume.specs.Layout.{nodes_of, order}
-use Rattle.blk_volume.specs.ListImages.{IsWritable, operation_steps, steps_of_touch}
-use Rattle.blk_volume.specs.ListView.{IsList}
-use Rattle.blk_volume.specs.View.{list_of}
-use Rattle.blk_laws.proofs.commands.Opening.{IsAround, around, nodes-append}
-use Rattle.blk_kept.specs.ListLaws.{IsTouchDone}
-use Rattle.blk_kept.specs.NewEntryLaws.{IsInsertDone}
-use Rattle.blk_kept.specs.RemovalLaws.{IsRemovalDone}
-use Rattle.blk_kept.proofs.DoneSteps.{insert-done, removal-done, touch-done}
-use Rattle.blk_kept.proofs.NewEntries.{can-insert}
+use Rattle.spec_folder.specs.Completion.{insert, remove}
+use Rattle.spec_folder.specs.Layout.{nodes_of, order}
+use Rattle.spec_folder.specs.ListImages.{IsWritable, operation_steps, steps_of_touch}
+use Rattle.spec_folder.specs.ListView.{IsList}
+use Rattle.spec_folder.specs.View.{list_of}
+use Rattle.law_folder.proofs.commands.Opening.{IsAround, around, nodes-append}
+use Rattle.law_state.specs.ListLaws.{IsTouchDone}
+use Rattle.law_state.specs.NewEntryLaws.{IsInsertDone}
+use Rattle.law_state.specs.RemovalLaws.{IsRemovalDone}
+use Rattle.law_state.proofs.DoneSteps.{insert-done, removal-done, touch-done}
+use Rattle.law_state.proofs.NewEntries.{can-insert}
 use Rattle.blk_object.specs.KeptLists.{InsertsAreDone, InsertsArePartly, ListedNodesAreInTheList, NewNodesCanBeInserted, RemovalsAreDone, RemovalsArePartly, TouchesAreDone, TouchesArePartly}
 
 pub new-can-be : NewNodesCanBeInserted

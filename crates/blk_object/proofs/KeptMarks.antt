@@ -1,23 +1,23 @@
 -- Dirty words that are set, and records that are linked in front.
 use Rattle.std.proofs.Common.{◌≡◌, ◌⊎◌, inl, inr, ℕ, ◌≤◌, ap, sym, subst, lit≤, refl, Bool, true, false}
 use Rattle.std.specs.Prelude.{◌||◌}
-use Rattle.blk_image.specs.Image.{Image, Index, length_of}
-use Rattle.blk_image.proofs.Commits.{commits_passes}
-use Rattle.blk_image.proofs.Runs.{passes_weaker}
-use Rattle.blk_format.specs.Headers.{header_length}
-use Rattle.blk_format.specs.Records.{Node, node_checks}
-use Rattle.blk_format.proofs.Finished.{whole_index}
-use Rattle.blk_volume.specs.ListImages.{IsWritable}
-use Rattle.blk_volume.specs.Layout.{rule_of}
-use Rattle.blk_volume.specs.View.{checks_at, list_of, store_of}
-use Rattle.blk_laws.proofs.walks.Shown.{node-is}
-use Rattle.blk_laws.proofs.updates.NodeRecords.{record_checks}
+use Rattle.spec_image.specs.Image.{Image, Index, length_of}
+use Rattle.spec_image.proofs.Commits.{commits_passes}
+use Rattle.spec_image.proofs.Runs.{passes_weaker}
+use Rattle.spec_format.specs.Headers.{header_length}
+use Rattle.spec_format.specs.Records.{Node, node_checks}
+use Rattle.spec_format.proofs.Finished.{whole_index}
+use Rattle.spec_folder.specs.ListImages.{IsWritable}
+use Rattle.spec_folder.specs.Layout.{rule_of}
+use Rattle.spec_folder.specs.View.{checks_at, list_of, store_of}
+use Rattle.law_folder.proofs.walks.Shown.{node-is}
+use Rattle.law_folder.proofs.updates.NodeRecords.{record_checks}
 use Rattle.blk_entry.specs.Marks.{SetsDirtyInProgress, mark_steps}
 use Rattle.blk_chain.specs.Linking.{IsLinkedInFront}
-use Rattle.blk_kept.specs.NewEntryLaws.{HasRecordInFront}
-use Rattle.blk_kept.specs.RecordLaws.{IsMarked, IsMarking}
-use Rattle.blk_kept.proofs.Free.{standing-at}
-use Rattle.blk_kept.proofs.MarkSteps.{marks-done}
+use Rattle.law_state.specs.NewEntryLaws.{HasRecordInFront}
+use Rattle.law_state.specs.RecordLaws.{IsMarked, IsMarking}
+use Rattle.law_state.proofs.Free.{standing-at}
+use Rattle.law_state.proofs.MarkSteps.{marks-done}
 use Rattle.blk_object.specs.KeptMarks.{NodesOfStatesCheck, LinksAreInFront, LinksComeInFront, MarksAreBeingSet, MarksAreSet, NodesCheckAsRecords}
 use Rattle.blk_object.proofs.KeptLists.{told-after}
 

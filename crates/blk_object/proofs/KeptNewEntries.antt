@@ -5,47 +5,47 @@ use Rattle.std.proofs.lemmas.Bool.{cases_Bool, eq-eqb, eqb-true, or_left, or_rig
 use Rattle.std.proofs.lemmas.Bool.Decides.{nat_tests}
 use Rattle.std.proofs.lemmas.List.{length-map}
 use Rattle.std.proofs.lemmas.Nat.{mod_below}
-use Rattle.blk_image.specs.Image.{Image, Index, byte}
-use Rattle.blk_image.proofs.Runs.{passes_end}
+use Rattle.spec_image.specs.Image.{Image, Index, byte}
+use Rattle.spec_image.proofs.Runs.{passes_end}
 use Rattle.blk_model.specs.Holding.{owner}
 use Rattle.blk_model.specs.Items.{main}
 use Rattle.blk_model.specs.State.{State}
-use Rattle.blk_format.specs.Address.{blocks_256, external, file_selector, first_block, kind_of, rankings}
-use Rattle.blk_format.specs.BlockFiles.{is_among}
-use Rattle.blk_format.specs.Claims.{BlockOf, Claim, claims_of, claims_of_all, has_claim, repeats}
-use Rattle.blk_format.specs.Hash.{hash}
-use Rattle.blk_format.specs.Headers.{bucket_of, this_id_of}
-use Rattle.blk_format.specs.Records.{child, entry_is_sealed, entry_normal, node_is_sealed}
+use Rattle.spec_format.specs.Address.{blocks_256, external, file_selector, first_block, kind_of, rankings}
+use Rattle.spec_format.specs.BlockFiles.{is_among}
+use Rattle.spec_format.specs.Claims.{BlockOf, Claim, claims_of, claims_of_all, has_claim, repeats}
+use Rattle.spec_format.specs.Hash.{hash}
+use Rattle.spec_format.specs.Headers.{bucket_of, this_id_of}
+use Rattle.spec_format.specs.Records.{child, entry_is_sealed, entry_normal, node_is_sealed}
 use Rattle.blk_addr.proofs.AddressFields.{block_count_above_0}
-use Rattle.blk_volume.specs.Chains.{bucket_of_hash, bucket_at, chain, file_and_block}
-use Rattle.blk_volume.specs.Entries.{stored_key}
-use Rattle.blk_volume.specs.Footprint.{IsClear, IsFree, SameBut}
-use Rattle.blk_volume.specs.Layout.{IsListedRecord, Layout, Represents, rule_of}
-use Rattle.blk_volume.specs.ListView.{most_nodes}
-use Rattle.blk_volume.specs.Loads.{Loaded, all_claims, is_part_role, load, record_claims, unchained_rule}
-use Rattle.blk_volume.specs.Searches.{HasKey, IsWholeChain, bucket_of_key}
-use Rattle.blk_volume.specs.ShownChanges.{ShowsTheSame}
-use Rattle.blk_volume.specs.Sound.{words_of}
-use Rattle.blk_volume.specs.View.{View, list_of, stands_as, store_of, view_of}
-use Rattle.blk_laws.proofs.chains.ChainWords.{same-file, same-first}
-use Rattle.blk_laws.proofs.chains.Searches.{found-live, searchable}
-use Rattle.blk_laws.proofs.claims.Allocations.{flat_map-append, repeats-head, words-claims}
-use Rattle.blk_laws.proofs.claims.ByteChanges.{block-claim}
-use Rattle.blk_laws.proofs.claims.ClaimLists.{claim-append, contents-claims}
-use Rattle.blk_laws.proofs.claims.Outside.{clear-at, clear-chain, load-outside, represents-outside}
-use Rattle.blk_laws.proofs.updates.StillShown.{standing-parts}
-use Rattle.blk_laws.proofs.walks.Loads.{load-then}
-use Rattle.blk_laws.proofs.walks.Shown.{node-is, role-part}
+use Rattle.spec_folder.specs.Chains.{bucket_of_hash, bucket_at, chain, file_and_block}
+use Rattle.spec_folder.specs.Entries.{stored_key}
+use Rattle.spec_folder.specs.Footprint.{IsClear, IsFree, SameBut}
+use Rattle.spec_folder.specs.Layout.{IsListedRecord, Layout, Represents, rule_of}
+use Rattle.spec_folder.specs.ListView.{most_nodes}
+use Rattle.spec_folder.specs.Loads.{Loaded, all_claims, is_part_role, load, record_claims, unchained_rule}
+use Rattle.spec_folder.specs.Searches.{HasKey, IsWholeChain, bucket_of_key}
+use Rattle.spec_folder.specs.ShownChanges.{ShowsTheSame}
+use Rattle.spec_folder.specs.Sound.{words_of}
+use Rattle.spec_folder.specs.View.{View, list_of, stands_as, store_of, view_of}
+use Rattle.law_folder.proofs.chains.ChainWords.{same-file, same-first}
+use Rattle.law_folder.proofs.chains.Searches.{found-live, searchable}
+use Rattle.law_folder.proofs.claims.Allocations.{flat_map-append, repeats-head, words-claims}
+use Rattle.law_folder.proofs.claims.ByteChanges.{block-claim}
+use Rattle.law_folder.proofs.claims.ClaimLists.{claim-append, contents-claims}
+use Rattle.law_folder.proofs.claims.Outside.{clear-at, clear-chain, load-outside, represents-outside}
+use Rattle.law_folder.proofs.updates.StillShown.{standing-parts}
+use Rattle.law_folder.proofs.walks.Loads.{load-then}
+use Rattle.law_folder.proofs.walks.Shown.{node-is, role-part}
 use Rattle.blk_disk.specs.declared.tables.BlockFiles.{BlockFiles}
 use Rattle.blk_disk.specs.Tables.{Agrees}
 use Rattle.blk_entry.specs.declared.writing.NewEntry.{NewEntry}
 use Rattle.blk_entry.specs.Writing.{AreWords, FitsKey, IsShownNew, IsWritten, WritesEntryInProgress, loaded_new, new_node, new_record}
 use Rattle.blk_chain.specs.Linking.{CanBeLinked, chained_with}
-use Rattle.blk_kept.specs.Changes.{ChangesOnly}
-use Rattle.blk_kept.specs.Keeping.{KeepsUncounted}
-use Rattle.blk_kept.specs.NewEntryLaws.{IsInsertDone, IsNewEntryOf}
-use Rattle.blk_kept.proofs.Free.{standing-at}
-use Rattle.blk_kept.proofs.NewEntries.{bucket-is}
+use Rattle.law_state.specs.Changes.{ChangesOnly}
+use Rattle.law_state.specs.Keeping.{KeepsUncounted}
+use Rattle.law_state.specs.NewEntryLaws.{IsInsertDone, IsNewEntryOf}
+use Rattle.law_state.proofs.Free.{standing-at}
+use Rattle.law_state.proofs.NewEntries.{bucket-is}
 use Rattle.blk_object.specs.KeptEntries.{WrittenEntriesAreNew}
 use Rattle.blk_object.specs.KeptMarks.{NewRecordsCanBeLinked}
 use Rattle.blk_object.proofs.KeptEntries.{change-own, places-spare}

@@ -6,9 +6,9 @@ use Rattle.blk_model.specs.Refusals.{evicted, refusals, refused}
 use Rattle.blk_model.specs.Request.{to_create}
 use Rattle.blk_model.specs.State.{IsValidState, State, live_with}
 use Rattle.blk_model.proofs.Steps.{none_comes, step_valid}
-use Rattle.blk_kept.specs.CommandStates.{with_room}
-use Rattle.blk_kept.proofs.CommandEnding.{creates-end}
-use Rattle.blk_kept.proofs.RestsOfCommands.{rests-pass}
+use Rattle.law_state.specs.CommandStates.{with_room}
+use Rattle.law_state.proofs.CommandEnding.{creates-end}
+use Rattle.law_state.proofs.RestsOfCommands.{rests-pass}
 use Rattle.blk_object.specs.Making.{CreatesCanHaveNew}
 
 none-there : (o : Option ℕ) → is_some o ≡ false → o ≡ None

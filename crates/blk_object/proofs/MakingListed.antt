@@ -3,25 +3,25 @@ use Rattle.std.proofs.Common.{◌≡◌, ◌⊎◌, ℕ, List, ◌∷◌, ◌++�
 use Rattle.std.specs.Prelude.{◌==◌}
 use Rattle.std.specs.Option.{ForSome, option_map}
 use Rattle.std.proofs.lemmas.Bool.{and_parts, eqb-true}
-use Rattle.blk_image.specs.Image.{Image}
-use Rattle.blk_image.specs.Steps.{TrailStep, after}
-use Rattle.blk_image.specs.Told.{Applies, Commits, MakesPartOf, Passes, TellsBytes, Told}
-use Rattle.blk_image.proofs.Runs.{passes_end, passes_then, passes_weaker, some_inj}
-use Rattle.blk_format.specs.Address.{blocks_256, is_address, kind_of}
+use Rattle.spec_image.specs.Image.{Image}
+use Rattle.spec_image.specs.Steps.{TrailStep, after}
+use Rattle.spec_image.specs.Told.{Applies, Commits, MakesPartOf, Passes, TellsBytes, Told}
+use Rattle.spec_image.proofs.Runs.{passes_end, passes_then, passes_weaker, some_inj}
+use Rattle.spec_format.specs.Address.{blocks_256, is_address, kind_of}
 use Rattle.blk_disk.specs.declared.tables.BlockFiles.{BlockFiles}
 use Rattle.blk_disk.specs.Open.{IsOpen}
 use Rattle.blk_disk.specs.Tables.{is_record_among, names_among, stands_among}
-use Rattle.blk_volume.specs.Completion.{insert}
-use Rattle.blk_volume.specs.ListImages.{operation_steps, walked}
-use Rattle.blk_volume.specs.ListPlans.{writes_of}
-use Rattle.blk_volume.specs.ListSteps.{IsPartly}
-use Rattle.blk_volume.specs.ListView.{CanBeInserted}
-use Rattle.blk_volume.specs.Sound.{words_of}
-use Rattle.blk_volume.specs.View.{list_of}
+use Rattle.spec_folder.specs.Completion.{insert}
+use Rattle.spec_folder.specs.ListImages.{operation_steps, walked}
+use Rattle.spec_folder.specs.ListPlans.{writes_of}
+use Rattle.spec_folder.specs.ListSteps.{IsPartly}
+use Rattle.spec_folder.specs.ListView.{CanBeInserted}
+use Rattle.spec_folder.specs.Sound.{words_of}
+use Rattle.spec_folder.specs.View.{list_of}
 use Rattle.blk_lru.specs.Moments.{IsMidOperation}
 use Rattle.blk_chain.specs.Linking.{CanBeLinked, IsLinkedInFront}
-use Rattle.blk_kept.specs.NewEntryLaws.{HasRecordInFront, IsInsertDone}
-use Rattle.blk_kept.proofs.NewEntries.{entries-kept, inserts-find, links-find}
+use Rattle.law_state.specs.NewEntryLaws.{HasRecordInFront, IsInsertDone}
+use Rattle.law_state.proofs.NewEntries.{entries-kept, inserts-find, links-find}
 use Rattle.blk_object.proofs.KeptLists.{inserts-done, new-can-be}
 use Rattle.blk_object.proofs.KeptMarks.{come-in-front, in-front}
 use Rattle.blk_object.proofs.KeptNewEntries.{new-can-be-linked}

@@ -3,27 +3,27 @@ use Rattle.std.proofs.Common.{◌≡◌, ℕ, ◌+◌, ◌%◌, ◌<◌, List, [
 use Rattle.std.specs.Prelude.{◌==◌}
 use Rattle.std.specs.Option.{ForSome}
 use Rattle.std.proofs.lemmas.Bool.{eq-eqb}
-use Rattle.blk_image.specs.Image.{Image, Index, byte}
-use Rattle.blk_image.specs.Told.{Passes, Told}
-use Rattle.blk_image.proofs.Runs.{passes_end, passes_none, passes_then, passes_weaker, some_inj}
-use Rattle.blk_format.specs.Address.{is_address, kind_of}
-use Rattle.blk_format.specs.Headers.{this_id_of}
+use Rattle.spec_image.specs.Image.{Image, Index, byte}
+use Rattle.spec_image.specs.Told.{Passes, Told}
+use Rattle.spec_image.proofs.Runs.{passes_end, passes_none, passes_then, passes_weaker, some_inj}
+use Rattle.spec_format.specs.Address.{is_address, kind_of}
+use Rattle.spec_format.specs.Headers.{this_id_of}
 use Rattle.blk_disk.specs.declared.tables.BlockFiles.{BlockFiles}
 use Rattle.blk_disk.specs.Tables.{names_among, stands_among}
-use Rattle.blk_laws.specs.IndexWrites.{IsIndexWord}
+use Rattle.law_folder.specs.IndexWrites.{IsIndexWord}
 use Rattle.blk_model.specs.Effects.{created}
 use Rattle.blk_model.specs.State.{State}
-use Rattle.blk_volume.specs.Creation.{with_new}
-use Rattle.blk_volume.specs.Layout.{Layout}
-use Rattle.blk_volume.specs.Loads.{Loaded}
-use Rattle.blk_volume.specs.Sound.{words_of}
-use Rattle.blk_kept.specs.Changes.{KeepsWith, StillFinds}
-use Rattle.blk_kept.specs.CounterLaws.{counted_bytes}
-use Rattle.blk_kept.specs.Keeping.{Keeps, KeepsUncounted}
-use Rattle.blk_kept.specs.NewEntryLaws.{IsOneMore}
-use Rattle.blk_kept.proofs.Counters.{counters-count}
-use Rattle.blk_kept.proofs.Free.{then-found}
-use Rattle.blk_kept.proofs.NewEntries.{one-more}
+use Rattle.spec_folder.specs.Creation.{with_new}
+use Rattle.spec_folder.specs.Layout.{Layout}
+use Rattle.spec_folder.specs.Loads.{Loaded}
+use Rattle.spec_folder.specs.Sound.{words_of}
+use Rattle.law_state.specs.Changes.{KeepsWith, StillFinds}
+use Rattle.law_state.specs.CounterLaws.{counted_bytes}
+use Rattle.law_state.specs.Keeping.{Keeps, KeepsUncounted}
+use Rattle.law_state.specs.NewEntryLaws.{IsOneMore}
+use Rattle.law_state.proofs.Counters.{counters-count}
+use Rattle.law_state.proofs.Free.{then-found}
+use Rattle.law_state.proofs.NewEntries.{one-more}
 use Rattle.blk_object.specs.declared.making.Made.{Made}
 use Rattle.blk_object.specs.declared.counters.Counters.{Counters}
 use Rattle.blk_object.specs.declared.making_places.Places.{Places}

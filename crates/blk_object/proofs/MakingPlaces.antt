@@ -5,23 +5,23 @@ use Rattle.std.specs.Option.{ForSome}
 use Rattle.std.specs.List.Sorted.{IsPermutation}
 use Rattle.std.proofs.lemmas.Bool.{leb-true}
 use Rattle.std.proofs.lemmas.List.Sorted.{IsPermutation-append_left, IsPermutation-sym, IsPermutation-to_front}
-use Rattle.blk_image.specs.Image.{Image}
-use Rattle.blk_image.specs.Told.{Passes, Told}
-use Rattle.blk_image.proofs.Runs.{passes_then, passes_weaker}
-use Rattle.blk_format.specs.Address.{external, file_selector, kind_of}
-use Rattle.blk_format.specs.Claims.{BlockOf, claims_of, claims_of_all, repeats}
-use Rattle.blk_format.specs.Storage.{entry_blocks}
+use Rattle.spec_image.specs.Image.{Image}
+use Rattle.spec_image.specs.Told.{Passes, Told}
+use Rattle.spec_image.proofs.Runs.{passes_then, passes_weaker}
+use Rattle.spec_format.specs.Address.{external, file_selector, kind_of}
+use Rattle.spec_format.specs.Claims.{BlockOf, claims_of, claims_of_all, repeats}
+use Rattle.spec_format.specs.Storage.{entry_blocks}
 use Rattle.blk_io.proofs.Carried.{untold_where}
 use Rattle.blk_alloc.proofs.Lists.{claims_blocks, once_parts}
 use Rattle.blk_entry.specs.Writing.{LiesApart, ShareNoBlock}
-use Rattle.blk_laws.proofs.claims.ByteChanges.{stands-some}
+use Rattle.law_folder.proofs.claims.ByteChanges.{stands-some}
 use Rattle.blk_stream.proofs.Apart.{blocks_back, none_shared}
 use Rattle.blk_stream.proofs.ShownDrops.{claims-behind, claims-first}
 use Rattle.blk_model.specs.State.{State}
-use Rattle.blk_volume.specs.Layout.{Layout}
-use Rattle.blk_kept.specs.Changes.{StillFinds}
-use Rattle.blk_kept.specs.Keeping.{KeepsUncounted}
-use Rattle.blk_kept.proofs.UnlinkedOrder.{kept-in-any-order}
+use Rattle.spec_folder.specs.Layout.{Layout}
+use Rattle.law_state.specs.Changes.{StillFinds}
+use Rattle.law_state.specs.Keeping.{KeepsUncounted}
+use Rattle.law_state.proofs.UnlinkedOrder.{kept-in-any-order}
 use Rattle.blk_object.specs.Making.{LeavesRoom, Takes, long_word, words_of_places}
 use Rattle.blk_object.specs.declared.making_places.Places.{Places}
 use Rattle.blk_object.proofs.MakingStored.{counters-then, stored-then}

@@ -2,21 +2,21 @@
 use Rattle.std.proofs.Common.{◌≡◌, ℕ, suc, ◌+◌, ◌*◌, ◌<◌, ◌≤◌, List, [], ◌∷◌, length, Option, None, Some, refl, ap, arith, true}
 use Rattle.std.specs.List.{cons_option, filter_map}
 use Rattle.std.proofs.lemmas.Bool.{or_left, or_right}
-use Rattle.blk_image.specs.Image.{Image}
+use Rattle.spec_image.specs.Image.{Image}
 use Rattle.blk_model.specs.Items.{Item, Row, same_item}
 use Rattle.blk_model.specs.Holding.{row_of, rows}
 use Rattle.blk_model.specs.Room.{items}
 use Rattle.blk_model.specs.State.{State}
 use Rattle.blk_model.proofs.Same.{same_item_self}
 use Rattle.blk_model.proofs.Sums.{totals_are_sums}
-use Rattle.blk_format.specs.Address.{is_block_kind}
-use Rattle.blk_volume.specs.Layout.{Layout, is_in}
+use Rattle.spec_format.specs.Address.{is_block_kind}
+use Rattle.spec_folder.specs.Layout.{Layout, is_in}
 use Rattle.blk_disk.specs.declared.tables.BlockFiles.{BlockFiles}
 use Rattle.blk_disk.specs.Tables.{Agrees}
 use Rattle.blk_alloc.specs.Allocating.{AreCounted}
 use Rattle.blk_external.specs.Numbers.{HasFreeNumber}
-use Rattle.blk_kept.specs.Keeping.{KeepsUncounted}
-use Rattle.blk_kept.proofs.Bounds.{leave-room}
+use Rattle.law_state.specs.Keeping.{KeepsUncounted}
+use Rattle.law_state.proofs.Bounds.{leave-room}
 use Rattle.blk_object.proofs.KeptAllocating.{files-counted}
 use Rattle.blk_object.proofs.KeptFreeNumbers.{kept-have-free}
 use Rattle.blk_object.specs.Making.{LeavesRoom}

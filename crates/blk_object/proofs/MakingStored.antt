@@ -4,36 +4,36 @@ use Rattle.std.specs.Prelude.{◌==◌, ◌||◌, is_some}
 use Rattle.std.specs.List.{flat_map}
 use Rattle.std.specs.Option.{ForSome}
 use Rattle.std.proofs.lemmas.Bool.{cases_Bool, eqb-true, or_left, or_right}
-use Rattle.blk_image.specs.Footprint.{SameOutside}
-use Rattle.blk_image.specs.Image.{External, Image, Index, byte, has_file, word}
-use Rattle.blk_image.specs.Steps.{after}
-use Rattle.blk_image.specs.Told.{Applies, Told}
-use Rattle.blk_image.proofs.Footprints.{same_word_outside}
-use Rattle.blk_image.proofs.Runs.{some_inj, told_whole}
-use Rattle.blk_format.specs.Address.{external, external_number, kind_of}
-use Rattle.blk_format.specs.BlockFiles.{is_among}
-use Rattle.blk_format.specs.Claims.{BlockOf, Claim, ExternalOf, claims_of, claims_of_all, has_claim, repeats, same_claim}
-use Rattle.blk_format.specs.Growth.{HaveGrown}
-use Rattle.blk_format.specs.Headers.{num_bytes_of, num_entries_of, sizes_of}
-use Rattle.blk_format.proofs.Among.{is_among-append}
-use Rattle.blk_volume.specs.Footprint.{AgreeBut, IsClear, is_absent}
-use Rattle.blk_volume.specs.Layout.{Layout}
-use Rattle.blk_volume.specs.Sound.{words_of}
-use Rattle.blk_volume.specs.View.{store_of}
+use Rattle.spec_image.specs.Footprint.{SameOutside}
+use Rattle.spec_image.specs.Image.{External, Image, Index, byte, has_file, word}
+use Rattle.spec_image.specs.Steps.{after}
+use Rattle.spec_image.specs.Told.{Applies, Told}
+use Rattle.spec_image.proofs.Footprints.{same_word_outside}
+use Rattle.spec_image.proofs.Runs.{some_inj, told_whole}
+use Rattle.spec_format.specs.Address.{external, external_number, kind_of}
+use Rattle.spec_format.specs.BlockFiles.{is_among}
+use Rattle.spec_format.specs.Claims.{BlockOf, Claim, ExternalOf, claims_of, claims_of_all, has_claim, repeats, same_claim}
+use Rattle.spec_format.specs.Growth.{HaveGrown}
+use Rattle.spec_format.specs.Headers.{num_bytes_of, num_entries_of, sizes_of}
+use Rattle.spec_format.proofs.Among.{is_among-append}
+use Rattle.spec_folder.specs.Footprint.{AgreeBut, IsClear, is_absent}
+use Rattle.spec_folder.specs.Layout.{Layout}
+use Rattle.spec_folder.specs.Sound.{words_of}
+use Rattle.spec_folder.specs.View.{store_of}
 use Rattle.blk_model.specs.State.{State}
 use Rattle.blk_disk.specs.declared.tables.BlockFiles.{BlockFiles}
 use Rattle.blk_alloc.specs.Allocating.{AllocatesIn}
 use Rattle.blk_alloc.proofs.Lists.{once_parts}
 use Rattle.blk_external.specs.Making.{last_number, making, touched_by_making}
 use Rattle.blk_external.specs.Numbers.{IsFirstFree}
-use Rattle.blk_laws.proofs.claims.Allocations.{flat_map-append}
-use Rattle.blk_laws.proofs.claims.ByteChanges.{agreeing-views}
-use Rattle.blk_laws.proofs.claims.ClaimLists.{claim-append}
-use Rattle.blk_laws.proofs.claims.Files.{growth-absent, words-there}
+use Rattle.law_folder.proofs.claims.Allocations.{flat_map-append}
+use Rattle.law_folder.proofs.claims.ByteChanges.{agreeing-views}
+use Rattle.law_folder.proofs.claims.ClaimLists.{claim-append}
+use Rattle.law_folder.proofs.claims.Files.{growth-absent, words-there}
 use Rattle.blk_stream.proofs.Created.{after_making, done_outside}
 use Rattle.blk_stream.proofs.Naming.{apart_place}
-use Rattle.blk_kept.specs.Changes.{AddsExternal, AreOfWords, ChangesOnly, KeepsWith, SameCounters}
-use Rattle.blk_kept.specs.Keeping.{KeepsUncounted, all_loaded}
+use Rattle.law_state.specs.Changes.{AddsExternal, AreOfWords, ChangesOnly, KeepsWith, SameCounters}
+use Rattle.law_state.specs.Keeping.{KeepsUncounted, all_loaded}
 use Rattle.blk_object.specs.Making.{KeepsStored}
 
 -- ---- counters

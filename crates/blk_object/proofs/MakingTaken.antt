@@ -3,20 +3,20 @@ use Rattle.std.proofs.Common.{◌≡◌, ◌≢◌, inl, inr, ℕ, suc, ◌+◌,
 use Rattle.std.specs.Prelude.{◌==◌, is_some, unwrap_or, IsTrue}
 use Rattle.std.specs.Option.{ForSome, option_map}
 use Rattle.std.proofs.lemmas.Bool.{eq-eqb, or_left}
-use Rattle.blk_image.specs.Footprint.{SameOutside, whole}
-use Rattle.blk_image.specs.Bytes.{content, resized}
-use Rattle.blk_image.specs.Image.{Image, Index, bytes_of, has_file, length_of}
-use Rattle.blk_image.specs.Steps.{after}
-use Rattle.blk_image.specs.Told.{Applies, Passes, PassesTo, Told}
-use Rattle.blk_image.proofs.Runs.{passes_end, passes_none, passes_then, passes_weaker, some_inj}
-use Rattle.blk_image.proofs.Splices.{length-resized}
-use Rattle.blk_format.specs.Address.{external, external_number, file_selector, is_address, is_block_kind, kind_of}
-use Rattle.blk_format.specs.BlockFiles.{IsWellFormed}
-use Rattle.blk_format.specs.Claims.{Claim, ExternalOf, claims_of, claims_of_all, has_claim, same_claim}
-use Rattle.blk_format.specs.Growth.{StaysWhole}
-use Rattle.blk_format.specs.Headers.{HasWholeIndex, crash_of, this_id_of}
-use Rattle.blk_format.specs.Storage.{kind_for}
-use Rattle.blk_format.proofs.Finished.{whole_index}
+use Rattle.spec_image.specs.Footprint.{SameOutside, whole}
+use Rattle.spec_image.specs.Bytes.{content, resized}
+use Rattle.spec_image.specs.Image.{Image, Index, bytes_of, has_file, length_of}
+use Rattle.spec_image.specs.Steps.{after}
+use Rattle.spec_image.specs.Told.{Applies, Passes, PassesTo, Told}
+use Rattle.spec_image.proofs.Runs.{passes_end, passes_none, passes_then, passes_weaker, some_inj}
+use Rattle.spec_image.proofs.Splices.{length-resized}
+use Rattle.spec_format.specs.Address.{external, external_number, file_selector, is_address, is_block_kind, kind_of}
+use Rattle.spec_format.specs.BlockFiles.{IsWellFormed}
+use Rattle.spec_format.specs.Claims.{Claim, ExternalOf, claims_of, claims_of_all, has_claim, same_claim}
+use Rattle.spec_format.specs.Growth.{StaysWhole}
+use Rattle.spec_format.specs.Headers.{HasWholeIndex, crash_of, this_id_of}
+use Rattle.spec_format.specs.Storage.{kind_for}
+use Rattle.spec_format.proofs.Finished.{whole_index}
 use Rattle.blk_io.proofs.Carried.{untold_where}
 use Rattle.blk_disk.specs.declared.tables.BlockFiles.{BlockFiles}
 use Rattle.blk_disk.specs.Open.{IsOpen}
@@ -34,13 +34,13 @@ use Rattle.blk_alloc.specs.Extending.{HasItsBlocks, KeepsLinks}
 use Rattle.blk_external.specs.Changes.{ChangesExternal}
 use Rattle.blk_external.specs.Making.{Creates, CreatesInProgress, last_number, making}
 use Rattle.blk_external.specs.Numbers.{HasFreeNumber, IsFirstFree, named_file}
-use Rattle.blk_laws.proofs.claims.ClaimLists.{claim-append, claim-head}
-use Rattle.blk_kept.specs.Changes.{AddsAllocation, AddsExternal, KeepsWith, SameSession, StillFinds}
-use Rattle.blk_kept.proofs.Allocating.{allocated-unlinked}
-use Rattle.blk_kept.proofs.Externals.{making-finds}
-use Rattle.blk_kept.proofs.Free.{then-found, unlinked-change}
-use Rattle.blk_kept.proofs.MakingFiles.{its-claims, made-unlinked}
-use Rattle.blk_kept.proofs.Writes.{external-writes, growth-finds}
+use Rattle.law_folder.proofs.claims.ClaimLists.{claim-append, claim-head}
+use Rattle.law_state.specs.Changes.{AddsAllocation, AddsExternal, KeepsWith, SameSession, StillFinds}
+use Rattle.law_state.proofs.Allocating.{allocated-unlinked}
+use Rattle.law_state.proofs.Externals.{making-finds}
+use Rattle.law_state.proofs.Free.{then-found, unlinked-change}
+use Rattle.law_state.proofs.MakingFiles.{its-claims, made-unlinked}
+use Rattle.law_state.proofs.Writes.{external-writes, growth-finds}
 use Rattle.blk_object.proofs.KeptAllocating.{allocations-add}
 use Rattle.blk_object.proofs.KeptExternalFiles.{creations-add, deletions-find}
 use Rattle.blk_object.specs.Making.{LeavesRoom, Takes}

@@ -5,32 +5,32 @@ use Rattle.std.specs.List.{AllByRecursion}
 use Rattle.std.specs.Option.{ForSome, option_map}
 use Rattle.std.proofs.lemmas.Bool.{and_parts, cases_lt, eqb-true}
 use Rattle.std.proofs.lemmas.Bool.Decides.{nat_tests}
-use Rattle.blk_image.specs.Bytes.{long_at, word_at}
-use Rattle.blk_image.specs.Footprint.{range, touched_by}
-use Rattle.blk_image.specs.Image.{Block, Image, Index, byte, same_file}
-use Rattle.blk_image.specs.Steps.{TrailStep, after, applied, word_step}
-use Rattle.blk_image.proofs.Cuts.{after-append}
-use Rattle.blk_image.proofs.Footprints.{outside_step}
-use Rattle.blk_format.specs.Address.{block_place, block_size, external, file_selector, first_block, is_address, kind_of, place, rankings}
-use Rattle.blk_format.specs.Records.{Entry, Node, entry_in, node_in}
-use Rattle.blk_format.specs.Sealed.{seal_by_kind, seal_place, sealed_steps, update_steps}
-use Rattle.blk_volume.specs.ListSteps.{AreOf, steps_of_writes, write_steps}
-use Rattle.blk_volume.specs.ListView.{Head, ListWrite, Next, Operation, Prev, Tail, Transaction}
-use Rattle.blk_volume.specs.View.{list_of}
-use Rattle.blk_volume.specs.Completion.{insert}
-use Rattle.blk_volume.specs.ListImages.{CanBeMade, operation_steps}
-use Rattle.blk_volume.specs.ListPlans.{writes_of}
-use Rattle.blk_image.specs.Told.{Applies, Told}
-use Rattle.blk_image.proofs.Runs.{some_inj}
-use Rattle.blk_format.specs.BlockFiles.{stands_in, stands_in_blocks}
-use Rattle.blk_format.specs.Standing.{stands}
+use Rattle.spec_image.specs.Bytes.{long_at, word_at}
+use Rattle.spec_image.specs.Footprint.{range, touched_by}
+use Rattle.spec_image.specs.Image.{Block, Image, Index, byte, same_file}
+use Rattle.spec_image.specs.Steps.{TrailStep, after, applied, word_step}
+use Rattle.spec_image.proofs.Cuts.{after-append}
+use Rattle.spec_image.proofs.Footprints.{outside_step}
+use Rattle.spec_format.specs.Address.{block_place, block_size, external, file_selector, first_block, is_address, kind_of, place, rankings}
+use Rattle.spec_format.specs.Records.{Entry, Node, entry_in, node_in}
+use Rattle.spec_format.specs.Sealed.{seal_by_kind, seal_place, sealed_steps, update_steps}
+use Rattle.spec_folder.specs.ListSteps.{AreOf, steps_of_writes, write_steps}
+use Rattle.spec_folder.specs.ListView.{Head, ListWrite, Next, Operation, Prev, Tail, Transaction}
+use Rattle.spec_folder.specs.View.{list_of}
+use Rattle.spec_folder.specs.Completion.{insert}
+use Rattle.spec_folder.specs.ListImages.{CanBeMade, operation_steps}
+use Rattle.spec_folder.specs.ListPlans.{writes_of}
+use Rattle.spec_image.specs.Told.{Applies, Told}
+use Rattle.spec_image.proofs.Runs.{some_inj}
+use Rattle.spec_format.specs.BlockFiles.{stands_in, stands_in_blocks}
+use Rattle.spec_format.specs.Standing.{stands}
 use Rattle.blk_disk.specs.declared.tables.BlockFiles.{BlockFiles}
 use Rattle.blk_disk.specs.Open.{IsOpen}
 use Rattle.blk_disk.specs.Tables.{Agrees, is_node_among, is_record_among, names_among}
 use Rattle.blk_disk.proofs.Ranges.{stands_agree}
-use Rattle.blk_laws.proofs.lists.WriteWords.{weaker}
-use Rattle.blk_laws.proofs.updates.Nodes.{good-stands}
-use Rattle.blk_laws.proofs.updates.StillShown.{elsewhere-by, standing-parts}
+use Rattle.law_folder.proofs.lists.WriteWords.{weaker}
+use Rattle.law_folder.proofs.updates.Nodes.{good-stands}
+use Rattle.law_folder.proofs.updates.StillShown.{elsewhere-by, standing-parts}
 use Rattle.blk_chain.specs.Linking.{link_front_steps, place_of_front}
 use Rattle.blk_entry.specs.declared.writing.NewEntry.{NewEntry}
 use Rattle.blk_entry.specs.Writing.{IsWritten, new_node, new_record}

@@ -4,25 +4,25 @@ use Rattle.std.specs.Prelude.{◌&&◌, ◌==◌, filter, not, unwrap_or}
 use Rattle.std.specs.Option.{ForSome}
 use Rattle.std.proofs.lemmas.Bool.{and_parts}
 use Rattle.std.proofs.lemmas.Bool.Decides.{nat_tests}
-use Rattle.blk_image.specs.Image.{Image, Index, byte}
-use Rattle.blk_image.specs.Told.{Passes, Told}
-use Rattle.blk_image.proofs.Runs.{passes_end, passes_weaker}
-use Rattle.blk_format.specs.Address.{is_address, is_initialized}
-use Rattle.blk_format.specs.Headers.{bucket_of, this_id_of}
-use Rattle.blk_format.specs.Hash.{hash}
-use Rattle.blk_format.specs.Records.{entry_normal}
-use Rattle.blk_format.specs.Storage.{is_storage}
+use Rattle.spec_image.specs.Image.{Image, Index, byte}
+use Rattle.spec_image.specs.Told.{Passes, Told}
+use Rattle.spec_image.proofs.Runs.{passes_end, passes_weaker}
+use Rattle.spec_format.specs.Address.{is_address, is_initialized}
+use Rattle.spec_format.specs.Headers.{bucket_of, this_id_of}
+use Rattle.spec_format.specs.Hash.{hash}
+use Rattle.spec_format.specs.Records.{entry_normal}
+use Rattle.spec_format.specs.Storage.{is_storage}
 use Rattle.blk_disk.specs.declared.tables.BlockFiles.{BlockFiles}
 use Rattle.blk_disk.specs.Tables.{Agrees}
-use Rattle.blk_volume.specs.Loads.{load, unchained_rule}
-use Rattle.blk_volume.specs.Searches.{bucket_of_key}
-use Rattle.blk_volume.specs.Sound.{words_of}
-use Rattle.blk_volume.specs.View.{store_of}
+use Rattle.spec_folder.specs.Loads.{load, unchained_rule}
+use Rattle.spec_folder.specs.Searches.{bucket_of_key}
+use Rattle.spec_folder.specs.Sound.{words_of}
+use Rattle.spec_folder.specs.View.{store_of}
 use Rattle.blk_entry.specs.Keys.{stores}
 use Rattle.blk_entry.specs.Writing.{AreWords, FitsKey, IsLongPlace, IsShownNew, IsWritten, WritesEntryInProgress, loaded_new}
-use Rattle.blk_kept.specs.Changes.{KeepsWith, StillFinds}
-use Rattle.blk_kept.specs.Keeping.{KeepsUncounted}
-use Rattle.blk_kept.proofs.Free.{then-found}
+use Rattle.law_state.specs.Changes.{KeepsWith, StillFinds}
+use Rattle.law_state.specs.Keeping.{KeepsUncounted}
+use Rattle.law_state.proofs.Free.{then-found}
 use Rattle.blk_object.proofs.KeptEntries.{writing-keeps}
 use Rattle.blk_object.proofs.KeptNewEntries.{written-new}
 use Rattle.blk_object.specs.Making.{IsEntryOfKept, new_entry, new_loaded, long_word, words_of_places}

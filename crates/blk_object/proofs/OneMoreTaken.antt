@@ -7,61 +7,61 @@ use Rattle.std.specs.List.Sorted.{IsPermutation}
 use Rattle.std.proofs.lemmas.Bool.{and_parts, cases_Bool, eq-eqb, eqb-true}
 use Rattle.std.proofs.lemmas.Grind.{flat_map-append}
 use Rattle.std.proofs.lemmas.List.Sorted.{IsPermutation-append_right, IsPermutation-trans}
-use Rattle.blk_image.proofs.Footprints.{outside_wider, within_left}
-use Rattle.blk_image.proofs.Runs.{some_inj}
-use Rattle.blk_image.specs.Footprint.{SameOutside}
-use Rattle.blk_image.specs.Image.{Image}
+use Rattle.spec_image.proofs.Footprints.{outside_wider, within_left}
+use Rattle.spec_image.proofs.Runs.{some_inj}
+use Rattle.spec_image.specs.Footprint.{SameOutside}
+use Rattle.spec_image.specs.Image.{Image}
 use Rattle.blk_model.proofs.Same.{one_item, same_item_self}
 use Rattle.blk_model.specs.Items.{Item, same_item}
 use Rattle.blk_model.specs.State.{State}
-use Rattle.blk_format.specs.Address.{blocks_256, rankings}
-use Rattle.blk_format.specs.BlockFiles.{is_among, stands_in}
-use Rattle.blk_format.specs.Claims.{Claim, claims_of, claims_of_all, has_claim, repeats}
-use Rattle.blk_format.specs.Hash.{hash}
-use Rattle.blk_format.specs.Records.{entry_in, entry_is_sealed}
-use Rattle.blk_format.specs.Sealed.{record_range}
-use Rattle.blk_format.specs.Address.{place}
-use Rattle.blk_volume.specs.Chains.{bucket_of_hash}
-use Rattle.blk_volume.specs.Completion.{remove}
-use Rattle.blk_volume.specs.Footprint.{IsOnlyRecord}
-use Rattle.blk_volume.specs.Layout.{HoldsExcept, Layout, is_in, is_listed, nodes_of, rule_of}
-use Rattle.blk_volume.specs.ListPlans.{writes_of}
-use Rattle.blk_volume.specs.ListSteps.{touched_by_writes}
-use Rattle.blk_volume.specs.ListView.{IsAtRest, ListView, ListWrite}
-use Rattle.blk_volume.specs.Loads.{Loaded, all_claims, load}
-use Rattle.blk_volume.specs.Sound.{AreSealed, words_of}
-use Rattle.blk_volume.specs.Tidy.{doomed_nodes, loaded_at}
-use Rattle.blk_volume.specs.View.{list_of, store_of}
-use Rattle.blk_laws.proofs.claims.Allocations.{words-claims, words-stand, join}
-use Rattle.blk_laws.proofs.claims.ByteChanges.{stands-some}
-use Rattle.blk_laws.proofs.claims.ClaimLists.{claim-append, contents-claims, repeats-append, some-claim}
-use Rattle.blk_laws.proofs.commands.Opening.{IsAround, around}
-use Rattle.blk_laws.proofs.commands.Removing.{in-filter}
-use Rattle.blk_laws.proofs.lists.ListCompletions.{listed}
-use Rattle.blk_laws.proofs.lists.WordTurns.{removals-can}
-use Rattle.blk_laws.proofs.states.Laid.{IsNodeOf, node-of}
-use Rattle.blk_laws.proofs.states.OthersHold.{chained-only, more-left_out, others-outside, others-unlinked, records-outside, records-unlinked}
-use Rattle.blk_laws.proofs.states.Tidying.{counter-same, record-bytes, touch_range, touch_sizes, touch_spares}
-use Rattle.blk_laws.proofs.updates.StillShown.{standing-parts}
-use Rattle.blk_kept.specs.Arranging.{LeavesFiles}
-use Rattle.blk_kept.specs.GroupLaws.{gone_nodes, owners_without}
-use Rattle.blk_kept.specs.Keeping.{words_in_use}
-use Rattle.blk_kept.specs.PartlyOut.{KeepsPartlyOut, chains_but, keeps_but, left_nodes}
-use Rattle.blk_kept.specs.PartlyOutStops.{LeavesOtherKeys}
-use Rattle.blk_kept.specs.RemovalLaws.{IsRemovalDone, IsUnlinking}
-use Rattle.blk_kept.specs.Changes.{Finds}
-use Rattle.blk_kept.proofs.OneMoreOut.{files-alike}
-use Rattle.blk_kept.proofs.WordStops.{out-doomed}
+use Rattle.spec_format.specs.Address.{blocks_256, rankings}
+use Rattle.spec_format.specs.BlockFiles.{is_among, stands_in}
+use Rattle.spec_format.specs.Claims.{Claim, claims_of, claims_of_all, has_claim, repeats}
+use Rattle.spec_format.specs.Hash.{hash}
+use Rattle.spec_format.specs.Records.{entry_in, entry_is_sealed}
+use Rattle.spec_format.specs.Sealed.{record_range}
+use Rattle.spec_format.specs.Address.{place}
+use Rattle.spec_folder.specs.Chains.{bucket_of_hash}
+use Rattle.spec_folder.specs.Completion.{remove}
+use Rattle.spec_folder.specs.Footprint.{IsOnlyRecord}
+use Rattle.spec_folder.specs.Layout.{HoldsExcept, Layout, is_in, is_listed, nodes_of, rule_of}
+use Rattle.spec_folder.specs.ListPlans.{writes_of}
+use Rattle.spec_folder.specs.ListSteps.{touched_by_writes}
+use Rattle.spec_folder.specs.ListView.{IsAtRest, ListView, ListWrite}
+use Rattle.spec_folder.specs.Loads.{Loaded, all_claims, load}
+use Rattle.spec_folder.specs.Sound.{AreSealed, words_of}
+use Rattle.spec_folder.specs.Tidy.{doomed_nodes, loaded_at}
+use Rattle.spec_folder.specs.View.{list_of, store_of}
+use Rattle.law_folder.proofs.claims.Allocations.{words-claims, words-stand, join}
+use Rattle.law_folder.proofs.claims.ByteChanges.{stands-some}
+use Rattle.law_folder.proofs.claims.ClaimLists.{claim-append, contents-claims, repeats-append, some-claim}
+use Rattle.law_folder.proofs.commands.Opening.{IsAround, around}
+use Rattle.law_folder.proofs.commands.Removing.{in-filter}
+use Rattle.law_folder.proofs.lists.ListCompletions.{listed}
+use Rattle.law_folder.proofs.lists.WordTurns.{removals-can}
+use Rattle.law_folder.proofs.states.Laid.{IsNodeOf, node-of}
+use Rattle.law_folder.proofs.states.OthersHold.{chained-only, more-left_out, others-outside, others-unlinked, records-outside, records-unlinked}
+use Rattle.law_folder.proofs.states.Tidying.{counter-same, record-bytes, touch_range, touch_sizes, touch_spares}
+use Rattle.law_folder.proofs.updates.StillShown.{standing-parts}
+use Rattle.law_state.specs.Arranging.{LeavesFiles}
+use Rattle.law_state.specs.GroupLaws.{gone_nodes, owners_without}
+use Rattle.law_state.specs.Keeping.{words_in_use}
+use Rattle.law_state.specs.PartlyOut.{KeepsPartlyOut, chains_but, keeps_but, left_nodes}
+use Rattle.law_state.specs.PartlyOutStops.{LeavesOtherKeys}
+use Rattle.law_state.specs.RemovalLaws.{IsRemovalDone, IsUnlinking}
+use Rattle.law_state.specs.Changes.{Finds}
+use Rattle.law_state.proofs.OneMoreOut.{files-alike}
+use Rattle.law_state.proofs.WordStops.{out-doomed}
 use Rattle.blk_model.specs.Effects.{doomed}
 use Rattle.blk_model.specs.Holding.{rest}
 use Rattle.blk_model.specs.State.{Object, object_at}
-use Rattle.blk_kept.proofs.NextOut as next
-use Rattle.blk_kept.proofs.Free.{AreStanding, session-same, standing-loaded}
-use Rattle.blk_kept.proofs.Groups as groups
-use Rattle.blk_kept.proofs.Headers.{files-same, stand-same}
-use Rattle.blk_kept.proofs.Leaving.{leaves-files, leaves-then}
-use Rattle.blk_kept.proofs.Removals.{from-filtered, in-filtered}
-use Rattle.blk_kept.proofs.Touched.{node-to-front, to-front, words_at}
+use Rattle.law_state.proofs.NextOut as next
+use Rattle.law_state.proofs.Free.{AreStanding, session-same, standing-loaded}
+use Rattle.law_state.proofs.Groups as groups
+use Rattle.law_state.proofs.Headers.{files-same, stand-same}
+use Rattle.law_state.proofs.Leaving.{leaves-files, leaves-then}
+use Rattle.law_state.proofs.Removals.{from-filtered, in-filtered}
+use Rattle.law_state.proofs.Touched.{node-to-front, to-front, words_at}
 
 module _ (state : State) (layout : Layout) (keep : Item → Bool) (chains : ℕ → List ℕ) (unlinked : List ℕ) (item : Item) (was : Loaded) (from between image : Image) (k : KeepsPartlyOut state layout keep chains unlinked from) (there : is_listed state item ≡ true) (stays : keep item ≡ true)
     (here : layout.at (layout.place item) ≡ Some was) (unlisted : IsRemovalDone from (layout.place item) between) (unlinking : IsUnlinking (record layout { chains = chains }) (chains_but chains was.contents) between image) where

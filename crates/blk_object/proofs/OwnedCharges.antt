@@ -4,18 +4,18 @@ use Rattle.std.specs.Prelude.{◌==◌, ◌&&◌, nat_le, not, slice_index, if�
 use Rattle.std.specs.List.{sum_by}
 use Rattle.std.specs.Option.{option_and_then, option_map}
 use Rattle.std.proofs.lemmas.Bool.{eqb-true}
-use Rattle.blk_image.specs.Bytes.{range_at}
-use Rattle.blk_image.specs.Image.{External, Image, byte, length_of}
-use Rattle.blk_image.proofs.Words.{length-range}
-use Rattle.blk_format.specs.Address.{external, external_number, kind_of, place}
-use Rattle.blk_format.specs.BlockFiles.{stands_in}
-use Rattle.blk_format.specs.Storage.{is_storage}
-use Rattle.blk_volume.specs.Entries.{stored_key, stored_stream, stored_streams, stream}
-use Rattle.blk_volume.specs.Found.{charge_of}
-use Rattle.blk_volume.specs.Loads.{Loaded}
-use Rattle.blk_volume.specs.View.{RecordFields, address_of, block_bytes, data_size_of, entry_at, fields_of, key_place_at, store_of, stored_at}
-use Rattle.blk_laws.proofs.chains.ChainWords.{shown-fields}
-use Rattle.blk_laws.proofs.walks.Loads.{load-then}
+use Rattle.spec_image.specs.Bytes.{range_at}
+use Rattle.spec_image.specs.Image.{External, Image, byte, length_of}
+use Rattle.spec_image.proofs.Words.{length-range}
+use Rattle.spec_format.specs.Address.{external, external_number, kind_of, place}
+use Rattle.spec_format.specs.BlockFiles.{stands_in}
+use Rattle.spec_format.specs.Storage.{is_storage}
+use Rattle.spec_folder.specs.Entries.{stored_key, stored_stream, stored_streams, stream}
+use Rattle.spec_folder.specs.Found.{charge_of}
+use Rattle.spec_folder.specs.Loads.{Loaded}
+use Rattle.spec_folder.specs.View.{RecordFields, address_of, block_bytes, data_size_of, entry_at, fields_of, key_place_at, store_of, stored_at}
+use Rattle.law_folder.proofs.chains.ChainWords.{shown-fields}
+use Rattle.law_folder.proofs.walks.Loads.{load-then}
 use Rattle.blk_entry.specs.declared.keys.Head.{Head}
 use Rattle.blk_entry.specs.Keys.{IsRecordHead}
 use Rattle.blk_object.specs.Owning.{LoadsWith}

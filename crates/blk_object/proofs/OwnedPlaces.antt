@@ -4,31 +4,31 @@ use Rattle.std.specs.Prelude.{◌==◌, ◌&&◌, ◌||◌, filter, not, slice_i
 use Rattle.std.specs.List.{AllByRecursion, cons_option}
 use Rattle.std.specs.Option.{ForSome}
 use Rattle.std.proofs.lemmas.Bool.{and_parts, cases_Bool, eq-eqb, eqb-true}
-use Rattle.blk_image.specs.Bytes.{words_at as words_in}
-use Rattle.blk_image.specs.Image.{AreBytes, Image}
-use Rattle.blk_image.specs.Told.{Told}
-use Rattle.blk_format.specs.Address.{blocks_256, external, is_address, kind_of}
-use Rattle.blk_format.specs.BlockFiles.{stands_in}
-use Rattle.blk_format.specs.Records.{entry_in}
-use Rattle.blk_format.specs.Sealed.{RecordChecks}
-use Rattle.blk_format.specs.Standing.{stands}
-use Rattle.blk_volume.specs.Entries.{stored_streams}
-use Rattle.blk_volume.specs.Found.{charge_of}
-use Rattle.blk_volume.specs.Layout.{rule_of}
-use Rattle.blk_volume.specs.Loads.{Loaded}
-use Rattle.blk_volume.specs.Sound.{words_of}
-use Rattle.blk_volume.specs.View.{RecordFields, StoreView, address_of, data_size_of, entry_at, fields_of, store_of}
-use Rattle.blk_laws.proofs.chains.ChainWords.{record_checks, shown-fields}
-use Rattle.blk_laws.proofs.claims.Allocations.{words-stand}
-use Rattle.blk_laws.proofs.claims.ByteChanges.{not_equal, stands-some}
-use Rattle.blk_laws.proofs.updates.StillShown.{core-standing, standing-parts}
-use Rattle.blk_laws.proofs.walks.Loads.{load-then}
+use Rattle.spec_image.specs.Bytes.{words_at as words_in}
+use Rattle.spec_image.specs.Image.{AreBytes, Image}
+use Rattle.spec_image.specs.Told.{Told}
+use Rattle.spec_format.specs.Address.{blocks_256, external, is_address, kind_of}
+use Rattle.spec_format.specs.BlockFiles.{stands_in}
+use Rattle.spec_format.specs.Records.{entry_in}
+use Rattle.spec_format.specs.Sealed.{RecordChecks}
+use Rattle.spec_format.specs.Standing.{stands}
+use Rattle.spec_folder.specs.Entries.{stored_streams}
+use Rattle.spec_folder.specs.Found.{charge_of}
+use Rattle.spec_folder.specs.Layout.{rule_of}
+use Rattle.spec_folder.specs.Loads.{Loaded}
+use Rattle.spec_folder.specs.Sound.{words_of}
+use Rattle.spec_folder.specs.View.{RecordFields, StoreView, address_of, data_size_of, entry_at, fields_of, store_of}
+use Rattle.law_folder.proofs.chains.ChainWords.{record_checks, shown-fields}
+use Rattle.law_folder.proofs.claims.Allocations.{words-stand}
+use Rattle.law_folder.proofs.claims.ByteChanges.{not_equal, stands-some}
+use Rattle.law_folder.proofs.updates.StillShown.{core-standing, standing-parts}
+use Rattle.law_folder.proofs.walks.Loads.{load-then}
 use Rattle.blk_disk.specs.declared.tables.BlockFiles.{BlockFiles}
 use Rattle.blk_disk.specs.Tables.{Agrees, stands_among}
 use Rattle.blk_entry.proofs.KeyPlaces.{blocks_stand}
 use Rattle.blk_entry.specs.declared.keys.Head.{Head}
 use Rattle.blk_entry.specs.Keys.{IsRecordHead}
-use Rattle.blk_kept.proofs.Groups as groups
+use Rattle.law_state.proofs.Groups as groups
 use Rattle.blk_object.specs.Freeing.{words_at}
 use Rattle.blk_object.specs.Owning.{KeptNodesLoad, LeftNodesLoad, LoadsWith, is_there}
 use Rattle.blk_object.specs.RemovingObjects.{IsOwnedBy}

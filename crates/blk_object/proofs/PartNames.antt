@@ -6,20 +6,20 @@ use Rattle.std.specs.Option.{option_and_then, option_map}
 use Rattle.std.proofs.lemmas.Bool.{and_from, and_parts, eqb-true}
 use Rattle.std.proofs.lemmas.Bool.Decides.{nat_tests}
 use Rattle.std.proofs.lemmas.List.{take_all}
-use Rattle.blk_image.specs.Image.{External, Image, has_file}
-use Rattle.blk_image.proofs.Runs.{some_inj}
-use Rattle.blk_format.specs.Address.{blocks_256, external, external_number, is_address, kind_of}
-use Rattle.blk_format.specs.BlockFiles.{stands_in, stands_in_blocks}
-use Rattle.blk_format.specs.Names.{IsName, Name, colon, hexadecimal, name_head, read_name}
-use Rattle.blk_format.specs.Records.{child, node_in, parent}
-use Rattle.blk_format.specs.Standing.{stands}
-use Rattle.blk_format.specs.SparseIndex.{ParentIndex, PartIndex, read_parent_index, read_part_index}
-use Rattle.blk_volume.specs.Entries.{IsParent, IsPart, IsPlain, Role, is_covered, is_key_length, longest_key_with, parent_role, part_role, role_of, stored_key, stream}
-use Rattle.blk_volume.specs.Loads.{Loaded}
-use Rattle.blk_volume.specs.View.{NodeFields, RecordFields, node_at, node_fields_at, stands_as, store_of}
-use Rattle.blk_laws.proofs.chains.ChainWords.{shown-fields}
-use Rattle.blk_laws.proofs.updates.StillShown.{core-standing}
-use Rattle.blk_laws.proofs.walks.Loads.{load-then}
+use Rattle.spec_image.specs.Image.{External, Image, has_file}
+use Rattle.spec_image.proofs.Runs.{some_inj}
+use Rattle.spec_format.specs.Address.{blocks_256, external, external_number, is_address, kind_of}
+use Rattle.spec_format.specs.BlockFiles.{stands_in, stands_in_blocks}
+use Rattle.spec_format.specs.Names.{IsName, Name, colon, hexadecimal, name_head, read_name}
+use Rattle.spec_format.specs.Records.{child, node_in, parent}
+use Rattle.spec_format.specs.Standing.{stands}
+use Rattle.spec_format.specs.SparseIndex.{ParentIndex, PartIndex, read_parent_index, read_part_index}
+use Rattle.spec_folder.specs.Entries.{IsParent, IsPart, IsPlain, Role, is_covered, is_key_length, longest_key_with, parent_role, part_role, role_of, stored_key, stream}
+use Rattle.spec_folder.specs.Loads.{Loaded}
+use Rattle.spec_folder.specs.View.{NodeFields, RecordFields, node_at, node_fields_at, stands_as, store_of}
+use Rattle.law_folder.proofs.chains.ChainWords.{shown-fields}
+use Rattle.law_folder.proofs.updates.StillShown.{core-standing}
+use Rattle.law_folder.proofs.walks.Loads.{load-then}
 use Rattle.blk_disk.specs.declared.tables.BlockFiles.{BlockFiles}
 use Rattle.blk_disk.specs.Tables.{Agrees, is_record_among, names_among, stands_among}
 use Rattle.blk_disk.proofs.Ranges.{stands_agree}

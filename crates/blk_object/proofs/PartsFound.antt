@@ -2,24 +2,24 @@
 use Rattle.std.proofs.Common.{◌≡◌, ℕ, List, ap, sym, ◌∙◌, subst, true, Some, Ok}
 use Rattle.std.specs.Prelude.{◌==◌, ◌&&◌}
 use Rattle.std.proofs.lemmas.Bool.{and_parts, eqb-true}
-use Rattle.blk_image.proofs.Runs.{some_inj}
+use Rattle.spec_image.proofs.Runs.{some_inj}
 use Rattle.blk_model.specs.Items.{item_of, part}
-use Rattle.blk_format.specs.Names.{Name, child_name, read_name}
-use Rattle.blk_format.specs.SparseIndex.{PartIndex}
-use Rattle.blk_format.proofs.NameLemmas.{reads_names}
+use Rattle.spec_format.specs.Names.{Name, child_name, read_name}
+use Rattle.spec_format.specs.SparseIndex.{PartIndex}
+use Rattle.spec_format.proofs.NameLemmas.{reads_names}
 use Rattle.std.specs.Str.{bytes_eq}
-use Rattle.blk_volume.specs.Audit.{is_parent_role}
-use Rattle.blk_laws.proofs.walks.Shown.{role-name}
-use Rattle.blk_volume.specs.Entries.{IsParent, IsPart, Role, role_of}
-use Rattle.blk_volume.specs.Found.{row_with}
-use Rattle.blk_volume.specs.Layout.{IsPartAt, IsPlacedAt, rule_of}
-use Rattle.blk_volume.specs.Loads.{Loaded, load}
-use Rattle.blk_volume.specs.View.{store_of}
-use Rattle.blk_laws.proofs.states.Laid.{item-row}
-use Rattle.blk_laws.proofs.walks.Loads.{load-then}
+use Rattle.spec_folder.specs.Audit.{is_parent_role}
+use Rattle.law_folder.proofs.walks.Shown.{role-name}
+use Rattle.spec_folder.specs.Entries.{IsParent, IsPart, Role, role_of}
+use Rattle.spec_folder.specs.Found.{row_with}
+use Rattle.spec_folder.specs.Layout.{IsPartAt, IsPlacedAt, rule_of}
+use Rattle.spec_folder.specs.Loads.{Loaded, load}
+use Rattle.spec_folder.specs.View.{store_of}
+use Rattle.law_folder.proofs.states.Laid.{item-row}
+use Rattle.law_folder.proofs.walks.Loads.{load-then}
 use Rattle.blk_chain.specs.declared.found.Found.{Found}
 use Rattle.blk_object.proofs.FoundLeft.{left-found}
-use Rattle.blk_kept.proofs.Groups as groups
+use Rattle.law_state.proofs.Groups as groups
 use Rattle.blk_object.specs.ListedParts.{FoundNamesAreTheParts, PartsHaveTheirNames}
 
 pub names-find-parts : FoundNamesAreTheParts

@@ -6,21 +6,21 @@ use Rattle.std.proofs.lemmas.Bool.{and_from, and_parts, cases_Bool}
 use Rattle.blk_model.specs.Items.{Item, key_of, main, part, same_item}
 use Rattle.blk_model.specs.State.{State}
 use Rattle.blk_model.proofs.Same.{bytes_eq_self, one_item, same_bytes, same_item_self}
-use Rattle.blk_volume.specs.Layout.{Layout, is_in, is_listed, nodes_of}
-use Rattle.blk_volume.specs.Removal.{is_of_another}
-use Rattle.blk_volume.specs.Chains.{Chain}
-use Rattle.blk_volume.specs.Searches.{bucket_of_key, chained_for}
-use Rattle.blk_volume.specs.View.{store_of}
-use Rattle.blk_format.specs.Hash.{hash}
+use Rattle.spec_folder.specs.Layout.{Layout, is_in, is_listed, nodes_of}
+use Rattle.spec_folder.specs.Removal.{is_of_another}
+use Rattle.spec_folder.specs.Chains.{Chain}
+use Rattle.spec_folder.specs.Searches.{bucket_of_key, chained_for}
+use Rattle.spec_folder.specs.View.{store_of}
+use Rattle.spec_format.specs.Hash.{hash}
 use Rattle.std.proofs.lemmas.Nat.{mod_below}
-use Rattle.blk_laws.proofs.chains.Chains.{chain-is}
-use Rattle.blk_laws.proofs.commands.Opening.{in-append}
-use Rattle.blk_laws.proofs.commands.Removing.{in-filter}
+use Rattle.law_folder.proofs.chains.Chains.{chain-is}
+use Rattle.law_folder.proofs.commands.Opening.{in-append}
+use Rattle.law_folder.proofs.commands.Removing.{in-filter}
 use Rattle.blk_chain.specs.Unlinking.{StandsBehind}
-use Rattle.blk_kept.specs.CountsOfParts.{charges_at}
-use Rattle.blk_kept.specs.PartlyOutStops.{LeavesOtherKeys}
-use Rattle.blk_kept.proofs.PartlyOut.{only-listed}
-use Rattle.blk_kept.proofs.Removals.{filter-alike}
+use Rattle.law_state.specs.CountsOfParts.{charges_at}
+use Rattle.law_state.specs.PartlyOutStops.{LeavesOtherKeys}
+use Rattle.law_state.proofs.PartlyOut.{only-listed}
+use Rattle.law_state.proofs.Removals.{filter-alike}
 use Rattle.blk_object.specs.ListedParts.{AreSearched, FirstPartsLieNext, FoundPartsLieNext, HaveNoPart, NoPartsLeftAreAllOut, is_part_of}
 
 -- ---- none is left

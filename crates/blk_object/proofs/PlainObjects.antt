@@ -10,12 +10,12 @@ use Rattle.blk_model.proofs.Chosen.{Owner, has_owner, owned_at}
 use Rattle.blk_model.proofs.Doomed.{state_doomed}
 use Rattle.blk_model.proofs.States.{has_main}
 use Rattle.blk_model.proofs.StopRests.{owner_live}
-use Rattle.blk_volume.specs.Layout.{is_listed}
-use Rattle.blk_volume.specs.Removal.{is_of_another, without_items}
-use Rattle.blk_laws.proofs.claims.Owner.{its-key}
-use Rattle.blk_laws.proofs.commands.Touches.{in-times}
-use Rattle.blk_kept.specs.RemovalLaws.{IsWithout}
-use Rattle.blk_kept.proofs.ChangedStates.{unheld-go}
+use Rattle.spec_folder.specs.Layout.{is_listed}
+use Rattle.spec_folder.specs.Removal.{is_of_another, without_items}
+use Rattle.law_folder.proofs.claims.Owner.{its-key}
+use Rattle.law_folder.proofs.commands.Touches.{in-times}
+use Rattle.law_state.specs.RemovalLaws.{IsWithout}
+use Rattle.law_state.proofs.ChangedStates.{unheld-go}
 use Rattle.blk_object.specs.RemovingObjects.{PlainObjectsGoAlone}
 
 -- an object without parts has no part

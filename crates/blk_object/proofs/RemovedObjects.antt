@@ -2,22 +2,22 @@
 use Rattle.std.proofs.Common.{◌≡◌, inl, inr, ℕ, ◌%◌, List, [], ◌++◌, ap, sym, ◌∙◌, subst, Option, None, Some}
 use Rattle.std.specs.Prelude.{◌^◌}
 use Rattle.std.specs.Option.{ForSome}
-use Rattle.blk_image.specs.Image.{Image}
-use Rattle.blk_image.specs.Told.{Passes, Told}
-use Rattle.blk_image.proofs.Runs.{passes_stayed, passes_then, passes_weaker}
+use Rattle.spec_image.specs.Image.{Image}
+use Rattle.spec_image.specs.Told.{Passes, Told}
+use Rattle.spec_image.proofs.Runs.{passes_stayed, passes_then, passes_weaker}
 use Rattle.blk_model.specs.Items.{Item}
 use Rattle.blk_model.specs.State.{Object, State}
-use Rattle.blk_volume.specs.Found.{charge_of}
-use Rattle.blk_volume.specs.Layout.{Layout}
-use Rattle.blk_volume.specs.Removal.{without_items}
-use Rattle.blk_volume.specs.Sound.{words_of}
-use Rattle.blk_kept.specs.Changes.{Finds, KeepsWith, SameCounters}
-use Rattle.blk_kept.specs.Keeping.{CountsItems, Keeps, KeepsUncounted}
-use Rattle.blk_kept.specs.PlainRemovals.{IsRemoved}
-use Rattle.blk_kept.specs.RemovalLaws.{layout_removed}
-use Rattle.blk_kept.proofs.Free.{then-found}
-use Rattle.blk_kept.proofs.Links.{removed-less}
-use Rattle.blk_kept.proofs.Removals.{removals-find, removed-unlinked, unlinking-finds}
+use Rattle.spec_folder.specs.Found.{charge_of}
+use Rattle.spec_folder.specs.Layout.{Layout}
+use Rattle.spec_folder.specs.Removal.{without_items}
+use Rattle.spec_folder.specs.Sound.{words_of}
+use Rattle.law_state.specs.Changes.{Finds, KeepsWith, SameCounters}
+use Rattle.law_state.specs.Keeping.{CountsItems, Keeps, KeepsUncounted}
+use Rattle.law_state.specs.PlainRemovals.{IsRemoved}
+use Rattle.law_state.specs.RemovalLaws.{layout_removed}
+use Rattle.law_state.proofs.Free.{then-found}
+use Rattle.law_state.proofs.Links.{removed-less}
+use Rattle.law_state.proofs.Removals.{removals-find, removed-unlinked, unlinking-finds}
 use Rattle.blk_model.specs.Holding.{rest}
 use Rattle.std.specs.Prelude.{if◌then◌else◌, nat_lt}
 use Rattle.std.proofs.Common.{Bool, true, false}

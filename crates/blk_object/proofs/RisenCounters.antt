@@ -4,26 +4,26 @@ use Rattle.std.specs.Prelude.{◌^◌, ◌-◌, ◌&&◌, nat_le, nat_lt}
 use Rattle.std.specs.List.{sum_by}
 use Rattle.std.proofs.lemmas.Bool.Decides.{nat_tests}
 use Rattle.std.specs.Option.{ForSome}
-use Rattle.blk_image.specs.Footprint.{one_word}
-use Rattle.blk_image.specs.Image.{AreBytes, Image, Index, byte}
-use Rattle.blk_image.specs.Steps.{TrailStep, after, word_step, word_steps}
-use Rattle.blk_image.specs.Told.{Along, Applies, AppliesPrefix, IsQuiet, Passes, Told}
-use Rattle.blk_image.proofs.ByteSteps.{word-small}
-use Rattle.blk_image.proofs.Footprints.{same_word_outside}
-use Rattle.blk_image.proofs.Runs.{passes_part, some_inj, told_part, told_whole}
+use Rattle.spec_image.specs.Footprint.{one_word}
+use Rattle.spec_image.specs.Image.{AreBytes, Image, Index, byte}
+use Rattle.spec_image.specs.Steps.{TrailStep, after, word_step, word_steps}
+use Rattle.spec_image.specs.Told.{Along, Applies, AppliesPrefix, IsQuiet, Passes, Told}
+use Rattle.spec_image.proofs.ByteSteps.{word-small}
+use Rattle.spec_image.proofs.Footprints.{same_word_outside}
+use Rattle.spec_image.proofs.Runs.{passes_part, some_inj, told_part, told_whole}
 use Rattle.blk_disk.specs.declared.tables.BlockFiles.{BlockFiles}
 use Rattle.blk_disk.specs.Open.{IsOpen}
-use Rattle.blk_format.specs.Headers.{num_bytes_of}
-use Rattle.blk_volume.specs.Found.{charge_of}
-use Rattle.blk_volume.specs.Layout.{nodes_of}
-use Rattle.blk_volume.specs.Tidy.{loaded_at}
+use Rattle.spec_format.specs.Headers.{num_bytes_of}
+use Rattle.spec_folder.specs.Found.{charge_of}
+use Rattle.spec_folder.specs.Layout.{nodes_of}
+use Rattle.spec_folder.specs.Tidy.{loaded_at}
 use Rattle.blk_chain.proofs.Links.{index_word}
-use Rattle.blk_laws.specs.IndexWrites.{IsIndexWord}
-use Rattle.blk_laws.proofs.commands.Opening.{IsAround, around, nodes-append}
-use Rattle.blk_laws.proofs.states.Moving.{moved-same, sums-add}
-use Rattle.blk_kept.specs.Changes.{KeepsWith}
-use Rattle.blk_kept.specs.ListLaws.{with_used}
-use Rattle.blk_kept.proofs.Counters.{counter-keeps}
+use Rattle.law_folder.specs.IndexWrites.{IsIndexWord}
+use Rattle.law_folder.proofs.commands.Opening.{IsAround, around, nodes-append}
+use Rattle.law_folder.proofs.states.Moving.{moved-same, sums-add}
+use Rattle.law_state.specs.Changes.{KeepsWith}
+use Rattle.law_state.specs.ListLaws.{with_used}
+use Rattle.law_state.proofs.Counters.{counter-keeps}
 use Rattle.blk_object.specs.Counters.{charges}
 use Rattle.blk_object.specs.Writing.{IsRiseCounted, RisesAreCounted, UsesLeaveTheRise}
 use Rattle.blk_object.proofs.CounterWords.{below-word, open-word}

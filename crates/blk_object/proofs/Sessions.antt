@@ -1,14 +1,14 @@
 -- The session is the same while an item goes: once it is taken out, once its places are freed, and once it is counted no longer.
 use Rattle.std.proofs.Common.{◌≡◌, ◌∙◌, ap, refl, lit≤, ℕ, None, Option, Some}
 use Rattle.std.specs.Option.{ForSome}
-use Rattle.blk_image.specs.Image.{Image, Index, byte}
-use Rattle.blk_image.specs.Told.{Passes, Told}
-use Rattle.blk_format.specs.Headers.{crash_of, this_id_of}
-use Rattle.blk_volume.specs.Chains.{bucket_at}
+use Rattle.spec_image.specs.Image.{Image, Index, byte}
+use Rattle.spec_image.specs.Told.{Passes, Told}
+use Rattle.spec_format.specs.Headers.{crash_of, this_id_of}
+use Rattle.spec_folder.specs.Chains.{bucket_at}
 use Rattle.blk_chain.specs.Unlinking.{IsUnlinked}
-use Rattle.blk_kept.specs.Changes.{SameSession}
-use Rattle.blk_kept.proofs.AtNodes.{index-word}
-use Rattle.blk_kept.proofs.Writes.{index-words}
+use Rattle.law_state.specs.Changes.{SameSession}
+use Rattle.law_state.proofs.AtNodes.{index-word}
+use Rattle.law_state.proofs.Writes.{index-words}
 use Rattle.blk_stream.proofs.Joined.{told_then}
 use Rattle.blk_object.specs.Counters.{AreCountedLess}
 use Rattle.blk_object.specs.Freeing.{FreedWordsLeaveSession}

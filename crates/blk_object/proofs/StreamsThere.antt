@@ -3,8 +3,8 @@ use Rattle.std.proofs.Common.{◌≡◌, ℕ, ◌<◌, Bool, true, false, List, 
 use Rattle.std.specs.Prelude.{◌==◌, if◌then◌else◌, unwrap_or}
 use Rattle.std.specs.Option.{option_map}
 use Rattle.std.proofs.lemmas.Bool.Decides.{nat_tests}
-use Rattle.blk_image.specs.Image.{External, Image, length_of}
-use Rattle.blk_format.specs.Address.{external, external_number, is_address, kind_of}
+use Rattle.spec_image.specs.Image.{External, Image, length_of}
+use Rattle.spec_format.specs.Address.{external, external_number, is_address, kind_of}
 use Rattle.blk_addr.specs.FileId.{file_of_word}
 use Rattle.blk_io.specs.declared.folder.FileId.{FileId}
 use Rattle.blk_io.specs.FileNames.{file_of}

@@ -5,53 +5,53 @@ use Rattle.std.proofs.lemmas.Bool.{eq-eqb, eqb-true}
 use Rattle.std.proofs.lemmas.List.{take_at}
 use Rattle.std.proofs.lemmas.List.Elements.{All-cons, All-nil}
 use Rattle.std.proofs.lemmas.Nat.{mod_below}
-use Rattle.blk_image.specs.Bytes.{content, range_at, word_at}
-use Rattle.blk_image.specs.Footprint.{SameOutside}
-use Rattle.blk_image.specs.Image.{AreBytes, Block, Image, byte}
-use Rattle.blk_image.proofs.Footprints.{outside_wider, within_left}
-use Rattle.blk_image.proofs.Words.{length-range}
+use Rattle.spec_image.specs.Bytes.{content, range_at, word_at}
+use Rattle.spec_image.specs.Footprint.{SameOutside}
+use Rattle.spec_image.specs.Image.{AreBytes, Block, Image, byte}
+use Rattle.spec_image.proofs.Footprints.{outside_wider, within_left}
+use Rattle.spec_image.proofs.Words.{length-range}
 use Rattle.blk_model.specs.Items.{Item}
 use Rattle.blk_model.specs.State.{State}
-use Rattle.blk_format.specs.Address.{blocks_256, file_selector, kind_of, place}
-use Rattle.blk_format.specs.BlockFiles.{is_among}
-use Rattle.blk_format.specs.Hash.{hash}
-use Rattle.blk_format.specs.Records.{entry_body, entry_in, entry_is_sealed, seal_of}
-use Rattle.blk_format.specs.Sealed.{AreChanges, IsUpdated, record_at, record_range, record_size, seal_place}
-use Rattle.blk_format.proofs.Bodies.{entry_body-in, range-add}
-use Rattle.blk_format.proofs.SealedFields.{record_word, updated_seal}
-use Rattle.blk_format.proofs.SealedRecords.{entry_bytes}
-use Rattle.blk_volume.specs.Chains.{IsChain, bucket_at, bucket_of_hash}
-use Rattle.blk_volume.specs.Completion.{remove}
-use Rattle.blk_volume.specs.Layout.{IsListedRecord, Layout, rule_of}
-use Rattle.blk_volume.specs.ListPlans.{writes_of}
-use Rattle.blk_volume.specs.ListSteps.{touched_by_writes}
-use Rattle.blk_volume.specs.ListView.{ListWrite}
-use Rattle.blk_volume.specs.Loads.{Loaded, load}
-use Rattle.blk_volume.specs.Searches.{bucket_of_key}
-use Rattle.blk_volume.specs.Sound.{AreSealed}
-use Rattle.blk_volume.specs.View.{RecordFields, entry_at, list_of, store_of}
-use Rattle.blk_laws.proofs.chains.ChainWords.{shown-fields}
-use Rattle.blk_laws.proofs.states.Tidying.{counter-same, touch_range, touch_sizes, touch_spares}
-use Rattle.blk_laws.proofs.updates.StillShown.{core-standing, standing-parts}
-use Rattle.blk_laws.proofs.updates.Updates.{entry-seal}
-use Rattle.blk_laws.proofs.walks.Loads.{load-then}
+use Rattle.spec_format.specs.Address.{blocks_256, file_selector, kind_of, place}
+use Rattle.spec_format.specs.BlockFiles.{is_among}
+use Rattle.spec_format.specs.Hash.{hash}
+use Rattle.spec_format.specs.Records.{entry_body, entry_in, entry_is_sealed, seal_of}
+use Rattle.spec_format.specs.Sealed.{AreChanges, IsUpdated, record_at, record_range, record_size, seal_place}
+use Rattle.spec_format.proofs.Bodies.{entry_body-in, range-add}
+use Rattle.spec_format.proofs.SealedFields.{record_word, updated_seal}
+use Rattle.spec_format.proofs.SealedRecords.{entry_bytes}
+use Rattle.spec_folder.specs.Chains.{IsChain, bucket_at, bucket_of_hash}
+use Rattle.spec_folder.specs.Completion.{remove}
+use Rattle.spec_folder.specs.Layout.{IsListedRecord, Layout, rule_of}
+use Rattle.spec_folder.specs.ListPlans.{writes_of}
+use Rattle.spec_folder.specs.ListSteps.{touched_by_writes}
+use Rattle.spec_folder.specs.ListView.{ListWrite}
+use Rattle.spec_folder.specs.Loads.{Loaded, load}
+use Rattle.spec_folder.specs.Searches.{bucket_of_key}
+use Rattle.spec_folder.specs.Sound.{AreSealed}
+use Rattle.spec_folder.specs.View.{RecordFields, entry_at, list_of, store_of}
+use Rattle.law_folder.proofs.chains.ChainWords.{shown-fields}
+use Rattle.law_folder.proofs.states.Tidying.{counter-same, touch_range, touch_sizes, touch_spares}
+use Rattle.law_folder.proofs.updates.StillShown.{core-standing, standing-parts}
+use Rattle.law_folder.proofs.updates.Updates.{entry-seal}
+use Rattle.law_folder.proofs.walks.Loads.{load-then}
 use Rattle.blk_chain.specs.Unlinking.{IsSealedAgain, IsUnlinked, StandsBehind, next_record}
-use Rattle.blk_kept.specs.Arranging.{LeavesFiles}
-use Rattle.blk_kept.specs.Changes.{SameCounters}
-use Rattle.blk_kept.proofs.AtNodes.{updates-leave}
-use Rattle.blk_image.specs.Footprint.{one_word}
-use Rattle.blk_image.specs.Image.{Index, word}
-use Rattle.blk_image.proofs.Footprints.{same_word_outside}
-use Rattle.blk_format.specs.Headers.{header_length, place_of_bucket}
+use Rattle.law_state.specs.Arranging.{LeavesFiles}
+use Rattle.law_state.specs.Changes.{SameCounters}
+use Rattle.law_state.proofs.AtNodes.{updates-leave}
+use Rattle.spec_image.specs.Footprint.{one_word}
+use Rattle.spec_image.specs.Image.{Index, word}
+use Rattle.spec_image.proofs.Footprints.{same_word_outside}
+use Rattle.spec_format.specs.Headers.{header_length, place_of_bucket}
 use Rattle.std.proofs.lemmas.Bool.Decides.{nat_tests}
 use Rattle.std.specs.Prelude.{◌&&◌, nat_le}
 use Rattle.std.proofs.Common.{lit≤}
-use Rattle.blk_kept.specs.Keeping.{KeepsUncounted}
-use Rattle.blk_kept.specs.PlainRemovals.{IsRemoved, IsRemoving}
-use Rattle.blk_kept.specs.RemovalLaws.{IsRemovalDone, chains_without}
-use Rattle.blk_kept.proofs.GoingOut.{chain-same}
-use Rattle.blk_kept.proofs.Leaving.{leaves-files}
-use Rattle.blk_kept.proofs.Links.{next-sealed, table-sealed}
+use Rattle.law_state.specs.Keeping.{KeepsUncounted}
+use Rattle.law_state.specs.PlainRemovals.{IsRemoved, IsRemoving}
+use Rattle.law_state.specs.RemovalLaws.{IsRemovalDone, chains_without}
+use Rattle.law_state.proofs.GoingOut.{chain-same}
+use Rattle.law_state.proofs.Leaving.{leaves-files}
+use Rattle.law_state.proofs.Links.{next-sealed, table-sealed}
 use Rattle.blk_object.proofs.KeptLists.{listed-amid}
 use Rattle.blk_object.specs.Removing.{GoingOutIsRemoving, TakenOutItemsLeaveCounters, IsBeingUnlinked, IsTakenOut, IsYetLinked, LiesBehind, ListedItemsMayGoOut, TakenOutItemsAreRemoved}
 use Rattle.blk_object.proofs.ChainsOut.{among-front, can-go, goes-out, leaves-files as out-leaves, yet-in}

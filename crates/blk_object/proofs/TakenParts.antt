@@ -4,60 +4,60 @@ use Rattle.std.specs.Prelude.{◌==◌, ◌&&◌}
 use Rattle.std.specs.List.{flat_map}
 use Rattle.std.proofs.lemmas.Bool.{cases_Bool, eq-eqb, eqb-true, or_left}
 use Rattle.std.proofs.lemmas.Nat.{mod_below}
-use Rattle.blk_image.specs.Footprint.{SameOutside}
-use Rattle.blk_image.specs.Image.{AreBytes, Image}
-use Rattle.blk_image.proofs.Runs.{some_inj}
+use Rattle.spec_image.specs.Footprint.{SameOutside}
+use Rattle.spec_image.specs.Image.{AreBytes, Image}
+use Rattle.spec_image.proofs.Runs.{some_inj}
 use Rattle.blk_model.specs.Effects.{doomed}
 use Rattle.blk_model.specs.Holding.{rest}
 use Rattle.blk_model.specs.Items.{Item, part}
 use Rattle.blk_model.specs.State.{Object, State}
-use Rattle.blk_format.specs.Address.{blocks_256, kind_of, rankings}
-use Rattle.blk_format.specs.BlockFiles.{is_among}
-use Rattle.blk_format.specs.Claims.{Claim, claims_of, claims_of_all, has_claim, repeats}
-use Rattle.blk_format.specs.Hash.{hash}
-use Rattle.blk_format.specs.Records.{Node, entry_is_sealed, node_is_sealed}
-use Rattle.blk_format.specs.Sealed.{record_range}
-use Rattle.blk_volume.specs.Chains.{IsChain, bucket_at}
-use Rattle.blk_volume.specs.Footprint.{AgreeBut, IsClear}
-use Rattle.blk_volume.specs.Layout.{IsListedRecord, Layout, rule_of}
-use Rattle.blk_volume.specs.ListImages.{HasListAtRest}
-use Rattle.blk_volume.specs.Loads.{Loaded, all_claims, load, record_claims, unchained_rule}
-use Rattle.blk_volume.specs.Searches.{bucket_of_key}
-use Rattle.blk_volume.specs.Sound.{AreSealed}
-use Rattle.blk_volume.specs.View.{entry_at, stands_as, store_of}
-use Rattle.blk_laws.proofs.claims.ByteChanges.{node-same}
-use Rattle.blk_laws.proofs.claims.ClaimLists.{claim-append, contents-claims}
-use Rattle.blk_laws.proofs.claims.Outside.{AreClear, all-clear}
-use Rattle.blk_laws.proofs.states.Laid.{is_among-node}
-use Rattle.blk_laws.proofs.states.Marking.{repeats-apart}
-use Rattle.blk_laws.proofs.states.OthersHold.{records-outside, records-unlinked}
-use Rattle.blk_laws.proofs.updates.StillShown.{standing-parts}
-use Rattle.blk_laws.proofs.walks.Loads.{load-then}
+use Rattle.spec_format.specs.Address.{blocks_256, kind_of, rankings}
+use Rattle.spec_format.specs.BlockFiles.{is_among}
+use Rattle.spec_format.specs.Claims.{Claim, claims_of, claims_of_all, has_claim, repeats}
+use Rattle.spec_format.specs.Hash.{hash}
+use Rattle.spec_format.specs.Records.{Node, entry_is_sealed, node_is_sealed}
+use Rattle.spec_format.specs.Sealed.{record_range}
+use Rattle.spec_folder.specs.Chains.{IsChain, bucket_at}
+use Rattle.spec_folder.specs.Footprint.{AgreeBut, IsClear}
+use Rattle.spec_folder.specs.Layout.{IsListedRecord, Layout, rule_of}
+use Rattle.spec_folder.specs.ListImages.{HasListAtRest}
+use Rattle.spec_folder.specs.Loads.{Loaded, all_claims, load, record_claims, unchained_rule}
+use Rattle.spec_folder.specs.Searches.{bucket_of_key}
+use Rattle.spec_folder.specs.Sound.{AreSealed}
+use Rattle.spec_folder.specs.View.{entry_at, stands_as, store_of}
+use Rattle.law_folder.proofs.claims.ByteChanges.{node-same}
+use Rattle.law_folder.proofs.claims.ClaimLists.{claim-append, contents-claims}
+use Rattle.law_folder.proofs.claims.Outside.{AreClear, all-clear}
+use Rattle.law_folder.proofs.states.Laid.{is_among-node}
+use Rattle.law_folder.proofs.states.Marking.{repeats-apart}
+use Rattle.law_folder.proofs.states.OthersHold.{records-outside, records-unlinked}
+use Rattle.law_folder.proofs.updates.StillShown.{standing-parts}
+use Rattle.law_folder.proofs.walks.Loads.{load-then}
 use Rattle.blk_chain.specs.Unlinking.{IsSealedAgain, IsUnlinked, StandsBehind}
-use Rattle.blk_kept.specs.Changes.{Finds}
-use Rattle.blk_kept.specs.GroupLaws.{gone_nodes}
-use Rattle.blk_kept.specs.PartlyOut.{KeepsPartlyOut}
-use Rattle.blk_kept.specs.RemovalLaws.{IsRemovalDone}
-use Rattle.blk_kept.proofs.AtNodes.{updates-change}
-use Rattle.blk_kept.proofs.Free.{AreStanding, sealed-same, standing-loaded}
-use Rattle.blk_kept.proofs.GoingOut.{chain-same}
-use Rattle.blk_kept.proofs.Groups as groups
-use Rattle.blk_kept.proofs.Headers.{stands-same}
-use Rattle.blk_kept.proofs.Links.{table-sealed}
-use Rattle.blk_kept.proofs.NextOut as next
-use Rattle.blk_kept.proofs.PartlyOut.{kept-begin}
-use Rattle.blk_kept.proofs.PlainRemovals.{part-gone-without, removing-part}
-use Rattle.blk_kept.proofs.Removals.{removals-find}
-use Rattle.blk_kept.proofs.WordStops.{dooms-find}
-use Rattle.blk_kept.specs.CommandEnds.{without_part}
-use Rattle.blk_kept.specs.RemovalLaws.{IsWithout}
+use Rattle.law_state.specs.Changes.{Finds}
+use Rattle.law_state.specs.GroupLaws.{gone_nodes}
+use Rattle.law_state.specs.PartlyOut.{KeepsPartlyOut}
+use Rattle.law_state.specs.RemovalLaws.{IsRemovalDone}
+use Rattle.law_state.proofs.AtNodes.{updates-change}
+use Rattle.law_state.proofs.Free.{AreStanding, sealed-same, standing-loaded}
+use Rattle.law_state.proofs.GoingOut.{chain-same}
+use Rattle.law_state.proofs.Groups as groups
+use Rattle.law_state.proofs.Headers.{stands-same}
+use Rattle.law_state.proofs.Links.{table-sealed}
+use Rattle.law_state.proofs.NextOut as next
+use Rattle.law_state.proofs.PartlyOut.{kept-begin}
+use Rattle.law_state.proofs.PlainRemovals.{part-gone-without, removing-part}
+use Rattle.law_state.proofs.Removals.{removals-find}
+use Rattle.law_state.proofs.WordStops.{dooms-find}
+use Rattle.law_state.specs.CommandEnds.{without_part}
+use Rattle.law_state.specs.RemovalLaws.{IsWithout}
 use Rattle.blk_model.specs.Items.{main, same_item}
 use Rattle.blk_model.specs.Room.{single, without}
-use Rattle.blk_volume.specs.Removal.{without_items}
+use Rattle.spec_folder.specs.Removal.{without_items}
 use Rattle.std.specs.Prelude.{if◌then◌else◌, nat_lt, not, slice_set}
 use Rattle.blk_object.specs.Removing.{IsMidRemoving}
 use Rattle.blk_object.proofs.TakenItems.{going-removing}
-use Rattle.blk_kept.proofs.PartlyOutStops.{next-parts-find, own-items-leave, unlinking-items-find}
+use Rattle.law_state.proofs.PartlyOutStops.{next-parts-find, own-items-leave, unlinking-items-find}
 use Rattle.blk_object.specs.Removing.{IsYetLinked}
 use Rattle.blk_object.specs.RemovingParts.{GoingLonePartsFindEither, GoingMainsFindEither, GoingPartsFindDoomed, LeftItemsMayGoOut, LiesLeft, TakenOutItemsAreOut, TakenOutItemsLoad, UnlinkedItemsFindDoomed}
 use Rattle.blk_object.proofs.ChainsOut.{among-front, can-go, goes-out, leaves-files, yet-in}

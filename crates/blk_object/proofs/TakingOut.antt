@@ -1,26 +1,26 @@
 -- A removal from the use list, and then an unlinking.
 use Rattle.std.proofs.Common.{◌≡◌, ◌⊎◌, inl, inr, ℕ, [], ◌∷◌, List, ◌++◌, Option, None, Some, refl, ap, sym, ◌∙◌, subst}
 use Rattle.std.specs.Option.{ForSome, option_map}
-use Rattle.blk_image.specs.Image.{Image}
-use Rattle.blk_image.specs.Steps.{TrailStep, after}
-use Rattle.blk_image.specs.Told.{Applies, Commits, CommitsAt, MakesPartOf, Passes, TellsBytes, Told}
-use Rattle.blk_image.proofs.Commits.{commits_passes}
-use Rattle.blk_image.proofs.Runs.{passes_then, passes_weaker, some_inj}
+use Rattle.spec_image.specs.Image.{Image}
+use Rattle.spec_image.specs.Steps.{TrailStep, after}
+use Rattle.spec_image.specs.Told.{Applies, Commits, CommitsAt, MakesPartOf, Passes, TellsBytes, Told}
+use Rattle.spec_image.proofs.Commits.{commits_passes}
+use Rattle.spec_image.proofs.Runs.{passes_then, passes_weaker, some_inj}
 use Rattle.blk_disk.specs.declared.tables.BlockFiles.{BlockFiles}
 use Rattle.blk_disk.specs.Open.{IsOpen}
-use Rattle.blk_volume.specs.Completion.{remove}
-use Rattle.blk_volume.specs.ListImages.{HasListAtRest, operation_steps, walked}
-use Rattle.blk_volume.specs.ListPlans.{writes_of}
-use Rattle.blk_volume.specs.ListSteps.{IsPartly}
-use Rattle.blk_volume.specs.View.{list_of}
+use Rattle.spec_folder.specs.Completion.{remove}
+use Rattle.spec_folder.specs.ListImages.{HasListAtRest, operation_steps, walked}
+use Rattle.spec_folder.specs.ListPlans.{writes_of}
+use Rattle.spec_folder.specs.ListSteps.{IsPartly}
+use Rattle.spec_folder.specs.View.{list_of}
 use Rattle.blk_lru.specs.Moments.{IsMidOperation}
 use Rattle.blk_chain.specs.Unlinking.{BeforeChecks, CanBeUnlinked, IsSealedAgain, IsStillLinked, IsUnlinked, words_to_unlink}
-use Rattle.blk_kept.specs.RemovalLaws.{IsRemovalDone}
+use Rattle.law_state.specs.RemovalLaws.{IsRemovalDone}
 use Rattle.blk_object.specs.KeptLists.{IsAmidList}
 use Rattle.blk_object.proofs.ChainsOut.{among-front}
-use Rattle.blk_laws.proofs.lists.Walks.{walk_list}
+use Rattle.law_folder.proofs.lists.Walks.{walk_list}
 use Rattle.blk_lru.specs.Lists.{IsListed}
-use Rattle.blk_format.specs.BlockFiles.{is_among}
+use Rattle.spec_format.specs.BlockFiles.{is_among}
 use Rattle.blk_object.proofs.KeptLists.{removals-done}
 use Rattle.blk_stream.proofs.Joined.{IsTold, told_then}
 use Rattle.blk_object.specs.Removing.{IsGoingOut, IsTakenOut, IsYetLinked, MayGoOut}

@@ -2,25 +2,25 @@
 use Rattle.std.proofs.Common.{◌≡◌, ◌⊎◌, inl, inr, ⊎_elim, ℕ, List, [], ◌∷◌, ◌++◌, refl, ap, sym, ◌∙◌, subst, lit≤, Bool, true, false, None, Ok}
 use Rattle.std.proofs.lemmas.Bool.{cases_Bool, or_right}
 use Rattle.std.proofs.lemmas.Grind.{flat_map-append}
-use Rattle.blk_image.specs.Image.{Image}
+use Rattle.spec_image.specs.Image.{Image}
 use Rattle.blk_model.specs.Items.{Item}
 use Rattle.blk_model.specs.State.{State}
-use Rattle.blk_format.specs.Address.{external_number}
-use Rattle.blk_format.specs.Claims.{Claim, ExternalOf, claims_of, claims_of_all, has_claim, same_claim}
-use Rattle.blk_volume.specs.Footprint.{AgreeBut, is_absent}
-use Rattle.blk_volume.specs.Layout.{Layout}
-use Rattle.blk_volume.specs.Loads.{Loaded, load, unchained_rule}
-use Rattle.blk_volume.specs.View.{store_of}
-use Rattle.blk_laws.proofs.claims.ByteChanges.{agreeing-views}
-use Rattle.blk_laws.proofs.claims.ClaimLists.{claim-append}
-use Rattle.blk_laws.proofs.claims.Files.{growth-absent, words-there}
-use Rattle.blk_laws.proofs.claims.Outside.{AreClear, all-clear, load-outside}
-use Rattle.blk_laws.proofs.states.Marking.{repeats-apart}
-use Rattle.blk_kept.specs.Changes.{ChangesOnly, RemovesAllocation, RemovesExternal}
-use Rattle.blk_kept.specs.PartlyOut.{KeepsPartlyOut}
-use Rattle.blk_kept.proofs.Free.{AreStanding, sealed-same, standing-loaded}
-use Rattle.blk_kept.proofs.MakingFiles as making
-use Rattle.blk_kept.proofs.Writes.{index-words}
+use Rattle.spec_format.specs.Address.{external_number}
+use Rattle.spec_format.specs.Claims.{Claim, ExternalOf, claims_of, claims_of_all, has_claim, same_claim}
+use Rattle.spec_folder.specs.Footprint.{AgreeBut, is_absent}
+use Rattle.spec_folder.specs.Layout.{Layout}
+use Rattle.spec_folder.specs.Loads.{Loaded, load, unchained_rule}
+use Rattle.spec_folder.specs.View.{store_of}
+use Rattle.law_folder.proofs.claims.ByteChanges.{agreeing-views}
+use Rattle.law_folder.proofs.claims.ClaimLists.{claim-append}
+use Rattle.law_folder.proofs.claims.Files.{growth-absent, words-there}
+use Rattle.law_folder.proofs.claims.Outside.{AreClear, all-clear, load-outside}
+use Rattle.law_folder.proofs.states.Marking.{repeats-apart}
+use Rattle.law_state.specs.Changes.{ChangesOnly, RemovesAllocation, RemovesExternal}
+use Rattle.law_state.specs.PartlyOut.{KeepsPartlyOut}
+use Rattle.law_state.proofs.Free.{AreStanding, sealed-same, standing-loaded}
+use Rattle.law_state.proofs.MakingFiles as making
+use Rattle.law_state.proofs.Writes.{index-words}
 use Rattle.blk_object.specs.Freeing.{RemovesPlace}
 use Rattle.blk_object.specs.UnlinkedLoads.{CountedLessKeepsUnlinked, FreedWordsKeepUnlinked, KeepsUnlinked, LiesUnlinked}
 use Rattle.blk_object.proofs.FreedPlaces.{place-out}

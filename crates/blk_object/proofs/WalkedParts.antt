@@ -4,24 +4,24 @@ use Rattle.std.specs.Prelude.{◌||◌, filter, is_some, if◌then◌else◌}
 use Rattle.std.specs.Str.{bytes_eq}
 use Rattle.std.proofs.lemmas.Bool.{and_parts}
 use Rattle.std.proofs.lemmas.List.{length-map}
-use Rattle.blk_image.specs.Image.{Image}
-use Rattle.blk_image.proofs.Runs.{some_inj}
+use Rattle.spec_image.specs.Image.{Image}
+use Rattle.spec_image.proofs.Runs.{some_inj}
 use Rattle.blk_model.specs.Items.{Item, item_of, main, part}
 use Rattle.blk_model.specs.State.{State}
 use Rattle.blk_model.proofs.Same.{bytes_eq_self, same_bytes, same_item_self}
-use Rattle.blk_format.specs.BlockFiles.{is_among}
-use Rattle.blk_volume.specs.Entries.{IsParent, IsPart, IsPlain, Role}
-use Rattle.blk_volume.specs.Found.{row_with}
-use Rattle.blk_volume.specs.Layout.{IsPlacedAt, Layout, is_in, is_listed, nodes_of, rule_of}
-use Rattle.blk_volume.specs.ListImages.{HasListAtRest, walked}
-use Rattle.blk_volume.specs.Loads.{Loaded}
-use Rattle.blk_volume.specs.View.{list_of}
-use Rattle.blk_laws.proofs.commands.Opening.{in-append, nodes-append}
-use Rattle.blk_laws.proofs.commands.Removing.{in-filter}
-use Rattle.blk_laws.proofs.lists.Walks.{walk_list}
-use Rattle.blk_laws.proofs.states.Laid.{item-row}
-use Rattle.blk_kept.specs.PartlyOut.{KeepsPartlyOut}
-use Rattle.blk_kept.proofs.Groups as groups
+use Rattle.spec_format.specs.BlockFiles.{is_among}
+use Rattle.spec_folder.specs.Entries.{IsParent, IsPart, IsPlain, Role}
+use Rattle.spec_folder.specs.Found.{row_with}
+use Rattle.spec_folder.specs.Layout.{IsPlacedAt, Layout, is_in, is_listed, nodes_of, rule_of}
+use Rattle.spec_folder.specs.ListImages.{HasListAtRest, walked}
+use Rattle.spec_folder.specs.Loads.{Loaded}
+use Rattle.spec_folder.specs.View.{list_of}
+use Rattle.law_folder.proofs.commands.Opening.{in-append, nodes-append}
+use Rattle.law_folder.proofs.commands.Removing.{in-filter}
+use Rattle.law_folder.proofs.lists.Walks.{walk_list}
+use Rattle.law_folder.proofs.states.Laid.{item-row}
+use Rattle.law_state.specs.PartlyOut.{KeepsPartlyOut}
+use Rattle.law_state.proofs.Groups as groups
 use Rattle.blk_lru.specs.Lists.{IsListAtRest, IsListed, first_node_of}
 use Rattle.blk_object.specs.declared.listed_parts.ListedPart.{ListedPart}
 use Rattle.blk_object.specs.ListedParts.{AreSearched, HaveNoPart, IsFirstPart, IsFoundPart, LoadsAt, first_node, is_part_of, number_said, part_loaded, part_number}

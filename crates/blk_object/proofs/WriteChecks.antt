@@ -3,14 +3,14 @@ use Rattle.std.proofs.Common.{◌≡◌, ◌⊎◌, inl, inr, ℕ, ◌%◌, ◌<
 use Rattle.std.specs.Prelude.{◌==◌, ◌^◌, nat_le}
 use Rattle.std.specs.Option.{ForSome}
 use Rattle.std.proofs.lemmas.Bool.Decides.{nat_tests}
-use Rattle.blk_image.specs.Image.{length_of}
-use Rattle.blk_image.specs.Told.{Told}
-use Rattle.blk_format.specs.Address.{blocks_256, is_address, kind_of}
-use Rattle.blk_format.specs.Storage.{blocks_for, is_storage, kind_for}
+use Rattle.spec_image.specs.Image.{length_of}
+use Rattle.spec_image.specs.Told.{Told}
+use Rattle.spec_format.specs.Address.{blocks_256, is_address, kind_of}
+use Rattle.spec_format.specs.Storage.{blocks_for, is_storage, kind_for}
 use Rattle.blk_addr.specs.Kind.{kind_number}
 use Rattle.blk_addr.specs.declared.kinds.Kind.{Kind}
 use Rattle.blk_addr.specs.declared.kinds.Kind.TheVariants.{External, B256, B1K, B4K}
-use Rattle.blk_volume.specs.Entries.{most_stream_bytes}
+use Rattle.spec_folder.specs.Entries.{most_stream_bytes}
 use Rattle.blk_io.specs.declared.folder.FileId.{FileId}
 use Rattle.blk_io.specs.declared.fault.Damage.{Damage}
 use Rattle.blk_io.specs.declared.fault.Fault.{Fault}

@@ -2,16 +2,16 @@
 use Rattle.std.proofs.Common.{◌≡◌, ℕ, ◌<◌, List, [], length, sym, ◌∙◌, subst, Bool, true, Option, Some, None, ◌≤◌, refl}
 use Rattle.std.specs.Option.{ForSome}
 use Rattle.std.specs.declared.result.Result.{Result}
-use Rattle.blk_image.specs.Image.{AreBytes, Image}
-use Rattle.blk_image.specs.Told.{Passes, TellsBytes, Told}
-use Rattle.blk_image.proofs.Runs.{passes_none, passes_weaker, some_inj}
+use Rattle.spec_image.specs.Image.{AreBytes, Image}
+use Rattle.spec_image.specs.Told.{Passes, TellsBytes, Told}
+use Rattle.spec_image.proofs.Runs.{passes_none, passes_weaker, some_inj}
 use Rattle.blk_model.specs.Holding.{rest}
 use Rattle.blk_model.specs.State.{Object, State}
-use Rattle.blk_format.specs.Headers.{HasWholeIndex}
-use Rattle.blk_format.proofs.Finished.{whole_index}
-use Rattle.blk_volume.specs.Layout.{Layout}
-use Rattle.blk_volume.specs.Loads.{Loaded}
-use Rattle.blk_laws.proofs.claims.ByteChanges.{stands-address}
+use Rattle.spec_format.specs.Headers.{HasWholeIndex}
+use Rattle.spec_format.proofs.Finished.{whole_index}
+use Rattle.spec_folder.specs.Layout.{Layout}
+use Rattle.spec_folder.specs.Loads.{Loaded}
+use Rattle.law_folder.proofs.claims.ByteChanges.{stands-address}
 use Rattle.blk_io.specs.declared.fault.Fault.{Fault}
 use Rattle.blk_io.specs.Faults.{IfDamaged}
 use Rattle.blk_io.proofs.Carried.{if_damaged_weaker}
@@ -23,8 +23,8 @@ use Rattle.blk_stream.specs.Streams.{address_word, size_word}
 use Rattle.blk_stream.specs.Writing.{size_after}
 use Rattle.blk_stream.specs.Written.{CanBeWritten, StreamIsWritten}
 use Rattle.blk_stream.proofs.StreamPlaces.{may_parts, stored_some, stream_facts}
-use Rattle.blk_kept.specs.Changes.{Finds}
-use Rattle.blk_kept.proofs.Free.{then-found}
+use Rattle.law_state.specs.Changes.{Finds}
+use Rattle.law_state.proofs.Free.{then-found}
 use Rattle.blk_object.specs.Writing.{ForEachUnsettled, HasStreamThere, IsToBeWritten, IsWrittenUncounted, node_of_object, ForEachPartUnsettled, IsPartToBeWritten, IsPartWrittenUncounted}
 use Rattle.blk_object.proofs.MakingTaken.{told-mid}
 use Rattle.blk_object.proofs.WrittenEnds.{IsKeptUnsettled, object-stage-finds, object-stages-end}
@@ -32,10 +32,10 @@ use Rattle.blk_object.proofs.WrittenItems.{other-address, says, MayBecome}
 use Rattle.blk_object.proofs.WrittenObjects.{node-among}
 use Rattle.blk_object.proofs.WrittenWords.{can-be-written}
 use Rattle.blk_model.specs.Items.{PartValue, part}
-use Rattle.blk_kept.specs.PartStates.{with_object, with_value}
-use Rattle.blk_volume.specs.Entries.{Role}
-use Rattle.blk_kept.specs.Keeping.{KeepsUncounted, all_nodes}
-use Rattle.blk_format.specs.BlockFiles.{is_among}
+use Rattle.law_state.specs.PartStates.{with_object, with_value}
+use Rattle.spec_folder.specs.Entries.{Role}
+use Rattle.law_state.specs.Keeping.{KeepsUncounted, all_nodes}
+use Rattle.spec_format.specs.BlockFiles.{is_among}
 use Rattle.blk_model.specs.Room.{items}
 use Rattle.blk_model.specs.Sizes.{most_items}
 use Rattle.blk_object.proofs.WrittenStages.{after-streams, stage-finds, stages-end, IsChangedTo}

@@ -2,22 +2,22 @@
 use Rattle.std.proofs.Common.{◌≡◌, ◌≢◌, inr, ℕ, ◌+◌, ◌<◌, ◌≤◌, List, ◌++◌, refl, ap, sym, ◌∙◌, arith, Bool, true, false, Option}
 use Rattle.std.specs.Prelude.{◌==◌, ◌||◌, if◌then◌else◌}
 use Rattle.std.proofs.lemmas.Bool.{or_left, or_right}
-use Rattle.blk_image.specs.Checks.{first_of}
-use Rattle.blk_image.specs.Footprint.{Footprint, IsWithin, SameOutside, either, nothing, range, whole}
-use Rattle.blk_image.specs.Image.{Block, External, File, Image, Index, byte, has_file, length_of, word}
-use Rattle.blk_image.proofs.Footprints.{range_within, same_file_outside, same_word_outside, within_both}
-use Rattle.blk_format.specs.Address.{blocks_256, byte_size, external, external_number, file_selector, header_size, kind_of, place}
-use Rattle.blk_format.specs.BlockFiles.{stands_in}
-use Rattle.blk_format.specs.Claims.{Claim, ExternalOf, claims_of, has_claim, same_claim}
-use Rattle.blk_format.specs.Headers.{head_checks, list_checks}
-use Rattle.blk_format.specs.Sealed.{record_size, size_by_kind}
-use Rattle.blk_volume.specs.Footprint.{Covers}
-use Rattle.blk_laws.proofs.claims.ByteChanges.{covered-agrees, stands-if_clear}
-use Rattle.blk_laws.proofs.claims.ClaimLists.{claim-append}
-use Rattle.blk_laws.proofs.claims.Covers.{blocks-covered, covers-either, covers-less, covers-more, externals-covered}
-use Rattle.blk_laws.proofs.claims.Inside.{record-inside}
-use Rattle.blk_laws.proofs.updates.WellFormed.{well_formed_still}
-use Rattle.blk_kept.specs.Changes.{ChangesOnly, SameCounters}
+use Rattle.spec_image.specs.Checks.{first_of}
+use Rattle.spec_image.specs.Footprint.{Footprint, IsWithin, SameOutside, either, nothing, range, whole}
+use Rattle.spec_image.specs.Image.{Block, External, File, Image, Index, byte, has_file, length_of, word}
+use Rattle.spec_image.proofs.Footprints.{range_within, same_file_outside, same_word_outside, within_both}
+use Rattle.spec_format.specs.Address.{blocks_256, byte_size, external, external_number, file_selector, header_size, kind_of, place}
+use Rattle.spec_format.specs.BlockFiles.{stands_in}
+use Rattle.spec_format.specs.Claims.{Claim, ExternalOf, claims_of, has_claim, same_claim}
+use Rattle.spec_format.specs.Headers.{head_checks, list_checks}
+use Rattle.spec_format.specs.Sealed.{record_size, size_by_kind}
+use Rattle.spec_folder.specs.Footprint.{Covers}
+use Rattle.law_folder.proofs.claims.ByteChanges.{covered-agrees, stands-if_clear}
+use Rattle.law_folder.proofs.claims.ClaimLists.{claim-append}
+use Rattle.law_folder.proofs.claims.Covers.{blocks-covered, covers-either, covers-less, covers-more, externals-covered}
+use Rattle.law_folder.proofs.claims.Inside.{record-inside}
+use Rattle.law_folder.proofs.updates.WellFormed.{well_formed_still}
+use Rattle.law_state.specs.Changes.{ChangesOnly, SameCounters}
 use Rattle.blk_stream.specs.Changing.{stream_words}
 use Rattle.blk_stream.specs.Inside.{data_of}
 use Rattle.blk_stream.specs.Moving.{data_at_place}

@@ -5,12 +5,12 @@ use Rattle.std.specs.List.{cons_option, filter_map, sum_by}
 use Rattle.std.proofs.lemmas.Bool.{cases_Bool, eqb-true, or_parts}
 use Rattle.std.proofs.lemmas.Bool.Decides.{nat_tests}
 use Rattle.std.proofs.lemmas.List.Sums.{sum_by-cons}
-use Rattle.blk_format.specs.BlockFiles.{is_among}
-use Rattle.blk_volume.specs.Entries.{stream}
-use Rattle.blk_volume.specs.Found.{charge_of}
-use Rattle.blk_volume.specs.ListView.{Distinct, put}
-use Rattle.blk_volume.specs.Loads.{Loaded}
-use Rattle.blk_laws.proofs.states.Changing.{at-elsewhere, at-itself}
+use Rattle.spec_format.specs.BlockFiles.{is_among}
+use Rattle.spec_folder.specs.Entries.{stream}
+use Rattle.spec_folder.specs.Found.{charge_of}
+use Rattle.spec_folder.specs.ListView.{Distinct, put}
+use Rattle.spec_folder.specs.Loads.{Loaded}
+use Rattle.law_folder.proofs.states.Changing.{at-elsewhere, at-itself}
 use Rattle.blk_stream.specs.Loading.{stored_streams_with}
 
 -- ---- one entry

@@ -2,23 +2,23 @@
 use Rattle.std.proofs.Common.{◌≡◌, ℕ, zero, suc, ◌+◌, ◌<◌, List, [], ◌∷◌, ◌++◌, length, refl, ap, sym, ◌∙◌, subst, arith, Bool, true, false, Some}
 use Rattle.std.specs.List.{sum_by}
 use Rattle.std.proofs.lemmas.Bool.{or_parts}
-use Rattle.blk_image.specs.Image.{Image}
-use Rattle.blk_image.proofs.Runs.{some_inj}
+use Rattle.spec_image.specs.Image.{Image}
+use Rattle.spec_image.proofs.Runs.{some_inj}
 use Rattle.blk_model.specs.Effects.{stream_after, stream_in, stream_of, streams_with}
 use Rattle.blk_model.specs.Holding.{rest}
 use Rattle.blk_model.specs.Items.{Streams, is_sparse, main}
 use Rattle.blk_model.specs.State.{IsValidState, Object, State, object_at}
-use Rattle.blk_format.specs.BlockFiles.{is_among}
-use Rattle.blk_format.proofs.Among.{is_among-append}
-use Rattle.blk_volume.specs.Entries.{stream}
-use Rattle.blk_volume.specs.Found.{charge_of}
-use Rattle.blk_volume.specs.Layout.{Layout, order}
-use Rattle.blk_volume.specs.ListView.{Distinct}
-use Rattle.blk_volume.specs.Loads.{Loaded}
-use Rattle.blk_volume.specs.Tidy.{doomed_nodes}
-use Rattle.blk_volume.specs.View.{entry_at, fields_of}
-use Rattle.blk_laws.proofs.states.Laid.{is_among-node}
-use Rattle.blk_laws.proofs.states.Settling.{main-listed}
+use Rattle.spec_format.specs.BlockFiles.{is_among}
+use Rattle.spec_format.proofs.Among.{is_among-append}
+use Rattle.spec_folder.specs.Entries.{stream}
+use Rattle.spec_folder.specs.Found.{charge_of}
+use Rattle.spec_folder.specs.Layout.{Layout, order}
+use Rattle.spec_folder.specs.ListView.{Distinct}
+use Rattle.spec_folder.specs.Loads.{Loaded}
+use Rattle.spec_folder.specs.Tidy.{doomed_nodes}
+use Rattle.spec_folder.specs.View.{entry_at, fields_of}
+use Rattle.law_folder.proofs.states.Laid.{is_among-node}
+use Rattle.law_folder.proofs.states.Settling.{main-listed}
 use Rattle.blk_disk.specs.declared.tables.BlockFiles.{BlockFiles}
 use Rattle.blk_disk.specs.Tables.{Agrees, stands_among}
 use Rattle.blk_stream.specs.Stages.{IsWrittenByStage, KeepsSeal, WritesByStage}
@@ -28,10 +28,10 @@ use Rattle.blk_stream.specs.Written.{StreamIsWritten}
 use Rattle.blk_stream.specs.Loading.{stored_streams_with}
 use Rattle.blk_stream.proofs.EmptyStreams.{fourth_of, streams_known}
 use Rattle.blk_stream.proofs.StreamPlaces.{streams_parts}
-use Rattle.blk_kept.specs.Changes.{Finds}
-use Rattle.blk_kept.specs.CommandEnds.{after_write}
-use Rattle.blk_kept.specs.Keeping.{KeepsUncounted}
-use Rattle.blk_kept.specs.ObjectLaws.{layout_after}
+use Rattle.law_state.specs.Changes.{Finds}
+use Rattle.law_state.specs.CommandEnds.{after_write}
+use Rattle.law_state.specs.Keeping.{KeepsUncounted}
+use Rattle.law_state.specs.ObjectLaws.{layout_after}
 use Rattle.blk_object.specs.Writing.{IsRisen, IsWrittenUncounted, node_of_object, with_written}
 use Rattle.blk_object.proofs.WrittenCharges.{charge-written, charged-elsewhere, charged-there}
 use Rattle.blk_object.proofs.WrittenObjects as objects

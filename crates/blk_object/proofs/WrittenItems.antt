@@ -5,34 +5,34 @@ use Rattle.std.specs.List.{flat_map}
 use Rattle.std.specs.List.Sorted.{IsPermutation}
 use Rattle.std.specs.Option.{option_and_then, option_map, option_map_or}
 use Rattle.std.proofs.lemmas.Bool.{cases_Bool, eqb-true, or_left, or_right}
-use Rattle.blk_image.specs.Bytes.{range_at}
-use Rattle.blk_image.specs.Footprint.{SameOutside, either, nothing}
-use Rattle.blk_image.specs.Image.{Block, External, File, Image, byte, has_file, length_of}
-use Rattle.blk_image.proofs.Runs.{some_inj}
+use Rattle.spec_image.specs.Bytes.{range_at}
+use Rattle.spec_image.specs.Footprint.{SameOutside, either, nothing}
+use Rattle.spec_image.specs.Image.{Block, External, File, Image, byte, has_file, length_of}
+use Rattle.spec_image.proofs.Runs.{some_inj}
 use Rattle.blk_model.specs.State.{State}
-use Rattle.blk_format.specs.Address.{blocks_256, byte_size, external, external_number, file_selector, kind_of, place}
-use Rattle.blk_format.specs.BlockFiles.{stands_in, is_among}
-use Rattle.blk_format.specs.Claims.{BlockOf, Claim, claims_of, has_claim, repeats}
-use Rattle.blk_format.specs.Records.{Node, entry_checks, entry_is_sealed, node_is_sealed}
-use Rattle.blk_format.specs.Storage.{is_storage}
-use Rattle.blk_format.specs.Sealed.{record_size, size_by_kind}
-use Rattle.blk_volume.specs.Chains.{bucket_of_hash, is_of_bucket}
-use Rattle.blk_volume.specs.Entries.{is_key_length, stored_key, stored_stream, stored_streams, stream, Role, role_of}
-use Rattle.blk_volume.specs.Footprint.{IsClear, IsFreeBut, IsInsideNode, IsReplaced, SameBut, SameNodeLinks, KeepsName}
-use Rattle.blk_volume.specs.Layout.{Layout, rule_of}
-use Rattle.blk_volume.specs.Loads.{Loaded, all_claims, load, record_claims}
-use Rattle.blk_volume.specs.View.{RecordFields, block_bytes, entry_at, fields_at, fields_of, follow_at, key_place_at, list_of, stands_as, store_of, stored_at, view_of}
-use Rattle.blk_volume.specs.Sound.{AreSealed, words_of}
-use Rattle.blk_laws.proofs.chains.ChainWords.{shown-fields}
-use Rattle.blk_laws.proofs.claims.ByteChanges.{agreeing-views, node-same, stands-some}
-use Rattle.blk_laws.proofs.claims.ClaimLists.{claim-append}
-use Rattle.blk_laws.proofs.claims.Inside.{record-inside}
-use Rattle.blk_laws.proofs.claims.Outside.{clear-zero, index-claims}
-use Rattle.blk_laws.proofs.states.Laid.{repeats-tail}
-use Rattle.blk_laws.proofs.states.Marking.{repeats-apart}
-use Rattle.blk_laws.proofs.states.OthersHold.{others-clear}
-use Rattle.blk_laws.proofs.updates.StillShown.{standing-parts}
-use Rattle.blk_laws.proofs.walks.Loads.{load-then}
+use Rattle.spec_format.specs.Address.{blocks_256, byte_size, external, external_number, file_selector, kind_of, place}
+use Rattle.spec_format.specs.BlockFiles.{stands_in, is_among}
+use Rattle.spec_format.specs.Claims.{BlockOf, Claim, claims_of, has_claim, repeats}
+use Rattle.spec_format.specs.Records.{Node, entry_checks, entry_is_sealed, node_is_sealed}
+use Rattle.spec_format.specs.Storage.{is_storage}
+use Rattle.spec_format.specs.Sealed.{record_size, size_by_kind}
+use Rattle.spec_folder.specs.Chains.{bucket_of_hash, is_of_bucket}
+use Rattle.spec_folder.specs.Entries.{is_key_length, stored_key, stored_stream, stored_streams, stream, Role, role_of}
+use Rattle.spec_folder.specs.Footprint.{IsClear, IsFreeBut, IsInsideNode, IsReplaced, SameBut, SameNodeLinks, KeepsName}
+use Rattle.spec_folder.specs.Layout.{Layout, rule_of}
+use Rattle.spec_folder.specs.Loads.{Loaded, all_claims, load, record_claims}
+use Rattle.spec_folder.specs.View.{RecordFields, block_bytes, entry_at, fields_at, fields_of, follow_at, key_place_at, list_of, stands_as, store_of, stored_at, view_of}
+use Rattle.spec_folder.specs.Sound.{AreSealed, words_of}
+use Rattle.law_folder.proofs.chains.ChainWords.{shown-fields}
+use Rattle.law_folder.proofs.claims.ByteChanges.{agreeing-views, node-same, stands-some}
+use Rattle.law_folder.proofs.claims.ClaimLists.{claim-append}
+use Rattle.law_folder.proofs.claims.Inside.{record-inside}
+use Rattle.law_folder.proofs.claims.Outside.{clear-zero, index-claims}
+use Rattle.law_folder.proofs.states.Laid.{repeats-tail}
+use Rattle.law_folder.proofs.states.Marking.{repeats-apart}
+use Rattle.law_folder.proofs.states.OthersHold.{others-clear}
+use Rattle.law_folder.proofs.updates.StillShown.{standing-parts}
+use Rattle.law_folder.proofs.walks.Loads.{load-then}
 use Rattle.blk_disk.specs.declared.tables.BlockFiles.{BlockFiles}
 use Rattle.blk_disk.specs.Tables.{Agrees, stands_among}
 use Rattle.blk_alloc.proofs.Lists.{claims_blocks}
@@ -48,11 +48,11 @@ use Rattle.blk_stream.proofs.Apart.{blocks_back, none_shared}
 use Rattle.blk_stream.proofs.EmptyStreams.{fourth_of}
 use Rattle.blk_stream.proofs.OwnedKept.{block_off}
 use Rattle.blk_stream.proofs.StreamPlaces.{keeps_inside, stream_facts, streams_parts}
-use Rattle.blk_kept.specs.Changes.{ChangesOnly, Finds}
-use Rattle.blk_kept.specs.Keeping.{KeepsUncounted, all_nodes}
-use Rattle.blk_kept.proofs.AtNodes.{free-but, node-of-it, record-own}
-use Rattle.blk_kept.specs.ObjectLaws.{layout_after}
-use Rattle.blk_kept.proofs.Free.{standing-loaded}
+use Rattle.law_state.specs.Changes.{ChangesOnly, Finds}
+use Rattle.law_state.specs.Keeping.{KeepsUncounted, all_nodes}
+use Rattle.law_state.proofs.AtNodes.{free-but, node-of-it, record-own}
+use Rattle.law_state.specs.ObjectLaws.{layout_after}
+use Rattle.law_state.proofs.Free.{standing-loaded}
 use Rattle.blk_object.proofs.WrittenChanges.{touched_of, written-only, written-stands}
 use Rattle.blk_object.proofs.WrittenLoads.{load-written}
 use Rattle.blk_object.proofs.WrittenRecords.{SameRecordBut, fields-still, key-still, next-still, streams-written}

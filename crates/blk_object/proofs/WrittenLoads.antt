@@ -2,14 +2,14 @@
 use Rattle.std.proofs.Common.{◌≡◌, ℕ, List, ◌∷◌, refl, ap, sym, ◌∙◌, true, false, Some, Ok}
 use Rattle.std.specs.Prelude.{not, ◌==◌, nat_le}
 use Rattle.std.proofs.lemmas.Bool.{or_left}
-use Rattle.blk_format.specs.BlockFiles.{is_among}
-use Rattle.blk_format.specs.Hash.{hash}
-use Rattle.blk_volume.specs.Chains.{bucket_of_hash, chain}
-use Rattle.blk_volume.specs.Entries.{Role, is_key_length, role_of, stored_key, stored_streams}
-use Rattle.blk_volume.specs.Loads.{Loaded, Rule, load}
-use Rattle.blk_volume.specs.View.{RecordFields, StoreView}
-use Rattle.blk_laws.proofs.walks.Loading.{load-from}
-use Rattle.blk_laws.proofs.walks.Loads.{load-then}
+use Rattle.spec_format.specs.BlockFiles.{is_among}
+use Rattle.spec_format.specs.Hash.{hash}
+use Rattle.spec_folder.specs.Chains.{bucket_of_hash, chain}
+use Rattle.spec_folder.specs.Entries.{Role, is_key_length, role_of, stored_key, stored_streams}
+use Rattle.spec_folder.specs.Loads.{Loaded, Rule, load}
+use Rattle.spec_folder.specs.View.{RecordFields, StoreView}
+use Rattle.law_folder.proofs.walks.Loading.{load-from}
+use Rattle.law_folder.proofs.walks.Loads.{load-then}
 use Rattle.blk_object.proofs.WrittenRoles.{IsStreamChange}
 
 module _ (v u : StoreView) (rule : Rule) (node : ℕ) (was : Loaded) (free : rule.chained ≡ false) (ok : load v rule node ≡ Ok was) (nodes : u.node_fields node ≡ v.node_fields node) (d : RecordFields) (there : u.entry was.contents ≡ Some d) where

@@ -3,37 +3,37 @@ use Rattle.std.proofs.Common.{◌≡◌, ℕ, ◌+◌, ◌<◌, List, ◌++◌, 
 use Rattle.std.specs.Prelude.{◌==◌, IfSome, if◌then◌else◌}
 use Rattle.std.specs.List.Sorted.{IsPermutation}
 use Rattle.std.proofs.lemmas.Bool.{or_left, or_right}
-use Rattle.blk_image.specs.Image.{Image}
-use Rattle.blk_image.proofs.Runs.{some_inj}
+use Rattle.spec_image.specs.Image.{Image}
+use Rattle.spec_image.proofs.Runs.{some_inj}
 use Rattle.blk_model.specs.Effects.{streams_with, with_slot, with_stream}
 use Rattle.blk_model.specs.Holding as model
 use Rattle.blk_model.specs.Items.{Row, is_sparse, main, main_row}
 use Rattle.blk_model.specs.State.{IsValidState, Object, State, object_at}
 use Rattle.blk_model.proofs.States.{has_main}
-use Rattle.blk_format.specs.Address.{place}
-use Rattle.blk_format.specs.Claims.{Claim}
-use Rattle.blk_volume.specs.Entries.{stream}
-use Rattle.blk_volume.specs.Footprint.{IsFreeBut, IsInsideNode, IsReplaced}
-use Rattle.blk_volume.specs.Found.{row_of_loaded}
-use Rattle.blk_volume.specs.Layout.{Layout, rule_of, order}
-use Rattle.blk_volume.specs.Loads.{Loaded, load}
-use Rattle.blk_volume.specs.View.{store_of, view_of}
-use Rattle.blk_volume.specs.Sound.{AreSealed, words_of}
-use Rattle.blk_laws.proofs.states.Settling.{main-listed, main-owned}
+use Rattle.spec_format.specs.Address.{place}
+use Rattle.spec_format.specs.Claims.{Claim}
+use Rattle.spec_folder.specs.Entries.{stream}
+use Rattle.spec_folder.specs.Footprint.{IsFreeBut, IsInsideNode, IsReplaced}
+use Rattle.spec_folder.specs.Found.{row_of_loaded}
+use Rattle.spec_folder.specs.Layout.{Layout, rule_of, order}
+use Rattle.spec_folder.specs.Loads.{Loaded, load}
+use Rattle.spec_folder.specs.View.{store_of, view_of}
+use Rattle.spec_folder.specs.Sound.{AreSealed, words_of}
+use Rattle.law_folder.proofs.states.Settling.{main-listed, main-owned}
 use Rattle.blk_stream.specs.Loading.{stored_streams_with}
-use Rattle.blk_kept.specs.Changes.{ChangesOnly, Finds}
-use Rattle.blk_kept.specs.Keeping.{KeepsUncounted, all_nodes}
-use Rattle.blk_kept.specs.ObjectLaws.{layout_after}
-use Rattle.blk_kept.proofs.ChangedStates.{main-changed}
-use Rattle.blk_kept.proofs.Dirtying.{set-at}
-use Rattle.blk_kept.proofs.Objects.{changed-doomed-kept, changed-items-kept, doomed-find, unsettled-find}
+use Rattle.law_state.specs.Changes.{ChangesOnly, Finds}
+use Rattle.law_state.specs.Keeping.{KeepsUncounted, all_nodes}
+use Rattle.law_state.specs.ObjectLaws.{layout_after}
+use Rattle.law_state.proofs.ChangedStates.{main-changed}
+use Rattle.law_state.proofs.Dirtying.{set-at}
+use Rattle.law_state.proofs.Objects.{changed-doomed-kept, changed-items-kept, doomed-find, unsettled-find}
 use Rattle.blk_object.specs.Writing.{node_of_object}
 use Rattle.blk_object.proofs.WrittenRoles.{role-written, row-written}
 use Rattle.blk_object.proofs.WrittenItems.{KeepsRole, MayBecome}
-use Rattle.blk_format.specs.BlockFiles.{is_among}
-use Rattle.blk_format.proofs.Among.{is_among-append}
-use Rattle.blk_volume.specs.Tidy.{doomed_nodes}
-use Rattle.blk_laws.proofs.states.Laid.{is_among-node}
+use Rattle.spec_format.specs.BlockFiles.{is_among}
+use Rattle.spec_format.proofs.Among.{is_among-append}
+use Rattle.spec_folder.specs.Tidy.{doomed_nodes}
+use Rattle.law_folder.proofs.states.Laid.{is_among-node}
 use Rattle.blk_object.proofs.FoundLeft.{among-map}
 
 -- ---- the object's row and its mark

@@ -2,36 +2,36 @@
 use Rattle.std.proofs.Common.{◌≡◌, ℕ, List, ◌++◌, refl, ap, sym, ◌∙◌, subst, arith, Bool, true, false, cond, Some}
 use Rattle.std.specs.List.Sorted.{IsPermutation}
 use Rattle.std.proofs.lemmas.Bool.{or_left}
-use Rattle.blk_image.specs.Image.{Image}
-use Rattle.blk_image.proofs.Runs.{some_inj}
+use Rattle.spec_image.specs.Image.{Image}
+use Rattle.spec_image.proofs.Runs.{some_inj}
 use Rattle.blk_model.specs.Holding as model
 use Rattle.blk_model.specs.Items.{PartValue, part, part_row}
 use Rattle.blk_model.specs.State.{IsValidState, Object, State, has_item, object_at, part_at}
 use Rattle.blk_model.proofs.Owners.{only_owner}
 use Rattle.blk_model.proofs.Same.{bytes_eq_self}
-use Rattle.blk_format.specs.BlockFiles.{is_among}
-use Rattle.blk_format.specs.Claims.{Claim}
-use Rattle.blk_format.specs.Names.{Name, read_name}
-use Rattle.blk_format.proofs.Among.{is_among-append}
-use Rattle.blk_volume.specs.Audit.{is_parent_of}
-use Rattle.blk_volume.specs.Entries.{IsPart, Role, part_role, stream}
-use Rattle.blk_volume.specs.Footprint.{IsReplaced}
-use Rattle.blk_volume.specs.Found.{row_of_loaded, row_with}
-use Rattle.blk_volume.specs.Layout.{IsPartAt, IsPlacedAt, Layout, is_listed, order, rule_of}
-use Rattle.blk_volume.specs.Loads.{Loaded}
-use Rattle.blk_volume.specs.Sound.{AreSealed, words_of}
-use Rattle.blk_volume.specs.Tidy.{doomed_nodes}
-use Rattle.blk_volume.specs.View.{store_of, view_of}
-use Rattle.blk_laws.proofs.commands.Opening.{listed-times}
-use Rattle.blk_laws.proofs.states.Laid.{is_among-node}
-use Rattle.blk_laws.proofs.walks.Loads.{load-then}
-use Rattle.blk_laws.proofs.walks.Shown.{role-name}
-use Rattle.blk_kept.specs.Changes.{ChangesOnly}
-use Rattle.blk_kept.specs.Keeping.{KeepsUncounted, all_nodes}
-use Rattle.blk_kept.specs.ObjectLaws.{layout_after}
-use Rattle.blk_kept.specs.PartStates.{with_object, with_value}
-use Rattle.blk_kept.proofs.Objects.{changed-items-kept, unsettled-find}
-use Rattle.blk_kept.proofs.PartChanges.{parts-change-alone}
+use Rattle.spec_format.specs.BlockFiles.{is_among}
+use Rattle.spec_format.specs.Claims.{Claim}
+use Rattle.spec_format.specs.Names.{Name, read_name}
+use Rattle.spec_format.proofs.Among.{is_among-append}
+use Rattle.spec_folder.specs.Audit.{is_parent_of}
+use Rattle.spec_folder.specs.Entries.{IsPart, Role, part_role, stream}
+use Rattle.spec_folder.specs.Footprint.{IsReplaced}
+use Rattle.spec_folder.specs.Found.{row_of_loaded, row_with}
+use Rattle.spec_folder.specs.Layout.{IsPartAt, IsPlacedAt, Layout, is_listed, order, rule_of}
+use Rattle.spec_folder.specs.Loads.{Loaded}
+use Rattle.spec_folder.specs.Sound.{AreSealed, words_of}
+use Rattle.spec_folder.specs.Tidy.{doomed_nodes}
+use Rattle.spec_folder.specs.View.{store_of, view_of}
+use Rattle.law_folder.proofs.commands.Opening.{listed-times}
+use Rattle.law_folder.proofs.states.Laid.{is_among-node}
+use Rattle.law_folder.proofs.walks.Loads.{load-then}
+use Rattle.law_folder.proofs.walks.Shown.{role-name}
+use Rattle.law_state.specs.Changes.{ChangesOnly}
+use Rattle.law_state.specs.Keeping.{KeepsUncounted, all_nodes}
+use Rattle.law_state.specs.ObjectLaws.{layout_after}
+use Rattle.law_state.specs.PartStates.{with_object, with_value}
+use Rattle.law_state.proofs.Objects.{changed-items-kept, unsettled-find}
+use Rattle.law_state.proofs.PartChanges.{parts-change-alone}
 use Rattle.blk_object.proofs.WrittenItems.{KeepsRole, MayBecome}
 use Rattle.blk_object.proofs.WrittenRoles.{IsPartRole, part-of, part-role-written}
 

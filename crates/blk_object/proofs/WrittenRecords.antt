@@ -2,20 +2,20 @@
 use Rattle.std.proofs.Common.{◌≡◌, ◌≢◌, ⊎_elim, inl, inr, ℕ, zero, suc, ◌+◌, ◌*◌, ◌<◌, ◌≤◌, List, [], ◌∷◌, refl, ap, ap₂, sym, ◌∙◌, subst, arith, Bool, true, false, Option, Some, None}
 use Rattle.std.specs.Prelude.{◌⊎◌, ◌==◌, ◌&&◌, ◌-◌, ◌/◌, nat_le, nat_lt, take, if◌then◌else◌}
 use Rattle.std.proofs.lemmas.Bool.{and_parts, cases_lt, eqb-true, le-leb, leb-true, ltb-true}
-use Rattle.blk_image.specs.Bytes.{content, word_at}
-use Rattle.blk_image.specs.Image.{AreBytes, Block, Image, byte}
-use Rattle.blk_image.proofs.Words.{same-range, same-word}
-use Rattle.blk_format.specs.Address.{block_count, block_size, blocks_256, byte_size, file_selector, kind_of, place}
-use Rattle.blk_format.specs.Records.{checks, entry_checks, entry_in}
-use Rattle.blk_format.specs.Sealed.{RecordChecks, record_at, record_size, seal_place}
-use Rattle.blk_format.specs.Storage.{entry_blocks}
-use Rattle.blk_format.proofs.SealedFields.{record_word}
-use Rattle.blk_format.proofs.SealedRecords.{length-record, seal_last}
-use Rattle.blk_volume.specs.Entries.{is_key_length, longest_key_with, most_stream_bytes, stored_stream, stored_streams, stream}
-use Rattle.blk_volume.specs.View.{RecordFields, entry_at, fields_of, key_place_at, store_of}
-use Rattle.blk_laws.proofs.claims.BlockBytes.{room_is}
-use Rattle.blk_laws.proofs.updates.Fronts.{AreSmall, entry_checks-by, entry_checks-front, small-range, small-take}
-use Rattle.blk_laws.proofs.updates.Updates.{entry-here, entry-seal}
+use Rattle.spec_image.specs.Bytes.{content, word_at}
+use Rattle.spec_image.specs.Image.{AreBytes, Block, Image, byte}
+use Rattle.spec_image.proofs.Words.{same-range, same-word}
+use Rattle.spec_format.specs.Address.{block_count, block_size, blocks_256, byte_size, file_selector, kind_of, place}
+use Rattle.spec_format.specs.Records.{checks, entry_checks, entry_in}
+use Rattle.spec_format.specs.Sealed.{RecordChecks, record_at, record_size, seal_place}
+use Rattle.spec_format.specs.Storage.{entry_blocks}
+use Rattle.spec_format.proofs.SealedFields.{record_word}
+use Rattle.spec_format.proofs.SealedRecords.{length-record, seal_last}
+use Rattle.spec_folder.specs.Entries.{is_key_length, longest_key_with, most_stream_bytes, stored_stream, stored_streams, stream}
+use Rattle.spec_folder.specs.View.{RecordFields, entry_at, fields_of, key_place_at, store_of}
+use Rattle.law_folder.proofs.claims.BlockBytes.{room_is}
+use Rattle.law_folder.proofs.updates.Fronts.{AreSmall, entry_checks-by, entry_checks-front, small-range, small-take}
+use Rattle.law_folder.proofs.updates.Updates.{entry-here, entry-seal}
 use Rattle.blk_stream.specs.Changing.{record_word as word_print, stream_words}
 use Rattle.blk_stream.specs.Loading.{stored_streams_with}
 use Rattle.blk_stream.specs.Streams.{address_place, address_word, size_place, size_word}

@@ -5,11 +5,11 @@ use Rattle.std.specs.Option.{option_and_then}
 use Rattle.std.proofs.lemmas.Option.{option_and_then_some, cond_some}
 use Rattle.blk_model.specs.Effects.{stream_in, streams_with}
 use Rattle.blk_model.specs.Items.{Row, Shape, Streams, is_sparse, main_row, part_row, plain}
-use Rattle.blk_format.specs.Names.{Name, read_name}
-use Rattle.blk_format.specs.SparseIndex.{ParentIndex, PartIndex, read_parent_index, read_part_index}
-use Rattle.blk_volume.specs.Entries.{IsParent, IsPart, IsPlain, Role, is_covered, parent_role, part_role, role_of, stream}
-use Rattle.blk_volume.specs.Found.{row_with}
-use Rattle.blk_volume.specs.View.{RecordFields}
+use Rattle.spec_format.specs.Names.{Name, read_name}
+use Rattle.spec_format.specs.SparseIndex.{ParentIndex, PartIndex, read_parent_index, read_part_index}
+use Rattle.spec_folder.specs.Entries.{IsParent, IsPart, IsPlain, Role, is_covered, parent_role, part_role, role_of, stream}
+use Rattle.spec_folder.specs.Found.{row_with}
+use Rattle.spec_folder.specs.View.{RecordFields}
 use Rattle.blk_stream.specs.Loading.{stored_streams_with}
 
 -- ---- what its row says

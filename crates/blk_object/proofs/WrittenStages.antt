@@ -5,26 +5,26 @@ use Rattle.std.specs.List.Sorted.{IsPermutation}
 use Rattle.std.specs.List.{AllByRecursion}
 use Rattle.std.proofs.lemmas.Bool.{cases_eq, eqb-true, or_left, or_right}
 use Rattle.std.proofs.lemmas.List.Sorted.{IsPermutation-refl}
-use Rattle.blk_image.specs.Footprint.{SameOutside, either}
-use Rattle.blk_image.specs.Image.{File, Image, has_file}
-use Rattle.blk_image.proofs.Footprints.{outside_wider, within_left}
+use Rattle.spec_image.specs.Footprint.{SameOutside, either}
+use Rattle.spec_image.specs.Image.{File, Image, has_file}
+use Rattle.spec_image.proofs.Footprints.{outside_wider, within_left}
 use Rattle.blk_model.specs.Effects.{stream_after}
 use Rattle.blk_model.specs.Holding.{rest}
 use Rattle.blk_model.specs.Items.{Row}
 use Rattle.blk_model.specs.State.{State}
-use Rattle.blk_format.specs.Address.{blocks_256, byte_size, kind_of}
-use Rattle.blk_format.specs.BlockFiles.{stands_in}
-use Rattle.blk_format.specs.Claims.{Claim, claims_of, claims_of_all, has_claim}
-use Rattle.blk_format.specs.Records.{Entry, entry_checks, entry_is_sealed}
-use Rattle.blk_volume.specs.Entries.{Role, stored_stream, stream}
-use Rattle.blk_volume.specs.Footprint.{IsClear}
-use Rattle.blk_volume.specs.Layout.{Layout}
-use Rattle.blk_volume.specs.Loads.{Loaded}
-use Rattle.blk_volume.specs.Sound.{words_of}
-use Rattle.blk_volume.specs.View.{entry_at, fields_of, store_of}
-use Rattle.blk_laws.proofs.claims.ByteChanges.{stands-some}
-use Rattle.blk_laws.proofs.claims.ClaimLists.{claim-append}
-use Rattle.blk_laws.proofs.claims.Outside.{clear-zero}
+use Rattle.spec_format.specs.Address.{blocks_256, byte_size, kind_of}
+use Rattle.spec_format.specs.BlockFiles.{stands_in}
+use Rattle.spec_format.specs.Claims.{Claim, claims_of, claims_of_all, has_claim}
+use Rattle.spec_format.specs.Records.{Entry, entry_checks, entry_is_sealed}
+use Rattle.spec_folder.specs.Entries.{Role, stored_stream, stream}
+use Rattle.spec_folder.specs.Footprint.{IsClear}
+use Rattle.spec_folder.specs.Layout.{Layout}
+use Rattle.spec_folder.specs.Loads.{Loaded}
+use Rattle.spec_folder.specs.Sound.{words_of}
+use Rattle.spec_folder.specs.View.{entry_at, fields_of, store_of}
+use Rattle.law_folder.proofs.claims.ByteChanges.{stands-some}
+use Rattle.law_folder.proofs.claims.ClaimLists.{claim-append}
+use Rattle.law_folder.proofs.claims.Outside.{clear-zero}
 use Rattle.blk_disk.specs.declared.tables.BlockFiles.{BlockFiles}
 use Rattle.blk_disk.specs.Tables.{Agrees, stands_among}
 use Rattle.blk_entry.specs.Keys.{IsInside, data_at}
@@ -37,11 +37,11 @@ use Rattle.blk_stream.specs.Written.{StreamIsWritten}
 use Rattle.blk_stream.proofs.StreamLists.{stored_there}
 use Rattle.blk_stream.specs.Loading.{stored_streams_with}
 use Rattle.blk_stream.proofs.StreamPlaces.{stream_is_bytes}
-use Rattle.blk_kept.specs.Changes.{Finds, SameCounters, SameSession}
-use Rattle.blk_kept.specs.Keeping.{KeepsUncounted}
-use Rattle.blk_kept.specs.ObjectLaws.{layout_after}
-use Rattle.blk_kept.proofs.AtNodes.{record-own}
-use Rattle.blk_kept.proofs.Keeping.{kept-found}
+use Rattle.law_state.specs.Changes.{Finds, SameCounters, SameSession}
+use Rattle.law_state.specs.Keeping.{KeepsUncounted}
+use Rattle.law_state.specs.ObjectLaws.{layout_after}
+use Rattle.law_state.proofs.AtNodes.{record-own}
+use Rattle.law_state.proofs.Keeping.{kept-found}
 use Rattle.blk_object.specs.Freeing.{AreGoing, Removes}
 use Rattle.blk_object.specs.Making.{Takes, long_word}
 use Rattle.blk_object.proofs.FreedPlaces.{all-counted, all-gone, going-finds}

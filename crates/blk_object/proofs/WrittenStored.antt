@@ -3,13 +3,13 @@ use Rattle.std.proofs.Common.{◌≡◌, ◌≢◌, ℕ, zero, suc, ◌+◌, ◌
 use Rattle.std.specs.Prelude.{◌==◌, ◌||◌, nat_le, if◌then◌else◌}
 use Rattle.std.proofs.lemmas.Bool.{and_parts, eq-eqb, eqb-true, le-leb}
 use Rattle.std.proofs.lemmas.Bool.Decides.{nat_tests}
-use Rattle.blk_image.specs.Bytes.{range_at}
-use Rattle.blk_image.specs.Image.{Block, External, Image, byte, length_of}
-use Rattle.blk_format.specs.Address.{external, external_number, file_selector, kind_of, place}
-use Rattle.blk_format.specs.BlockFiles.{stands_in}
-use Rattle.blk_format.specs.Storage.{is_storage}
-use Rattle.blk_volume.specs.Entries.{most_stream_bytes, stored_stream}
-use Rattle.blk_volume.specs.View.{entry_at, fields_of, store_of, stored_at}
+use Rattle.spec_image.specs.Bytes.{range_at}
+use Rattle.spec_image.specs.Image.{Block, External, Image, byte, length_of}
+use Rattle.spec_format.specs.Address.{external, external_number, file_selector, kind_of, place}
+use Rattle.spec_format.specs.BlockFiles.{stands_in}
+use Rattle.spec_format.specs.Storage.{is_storage}
+use Rattle.spec_folder.specs.Entries.{most_stream_bytes, stored_stream}
+use Rattle.spec_folder.specs.View.{entry_at, fields_of, store_of, stored_at}
 use Rattle.blk_disk.specs.declared.tables.BlockFiles.{BlockFiles}
 use Rattle.blk_disk.specs.Tables.{stands_among}
 use Rattle.blk_entry.specs.Keys.{data_at, stores}

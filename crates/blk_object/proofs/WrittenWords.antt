@@ -7,38 +7,38 @@ use Rattle.std.proofs.lemmas.Bool.{and_parts, cases_Bool, eq-eqb, eqb-true, or_l
 use Rattle.std.proofs.lemmas.Grind.{flat_map-append}
 use Rattle.std.proofs.lemmas.List.Elements.{filter-append}
 use Rattle.std.proofs.lemmas.List.Sorted.{IsPermutation-append_right, IsPermutation-trans}
-use Rattle.blk_image.specs.Bytes.{words_at}
-use Rattle.blk_image.specs.Image.{AreBytes, Image}
+use Rattle.spec_image.specs.Bytes.{words_at}
+use Rattle.spec_image.specs.Image.{AreBytes, Image}
 use Rattle.blk_model.specs.Room.{items}
 use Rattle.blk_model.specs.Sizes.{most_items}
 use Rattle.blk_model.specs.State.{State}
-use Rattle.blk_format.specs.Address.{blocks_256, external, file_selector, is_block_kind, kind_of}
-use Rattle.blk_format.specs.BlockFiles.{is_among, linked_as, stands_in}
-use Rattle.blk_format.specs.Claims.{Claim, claims_of, claims_of_all, has_claim, is_in_file, repeats}
-use Rattle.blk_format.specs.Records.{entry_in}
-use Rattle.blk_format.specs.Standing.{is_linked_as, stands_as_blocks}
-use Rattle.blk_format.specs.Storage.{kind_for}
-use Rattle.blk_format.proofs.Among.{is_among-append}
-use Rattle.blk_volume.specs.Layout.{Layout, order}
-use Rattle.blk_volume.specs.Loads.{Loaded}
-use Rattle.blk_volume.specs.Sound.{words_of}
-use Rattle.blk_volume.specs.View.{entry_at}
-use Rattle.blk_laws.proofs.chains.ChainWords.{record_checks}
-use Rattle.blk_laws.proofs.claims.Allocations.{repeats-head}
-use Rattle.blk_laws.proofs.claims.ByteChanges.{stands-blocks, stands-some}
-use Rattle.blk_laws.proofs.claims.ClaimLists.{claim-append, repeats-append}
-use Rattle.blk_laws.proofs.states.Laid.{repeats-tail}
-use Rattle.blk_laws.proofs.states.Marking.{repeats-apart}
-use Rattle.blk_laws.proofs.updates.StillShown.{standing-parts}
+use Rattle.spec_format.specs.Address.{blocks_256, external, file_selector, is_block_kind, kind_of}
+use Rattle.spec_format.specs.BlockFiles.{is_among, linked_as, stands_in}
+use Rattle.spec_format.specs.Claims.{Claim, claims_of, claims_of_all, has_claim, is_in_file, repeats}
+use Rattle.spec_format.specs.Records.{entry_in}
+use Rattle.spec_format.specs.Standing.{is_linked_as, stands_as_blocks}
+use Rattle.spec_format.specs.Storage.{kind_for}
+use Rattle.spec_format.proofs.Among.{is_among-append}
+use Rattle.spec_folder.specs.Layout.{Layout, order}
+use Rattle.spec_folder.specs.Loads.{Loaded}
+use Rattle.spec_folder.specs.Sound.{words_of}
+use Rattle.spec_folder.specs.View.{entry_at}
+use Rattle.law_folder.proofs.chains.ChainWords.{record_checks}
+use Rattle.law_folder.proofs.claims.Allocations.{repeats-head}
+use Rattle.law_folder.proofs.claims.ByteChanges.{stands-blocks, stands-some}
+use Rattle.law_folder.proofs.claims.ClaimLists.{claim-append, repeats-append}
+use Rattle.law_folder.proofs.states.Laid.{repeats-tail}
+use Rattle.law_folder.proofs.states.Marking.{repeats-apart}
+use Rattle.law_folder.proofs.updates.StillShown.{standing-parts}
 use Rattle.blk_disk.specs.declared.tables.BlockFiles.{BlockFiles}
 use Rattle.blk_disk.specs.Tables.{Agrees}
 use Rattle.blk_stream.specs.Freeing.{MayBeFreed}
 use Rattle.blk_stream.specs.Streams.{address_word}
 use Rattle.blk_stream.specs.Written.{CanBeWritten, places_of_entry}
 use Rattle.blk_stream.proofs.Placed.{blocks_are}
-use Rattle.blk_kept.specs.Keeping.{KeepsUncounted, all_loaded, all_nodes, words_in_use}
-use Rattle.blk_kept.proofs.Bounds.{leave-room}
-use Rattle.blk_kept.proofs.Touched.{to-front}
+use Rattle.law_state.specs.Keeping.{KeepsUncounted, all_loaded, all_nodes, words_in_use}
+use Rattle.law_state.proofs.Bounds.{leave-room}
+use Rattle.law_state.proofs.Touched.{to-front}
 use Rattle.blk_object.proofs.KeptAllocating.{files-counted}
 use Rattle.blk_object.proofs.KeptFreeNumbers.{kept-have-free}
 use Rattle.blk_object.proofs.WrittenItems.{its-address, kind, other-address, record-once, says, stands-so}

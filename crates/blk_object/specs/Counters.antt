@@ -1,15 +1,15 @@
 -- The counters of the index, and what one entry less is to them.
 use Rattle.std.specs.Prelude.{◌≡◌, ℕ, ◌+◌, ◌%◌, ◌^◌, ◌<◌, List, length}
 use Rattle.std.specs.List.{sum_by}
-use Rattle.blk_image.specs.Image.{Image, Index, byte}
+use Rattle.spec_image.specs.Image.{Image, Index, byte}
 use Rattle.blk_model.specs.State.{State}
-use Rattle.blk_format.specs.Headers.{num_bytes_of, num_entries_of, sizes_of}
-use Rattle.blk_laws.specs.IndexWrites.{IsIndexWord}
-use Rattle.blk_volume.specs.Found.{charge_of}
-use Rattle.blk_volume.specs.Layout.{Layout, order}
-use Rattle.blk_volume.specs.Tidy.{loaded_at}
+use Rattle.spec_format.specs.Headers.{num_bytes_of, num_entries_of, sizes_of}
+use Rattle.law_folder.specs.IndexWrites.{IsIndexWord}
+use Rattle.spec_folder.specs.Found.{charge_of}
+use Rattle.spec_folder.specs.Layout.{Layout, order}
+use Rattle.spec_folder.specs.Tidy.{loaded_at}
 use Rattle.blk_object.specs.declared.counters.Counters.{Counters}
-use Rattle.blk_kept.specs.Keeping.{CountsItems, Keeps, KeepsUncounted}
+use Rattle.law_state.specs.Keeping.{CountsItems, Keeps, KeepsUncounted}
 
 -- the counters of the index are these
 pub record AreCounters (counters : Counters) (image : Image) : Type 0 where

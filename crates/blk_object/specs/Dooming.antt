@@ -1,21 +1,21 @@
 -- An object that a handle names is doomed: its items are out, its record gets the state of a doomed one, and its places stay its.
 use Rattle.std.specs.Prelude.{◌≡◌, ℕ, List, [], ◌∷◌, ◌++◌, Ok, Option, Some, true}
-use Rattle.blk_image.specs.Image.{Image}
+use Rattle.spec_image.specs.Image.{Image}
 use Rattle.blk_model.specs.Effects.{doomed}
 use Rattle.blk_model.specs.Items.{main}
 use Rattle.blk_model.specs.State.{Object, State, is_named}
-use Rattle.blk_format.specs.Records.{entry_doomed, entry_normal}
-use Rattle.blk_laws.specs.CommandLaws.{IsPlacedAsLive}
-use Rattle.blk_volume.specs.Layout.{Layout}
-use Rattle.blk_volume.specs.Loads.{Loaded, load, unchained_rule}
-use Rattle.blk_volume.specs.Removal.{is_of_another}
-use Rattle.blk_volume.specs.Sound.{AreSealed, words_of}
-use Rattle.blk_volume.specs.View.{store_of}
-use Rattle.blk_kept.specs.Changes.{SameCounters, SameSession}
-use Rattle.blk_kept.specs.DoomLaws.{CanBeDoomed, layout_doomed}
-use Rattle.blk_kept.specs.HeldPartlyOut.{IsHeldOut}
-use Rattle.blk_kept.specs.Keeping.{KeepsUncounted}
-use Rattle.blk_kept.specs.PartlyOut.{KeepsPartlyOut}
+use Rattle.spec_format.specs.Records.{entry_doomed, entry_normal}
+use Rattle.law_folder.specs.CommandLaws.{IsPlacedAsLive}
+use Rattle.spec_folder.specs.Layout.{Layout}
+use Rattle.spec_folder.specs.Loads.{Loaded, load, unchained_rule}
+use Rattle.spec_folder.specs.Removal.{is_of_another}
+use Rattle.spec_folder.specs.Sound.{AreSealed, words_of}
+use Rattle.spec_folder.specs.View.{store_of}
+use Rattle.law_state.specs.Changes.{SameCounters, SameSession}
+use Rattle.law_state.specs.DoomLaws.{CanBeDoomed, layout_doomed}
+use Rattle.law_state.specs.HeldPartlyOut.{IsHeldOut}
+use Rattle.law_state.specs.Keeping.{KeepsUncounted}
+use Rattle.law_state.specs.PartlyOut.{KeepsPartlyOut}
 use Rattle.blk_object.specs.RemovingFound.{LiesAsFound}
 
 -- the place of the state in a record

@@ -1,17 +1,17 @@
 -- Why a call answers that a folder is damaged: a check that fails, on what is read in the call.
 use Rattle.std.specs.Prelude.{◌≡◌, ◌≢◌, ◌⊎◌, ◌+◌, ◌-◌, ◌%◌, ◌^◌, ◌<◌, ℕ, List, Bool, Option, None, Some, false, min, true}
 use Rattle.std.specs.Option.{ForSome}
-use Rattle.blk_image.specs.Image.{Block, Index, length_of, word}
-use Rattle.blk_image.specs.Told.{Told}
+use Rattle.spec_image.specs.Image.{Block, Index, length_of, word}
+use Rattle.spec_image.specs.Told.{Told}
 use Rattle.blk_model.specs.Sizes.{longest_key}
-use Rattle.blk_format.specs.Address.{blocks_256, file_selector, kind_of, place}
-use Rattle.blk_format.specs.BlockFiles.{is_among}
-use Rattle.blk_format.specs.Headers.{index_length}
-use Rattle.blk_format.specs.Names.{Name, child_name, read_name}
-use Rattle.blk_format.specs.Records.{child, parent}
-use Rattle.blk_format.specs.Sealed.{BeginsWithRecord}
-use Rattle.blk_format.specs.SparseIndex.{read_parent_index, read_part_index}
-use Rattle.blk_volume.specs.View.{entry_at}
+use Rattle.spec_format.specs.Address.{blocks_256, file_selector, kind_of, place}
+use Rattle.spec_format.specs.BlockFiles.{is_among}
+use Rattle.spec_format.specs.Headers.{index_length}
+use Rattle.spec_format.specs.Names.{Name, child_name, read_name}
+use Rattle.spec_format.specs.Records.{child, parent}
+use Rattle.spec_format.specs.Sealed.{BeginsWithRecord}
+use Rattle.spec_format.specs.SparseIndex.{read_parent_index, read_part_index}
+use Rattle.spec_folder.specs.View.{entry_at}
 use Rattle.blk_io.specs.declared.folder.FileId.{FileId}
 use Rattle.blk_io.specs.declared.folder.FileId.TheVariants as names
 use Rattle.blk_io.specs.declared.fault.Damage.{Damage}

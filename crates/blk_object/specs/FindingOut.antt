@@ -1,14 +1,14 @@
 -- What a search finds while some items of a state are out, or none, as a removal asks for it.
 use Rattle.std.specs.Prelude.{◌≡◌, ℕ, List, Bool, Option, Some, false, true}
-use Rattle.blk_image.specs.Image.{Image}
+use Rattle.spec_image.specs.Image.{Image}
 use Rattle.blk_model.specs.Items.{Item, main, part}
 use Rattle.blk_model.specs.State.{State}
-use Rattle.blk_volume.specs.Layout.{Layout, is_listed}
-use Rattle.blk_volume.specs.Loads.{Loaded}
+use Rattle.spec_folder.specs.Layout.{Layout, is_listed}
+use Rattle.spec_folder.specs.Loads.{Loaded}
 use Rattle.blk_chain.specs.declared.found.Found.{Found}
 use Rattle.blk_chain.specs.Finding.{CanBeSearched, IsAnswer}
-use Rattle.blk_kept.specs.Keeping.{KeepsUncounted}
-use Rattle.blk_kept.specs.PartlyOut.{KeepsPartlyOut}
+use Rattle.law_state.specs.Keeping.{KeepsUncounted}
+use Rattle.law_state.specs.PartlyOut.{KeepsPartlyOut}
 use Rattle.blk_object.specs.Removing.{LiesBehind}
 use Rattle.blk_object.specs.RemovingParts.{LiesLeft}
 

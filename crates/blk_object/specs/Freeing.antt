@@ -1,21 +1,21 @@
 -- The places of an object that is gone are freed, one after another.
 use Rattle.std.specs.Prelude.{◌≡◌, ◌≢◌, ◌⊎◌, ℕ, List, [], ◌∷◌, ◌++◌, Bool, IfSome, Option, Some, true}
 use Rattle.std.specs.List.{filter_map}
-use Rattle.blk_image.specs.Footprint.{SameOutside, whole}
-use Rattle.blk_image.specs.Image.{External, Image, Index, byte}
+use Rattle.spec_image.specs.Footprint.{SameOutside, whole}
+use Rattle.spec_image.specs.Image.{External, Image, Index, byte}
 use Rattle.blk_model.specs.Effects.{doomed}
 use Rattle.blk_model.specs.Holding.{rest}
 use Rattle.blk_model.specs.Items.{Item}
 use Rattle.blk_model.specs.State.{Object, State, object_at}
-use Rattle.blk_format.specs.Address.{external, external_number, kind_of}
-use Rattle.blk_format.specs.Growth.{StaysWhole}
-use Rattle.blk_volume.specs.Layout.{Layout}
+use Rattle.spec_format.specs.Address.{external, external_number, kind_of}
+use Rattle.spec_format.specs.Growth.{StaysWhole}
+use Rattle.spec_folder.specs.Layout.{Layout}
 use Rattle.blk_disk.specs.declared.tables.BlockFiles.{BlockFiles}
 use Rattle.blk_disk.specs.Tables.{stands_among}
-use Rattle.blk_kept.specs.Changes.{Finds, KeepsWith, RemovesAllocation, RemovesExternal, SameCounters, SameSession, StillFinds}
-use Rattle.blk_kept.specs.Keeping.{KeepsUncounted}
-use Rattle.blk_kept.specs.PartlyOut.{KeepsPartlyOut}
-use Rattle.blk_kept.specs.PartlyOutStops.{LeavesOtherKeys}
+use Rattle.law_state.specs.Changes.{Finds, KeepsWith, RemovesAllocation, RemovesExternal, SameCounters, SameSession, StillFinds}
+use Rattle.law_state.specs.Keeping.{KeepsUncounted}
+use Rattle.law_state.specs.PartlyOut.{KeepsPartlyOut}
+use Rattle.law_state.specs.PartlyOutStops.{LeavesOtherKeys}
 
 -- What may be freed.
 

@@ -1,18 +1,18 @@
 -- Blocks that are allocated and freed, as `allocate` and `free` promise it, and what the laws on a kept state ask of that.
 use Rattle.std.specs.Prelude.{◌≡◌, ℕ, List, true}
 use Rattle.std.specs.Option.{ForSome}
-use Rattle.blk_image.specs.Image.{Image}
-use Rattle.blk_image.specs.Told.{Passes, PassesTo, Told}
-use Rattle.blk_format.specs.Address.{file_selector, is_address, is_block_kind, kind_of}
-use Rattle.blk_format.specs.BlockFiles.{IsWellFormed}
-use Rattle.blk_format.specs.Growth.{StaysWhole}
+use Rattle.spec_image.specs.Image.{Image}
+use Rattle.spec_image.specs.Told.{Passes, PassesTo, Told}
+use Rattle.spec_format.specs.Address.{file_selector, is_address, is_block_kind, kind_of}
+use Rattle.spec_format.specs.BlockFiles.{IsWellFormed}
+use Rattle.spec_format.specs.Growth.{StaysWhole}
 use Rattle.blk_disk.specs.declared.tables.BlockFiles.{BlockFiles}
 use Rattle.blk_disk.specs.Tables.{Agrees, stands_among}
 use Rattle.blk_alloc.specs.Allocating.{Allocates, AllocatesIn, AllocatesInProgress, AllocatesOrStops, AreCounted, most_allocations}
 use Rattle.blk_alloc.specs.Extending.{HasItsBlocks, KeepsLinks}
 use Rattle.blk_alloc.specs.Owning.{FreesInProgress, FreesOrStops, IsFreed}
-use Rattle.blk_kept.specs.BoundLaws.{HaveFewAllocations}
-use Rattle.blk_kept.specs.Changes.{AddsAllocation, RemovesAllocation, StillFinds}
+use Rattle.law_state.specs.BoundLaws.{HaveFewAllocations}
+use Rattle.law_state.specs.Changes.{AddsAllocation, RemovesAllocation, StillFinds}
 
 -- Any call.
 

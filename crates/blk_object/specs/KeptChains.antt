@@ -1,16 +1,16 @@
 -- A record that goes out of its chain, as `unlink` promises it, and what the laws on a kept state ask of that.
 use Rattle.std.specs.Prelude.{◌⊎◌, ℕ, List, Option}
 use Rattle.std.specs.Option.{ForSome}
-use Rattle.blk_image.specs.Image.{AreBytes, Image}
-use Rattle.blk_image.specs.Told.{Commits, Passes, Told}
+use Rattle.spec_image.specs.Image.{AreBytes, Image}
+use Rattle.spec_image.specs.Told.{Commits, Passes, Told}
 use Rattle.blk_model.specs.State.{State}
-use Rattle.blk_volume.specs.Chains.{bucket_at}
-use Rattle.blk_volume.specs.Layout.{Layout}
-use Rattle.blk_volume.specs.Loads.{Loaded}
+use Rattle.spec_folder.specs.Chains.{bucket_at}
+use Rattle.spec_folder.specs.Layout.{Layout}
+use Rattle.spec_folder.specs.Loads.{Loaded}
 use Rattle.blk_chain.specs.Unlinking.{BeforeChecks, CanBeUnlinked, IsStillLinked, IsUnlinked, StandsBehind, words_to_unlink}
-use Rattle.blk_kept.specs.Arranging.{LeavesFiles}
-use Rattle.blk_kept.specs.Keeping.{KeepsUncounted}
-use Rattle.blk_kept.specs.RemovalLaws.{IsRemovalDone, IsUnlinking, chains_without}
+use Rattle.law_state.specs.Arranging.{LeavesFiles}
+use Rattle.law_state.specs.Keeping.{KeepsUncounted}
+use Rattle.law_state.specs.RemovalLaws.{IsRemovalDone, IsUnlinking, chains_without}
 
 -- where its node is out of the list, the record of an item of a kept state can be unlinked, and the record before it checks, as `unlink` asks
 abbrev pub KeptRecordsCanBeUnlinked : Type 0

@@ -1,27 +1,27 @@
 -- A new entry that is written, as `write_entry` promises it, and what the laws on a kept state ask of that.
 use Rattle.std.specs.Prelude.{◌≡◌, ℕ, ◌<◌, List, ◌++◌, length, None, Ok}
 use Rattle.std.specs.Option.{ForSome}
-use Rattle.blk_image.specs.Image.{Image, Index, byte}
-use Rattle.blk_image.specs.Told.{Passes, Told}
+use Rattle.spec_image.specs.Image.{Image, Index, byte}
+use Rattle.spec_image.specs.Told.{Passes, Told}
 use Rattle.blk_model.specs.Holding.{owner}
 use Rattle.blk_model.specs.Items.{main}
 use Rattle.blk_model.specs.State.{State}
 use Rattle.blk_disk.specs.declared.tables.BlockFiles.{BlockFiles}
 use Rattle.blk_disk.specs.Tables.{Agrees}
-use Rattle.blk_format.specs.Claims.{has_claim}
-use Rattle.blk_format.specs.Headers.{this_id_of}
-use Rattle.blk_format.specs.Records.{entry_normal}
-use Rattle.blk_volume.specs.Layout.{Layout}
-use Rattle.blk_volume.specs.ListView.{most_nodes}
-use Rattle.blk_volume.specs.Loads.{all_claims, load, unchained_rule}
-use Rattle.blk_volume.specs.Searches.{bucket_of_key}
-use Rattle.blk_volume.specs.Sound.{words_of}
-use Rattle.blk_volume.specs.View.{store_of}
+use Rattle.spec_format.specs.Claims.{has_claim}
+use Rattle.spec_format.specs.Headers.{this_id_of}
+use Rattle.spec_format.specs.Records.{entry_normal}
+use Rattle.spec_folder.specs.Layout.{Layout}
+use Rattle.spec_folder.specs.ListView.{most_nodes}
+use Rattle.spec_folder.specs.Loads.{all_claims, load, unchained_rule}
+use Rattle.spec_folder.specs.Searches.{bucket_of_key}
+use Rattle.spec_folder.specs.Sound.{words_of}
+use Rattle.spec_folder.specs.View.{store_of}
 use Rattle.blk_entry.specs.declared.writing.NewEntry.{NewEntry}
 use Rattle.blk_entry.specs.Writing.{AreWords, FitsKey, IsShownNew, IsWritten, WritesEntryInProgress, loaded_new}
-use Rattle.blk_kept.specs.Changes.{ChangesOnly, KeepsWith}
-use Rattle.blk_kept.specs.Keeping.{KeepsUncounted}
-use Rattle.blk_kept.specs.NewEntryLaws.{IsNewEntryOf}
+use Rattle.law_state.specs.Changes.{ChangesOnly, KeepsWith}
+use Rattle.law_state.specs.Keeping.{KeepsUncounted}
+use Rattle.law_state.specs.NewEntryLaws.{IsNewEntryOf}
 
 -- at each word of it nothing but what its words name changes
 abbrev pub NewEntriesChangeTheirOwn : Type 0

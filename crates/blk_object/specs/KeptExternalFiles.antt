@@ -1,20 +1,20 @@
 -- External files that are made and deleted, as `create` and `delete` promise it, and what the laws on a kept state ask of that.
 use Rattle.std.specs.Prelude.{◌≡◌, ℕ, ◌+◌, ◌*◌, ◌<◌, List, [], ◌∷◌, length, None, true}
 use Rattle.std.specs.Option.{ForSome}
-use Rattle.blk_image.specs.Footprint.{whole}
-use Rattle.blk_image.specs.Image.{Image}
-use Rattle.blk_image.specs.Told.{Applies, Passes, Told}
+use Rattle.spec_image.specs.Footprint.{whole}
+use Rattle.spec_image.specs.Image.{Image}
+use Rattle.spec_image.specs.Told.{Applies, Passes, Told}
 use Rattle.blk_model.specs.Room.{items}
 use Rattle.blk_model.specs.State.{State}
-use Rattle.blk_format.specs.Address.{external, external_number, is_address, kind_of}
-use Rattle.blk_format.specs.BlockFiles.{IsWellFormed, stands_in}
-use Rattle.blk_volume.specs.Layout.{Layout}
+use Rattle.spec_format.specs.Address.{external, external_number, is_address, kind_of}
+use Rattle.spec_format.specs.BlockFiles.{IsWellFormed, stands_in}
+use Rattle.spec_folder.specs.Layout.{Layout}
 use Rattle.blk_external.specs.Changes.{ChangesExternal}
 use Rattle.blk_external.specs.Making.{Creates, CreatesInProgress, last_number, making}
 use Rattle.blk_external.specs.Numbers.{HasFreeNumber, IsFirstFree, most_number, named_file}
-use Rattle.blk_kept.specs.BoundLaws.{most_words}
-use Rattle.blk_kept.specs.Changes.{AddsExternal, RemovesExternal, StillFinds}
-use Rattle.blk_kept.specs.Keeping.{KeepsUncounted}
+use Rattle.law_state.specs.BoundLaws.{most_words}
+use Rattle.law_state.specs.Changes.{AddsExternal, RemovesExternal, StillFinds}
+use Rattle.law_state.specs.Keeping.{KeepsUncounted}
 
 -- Create.
 

@@ -1,25 +1,25 @@
 -- Nodes that come into the use list, go out of it and are touched, as `insert_front`, `remove` and `touch` promise it, and what the laws on a kept state ask of that.
 use Rattle.std.specs.Prelude.{◌≡◌, ℕ, List, ◌∷◌, ◌++◌, true}
 use Rattle.std.specs.Option.{ForSome}
-use Rattle.blk_image.specs.Image.{Image}
-use Rattle.blk_image.specs.Told.{Applies, Passes, TellsBytes, Told}
+use Rattle.spec_image.specs.Image.{Image}
+use Rattle.spec_image.specs.Told.{Applies, Passes, TellsBytes, Told}
 use Rattle.blk_model.specs.Items.{Item}
 use Rattle.blk_model.specs.State.{State}
 use Rattle.blk_disk.specs.declared.tables.BlockFiles.{BlockFiles}
 use Rattle.blk_disk.specs.Open.{IsOpen}
-use Rattle.blk_volume.specs.Completion.{insert, remove}
-use Rattle.blk_volume.specs.Layout.{Layout, is_listed}
-use Rattle.blk_volume.specs.ListImages.{HasListAtRest, operation_steps, steps_of_touch, walked}
-use Rattle.blk_volume.specs.ListPlans.{touch_writes, writes_of}
-use Rattle.blk_volume.specs.ListSteps.{IsPartly, IsTouched}
-use Rattle.blk_volume.specs.ListView.{CanBeInserted}
-use Rattle.blk_volume.specs.Loads.{Loaded}
-use Rattle.blk_volume.specs.View.{list_of}
+use Rattle.spec_folder.specs.Completion.{insert, remove}
+use Rattle.spec_folder.specs.Layout.{Layout, is_listed}
+use Rattle.spec_folder.specs.ListImages.{HasListAtRest, operation_steps, steps_of_touch, walked}
+use Rattle.spec_folder.specs.ListPlans.{touch_writes, writes_of}
+use Rattle.spec_folder.specs.ListSteps.{IsPartly, IsTouched}
+use Rattle.spec_folder.specs.ListView.{CanBeInserted}
+use Rattle.spec_folder.specs.Loads.{Loaded}
+use Rattle.spec_folder.specs.View.{list_of}
 use Rattle.blk_lru.specs.Moments.{IsMidOperation, IsMidTouch}
-use Rattle.blk_kept.specs.Keeping.{KeepsUncounted}
-use Rattle.blk_kept.specs.ListLaws.{IsTouchDone}
-use Rattle.blk_kept.specs.NewEntryLaws.{IsInsertDone, IsNewEntryOf}
-use Rattle.blk_kept.specs.RemovalLaws.{IsRemovalDone}
+use Rattle.law_state.specs.Keeping.{KeepsUncounted}
+use Rattle.law_state.specs.ListLaws.{IsTouchDone}
+use Rattle.law_state.specs.NewEntryLaws.{IsInsertDone, IsNewEntryOf}
+use Rattle.law_state.specs.RemovalLaws.{IsRemovalDone}
 
 -- What the calls ask of the list.
 

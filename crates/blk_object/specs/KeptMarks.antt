@@ -1,20 +1,20 @@
 -- Dirty words and links, as `set_dirty`, `set_clean` and `link_front` promise them, and what the laws on a kept state ask of that.
 use Rattle.std.specs.Prelude.{◌≡◌, ◌⊎◌, ℕ, ◌<◌, ◌^◌, List, Some, true}
 use Rattle.std.specs.Option.{ForSome}
-use Rattle.blk_image.specs.Image.{AreBytes, Image}
-use Rattle.blk_image.specs.Told.{Applies, Commits, Passes, TellsBytes, Told}
+use Rattle.spec_image.specs.Image.{AreBytes, Image}
+use Rattle.spec_image.specs.Told.{Applies, Commits, Passes, TellsBytes, Told}
 use Rattle.blk_model.specs.State.{State}
-use Rattle.blk_format.specs.Address.{kind_of, rankings}
-use Rattle.blk_format.specs.BlockFiles.{IsWellFormed}
-use Rattle.blk_format.specs.Sealed.{RecordChecks}
-use Rattle.blk_volume.specs.Layout.{Layout}
-use Rattle.blk_volume.specs.Loads.{Loaded}
-use Rattle.blk_volume.specs.View.{list_of}
+use Rattle.spec_format.specs.Address.{kind_of, rankings}
+use Rattle.spec_format.specs.BlockFiles.{IsWellFormed}
+use Rattle.spec_format.specs.Sealed.{RecordChecks}
+use Rattle.spec_folder.specs.Layout.{Layout}
+use Rattle.spec_folder.specs.Loads.{Loaded}
+use Rattle.spec_folder.specs.View.{list_of}
 use Rattle.blk_entry.specs.Marks.{SetsDirtyInProgress, mark_steps}
 use Rattle.blk_chain.specs.Linking.{CanBeLinked, IsLinkedInFront}
-use Rattle.blk_kept.specs.Keeping.{KeepsUncounted}
-use Rattle.blk_kept.specs.NewEntryLaws.{HasRecordInFront, IsInsertDone, IsNewEntryOf}
-use Rattle.blk_kept.specs.RecordLaws.{IsMarked, IsMarking}
+use Rattle.law_state.specs.Keeping.{KeepsUncounted}
+use Rattle.law_state.specs.NewEntryLaws.{HasRecordInFront, IsInsertDone, IsNewEntryOf}
+use Rattle.law_state.specs.RecordLaws.{IsMarked, IsMarking}
 
 -- Dirty words.
 

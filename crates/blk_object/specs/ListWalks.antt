@@ -1,10 +1,10 @@
 -- A walk over the use list, from node to node: where it ends, and where it goes on behind more nodes than a list has.
 use Rattle.std.specs.Prelude.{◌≡◌, ℕ, ◌+◌, ◌==◌, List, [], ◌∷◌, length, Option, None, Some, if◌then◌else◌, true}
 use Rattle.std.specs.Option.{ForSome}
-use Rattle.blk_image.specs.Image.{Image}
-use Rattle.blk_image.specs.Told.{Told}
-use Rattle.blk_volume.specs.ListView.{ListView, most_nodes}
-use Rattle.blk_volume.specs.View.{list_of}
+use Rattle.spec_image.specs.Image.{Image}
+use Rattle.spec_image.specs.Told.{Told}
+use Rattle.spec_folder.specs.ListView.{ListView, most_nodes}
+use Rattle.spec_folder.specs.View.{list_of}
 use Rattle.blk_record.specs.declared.node.TheConstants.NodeView as NodeView
 use Rattle.blk_io.specs.declared.fault.Damage.{Damage}
 use Rattle.blk_disk.specs.declared.tables.BlockFiles.{BlockFiles}

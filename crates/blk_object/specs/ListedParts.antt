@@ -3,25 +3,25 @@ use Rattle.std.specs.Prelude.{◌≡◌, ℕ, ◌<◌, List, [], ◌∷◌, ◌+
 use Rattle.std.specs.List.{AllByRecursion}
 use Rattle.std.specs.Option.{option_map}
 use Rattle.std.specs.Str.{bytes_eq}
-use Rattle.blk_image.specs.Image.{Image}
+use Rattle.spec_image.specs.Image.{Image}
 use Rattle.blk_model.specs.Items.{Item, main, part}
 use Rattle.blk_model.specs.Sizes.{part_count}
 use Rattle.blk_model.specs.State.{State}
-use Rattle.blk_format.specs.Address.{blocks_256, kind_of}
-use Rattle.blk_format.specs.Names.{Name, child_name, read_name}
-use Rattle.blk_format.specs.SparseIndex.{ParentIndex}
-use Rattle.blk_volume.specs.Entries.{IsParent, IsPart, IsPlain, Role}
-use Rattle.blk_volume.specs.Layout.{Layout, is_listed}
-use Rattle.blk_volume.specs.Loads.{Loaded, Rule, load}
-use Rattle.blk_volume.specs.View.{store_of}
+use Rattle.spec_format.specs.Address.{blocks_256, kind_of}
+use Rattle.spec_format.specs.Names.{Name, child_name, read_name}
+use Rattle.spec_format.specs.SparseIndex.{ParentIndex}
+use Rattle.spec_folder.specs.Entries.{IsParent, IsPart, IsPlain, Role}
+use Rattle.spec_folder.specs.Layout.{Layout, is_listed}
+use Rattle.spec_folder.specs.Loads.{Loaded, Rule, load}
+use Rattle.spec_folder.specs.View.{store_of}
 use Rattle.blk_disk.specs.declared.tables.BlockFiles.{BlockFiles}
 use Rattle.blk_disk.specs.Tables.{is_node_among, stands_among}
-use Rattle.blk_kept.specs.PartlyOut.{KeepsPartlyOut}
-use Rattle.blk_kept.specs.PartlyOutStops.{LeavesOtherKeys}
+use Rattle.law_state.specs.PartlyOut.{KeepsPartlyOut}
+use Rattle.law_state.specs.PartlyOutStops.{LeavesOtherKeys}
 use Rattle.blk_chain.specs.Finding.{IsFound}
 use Rattle.blk_chain.specs.Unlinking.{StandsBehind}
-use Rattle.blk_volume.specs.Removal.{is_of_another}
-use Rattle.blk_volume.specs.Searches.{bucket_of_key}
+use Rattle.spec_folder.specs.Removal.{is_of_another}
+use Rattle.spec_folder.specs.Searches.{bucket_of_key}
 use Rattle.blk_entry.specs.Keys.{key_bytes}
 use Rattle.blk_object.specs.NextItems.{LiesNext}
 use Rattle.blk_object.specs.RemovingNext.{CountsLeft}

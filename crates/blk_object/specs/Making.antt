@@ -1,6 +1,6 @@
 -- What a new object leaves: its places, its entry, and the state with it.
 use Rattle.std.specs.Prelude.{◌≡◌, ℕ, ◌+◌, ◌<◌, ◌≤◌, List, [], ◌∷◌, ◌++◌, length, Option, None, Some, false, true}
-use Rattle.blk_image.specs.Image.{Image, Index, byte}
+use Rattle.spec_image.specs.Image.{Image, Index, byte}
 use Rattle.blk_model.specs.Effects.{created}
 use Rattle.blk_model.specs.Holding.{owner, rest}
 use Rattle.blk_model.specs.Items.{main}
@@ -9,21 +9,21 @@ use Rattle.blk_model.specs.Request.{IsRequest, to_create}
 use Rattle.blk_model.specs.Room.{items}
 use Rattle.blk_model.specs.Sizes.{most_items}
 use Rattle.blk_model.specs.State.{State, IsValidState}
-use Rattle.blk_format.specs.BlockFiles.{is_among}
-use Rattle.blk_format.specs.Headers.{this_id_of}
-use Rattle.blk_volume.specs.Creation.{with_new}
-use Rattle.blk_volume.specs.Layout.{Layout}
-use Rattle.blk_volume.specs.ListSteps.{AreTimes}
-use Rattle.blk_volume.specs.Loads.{Loaded}
-use Rattle.blk_volume.specs.Sound.{words_of}
-use Rattle.blk_volume.specs.View.{entry_at, store_of}
+use Rattle.spec_format.specs.BlockFiles.{is_among}
+use Rattle.spec_format.specs.Headers.{this_id_of}
+use Rattle.spec_folder.specs.Creation.{with_new}
+use Rattle.spec_folder.specs.Layout.{Layout}
+use Rattle.spec_folder.specs.ListSteps.{AreTimes}
+use Rattle.spec_folder.specs.Loads.{Loaded}
+use Rattle.spec_folder.specs.Sound.{words_of}
+use Rattle.spec_folder.specs.View.{entry_at, store_of}
 use Rattle.blk_entry.specs.declared.writing.NewEntry.{NewEntry}
 use Rattle.blk_entry.specs.Writing.{loaded_new}
-use Rattle.blk_kept.specs.BoundLaws.{most_words}
-use Rattle.blk_kept.specs.CommandStates.{with_room}
-use Rattle.blk_kept.specs.Changes.{Finds, KeepsWith, SameCounters, SameSession}
-use Rattle.blk_kept.specs.Keeping.{Keeps, KeepsUncounted}
-use Rattle.blk_kept.specs.NewEntryLaws.{IsNewEntryOf}
+use Rattle.law_state.specs.BoundLaws.{most_words}
+use Rattle.law_state.specs.CommandStates.{with_room}
+use Rattle.law_state.specs.Changes.{Finds, KeepsWith, SameCounters, SameSession}
+use Rattle.law_state.specs.Keeping.{Keeps, KeepsUncounted}
+use Rattle.law_state.specs.NewEntryLaws.{IsNewEntryOf}
 use Rattle.blk_object.specs.declared.making.Made.{Made}
 use Rattle.blk_object.specs.declared.making_places.Places.{Places}
 

@@ -1,17 +1,17 @@
 -- The next item of an object goes, while others are out: it is taken out, what it has is freed, and it is counted no longer.
 use Rattle.std.specs.Prelude.{◌≡◌, ◌⊎◌, ℕ, List, ◌++◌, Bool, Option, Some, true}
-use Rattle.blk_image.specs.Image.{Image}
+use Rattle.spec_image.specs.Image.{Image}
 use Rattle.blk_model.specs.Items.{Item, main, part}
 use Rattle.blk_model.specs.State.{Object, State, object_at}
-use Rattle.blk_format.specs.Records.{entry_normal}
-use Rattle.blk_volume.specs.Found.{charge_of}
-use Rattle.blk_volume.specs.Layout.{Layout}
-use Rattle.blk_volume.specs.Loads.{Loaded}
-use Rattle.blk_volume.specs.Sound.{words_of}
-use Rattle.blk_kept.specs.Changes.{SameCounters, SameSession}
-use Rattle.blk_kept.specs.Keeping.{KeepsUncounted}
-use Rattle.blk_kept.specs.PartlyOut.{KeepsPartlyOut, chains_but, keeps_but}
-use Rattle.blk_kept.specs.PartlyOutStops.{LeavesOtherKeys}
+use Rattle.spec_format.specs.Records.{entry_normal}
+use Rattle.spec_folder.specs.Found.{charge_of}
+use Rattle.spec_folder.specs.Layout.{Layout}
+use Rattle.spec_folder.specs.Loads.{Loaded}
+use Rattle.spec_folder.specs.Sound.{words_of}
+use Rattle.law_state.specs.Changes.{SameCounters, SameSession}
+use Rattle.law_state.specs.Keeping.{KeepsUncounted}
+use Rattle.law_state.specs.PartlyOut.{KeepsPartlyOut, chains_but, keeps_but}
+use Rattle.law_state.specs.PartlyOutStops.{LeavesOtherKeys}
 use Rattle.blk_object.specs.Freeing.{AreGoing}
 use Rattle.blk_object.specs.Removing.{IsGoingOut}
 use Rattle.blk_object.specs.RemovingFound.{LiesAsFound}

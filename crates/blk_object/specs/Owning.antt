@@ -1,16 +1,16 @@
 -- The places that an entry has: those of its node, its record, its long key and its streams.
 use Rattle.std.specs.Prelude.{◌≡◌, ℕ, Bool, List, Ok, Some, true, ◌&&◌, ◌||◌, ◌==◌}
-use Rattle.blk_image.specs.Image.{Image}
+use Rattle.spec_image.specs.Image.{Image}
 use Rattle.blk_model.specs.Items.{Item}
 use Rattle.blk_model.specs.State.{State}
-use Rattle.blk_format.specs.Address.{external, is_address, kind_of}
-use Rattle.blk_volume.specs.Layout.{Layout, is_listed}
-use Rattle.blk_volume.specs.Loads.{Loaded, Rule, load}
-use Rattle.blk_volume.specs.View.{store_of}
+use Rattle.spec_format.specs.Address.{external, is_address, kind_of}
+use Rattle.spec_folder.specs.Layout.{Layout, is_listed}
+use Rattle.spec_folder.specs.Loads.{Loaded, Rule, load}
+use Rattle.spec_folder.specs.View.{store_of}
 use Rattle.blk_disk.specs.declared.tables.BlockFiles.{BlockFiles}
 use Rattle.blk_disk.specs.Tables.{stands_among}
-use Rattle.blk_kept.specs.Keeping.{KeepsUncounted}
-use Rattle.blk_kept.specs.PartlyOut.{KeepsPartlyOut}
+use Rattle.law_state.specs.Keeping.{KeepsUncounted}
+use Rattle.law_state.specs.PartlyOut.{KeepsPartlyOut}
 
 -- whether a word is an address of an external file, or of blocks that are there
 unfoldable pub is_there : BlockFiles → ℕ → Bool

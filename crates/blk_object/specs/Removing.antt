@@ -1,21 +1,21 @@
 -- An object goes: the node of an item is taken out of the use list, and its record out of its chain.
 use Rattle.std.specs.Prelude.{◌≡◌, ◌⊎◌, ℕ, List, Option, None, Some, true}
-use Rattle.blk_image.specs.Image.{AreBytes, Image}
+use Rattle.spec_image.specs.Image.{AreBytes, Image}
 use Rattle.blk_model.specs.Items.{Item}
 use Rattle.blk_model.specs.State.{State}
-use Rattle.blk_volume.specs.Completion.{remove}
-use Rattle.blk_volume.specs.Layout.{Layout, is_listed}
-use Rattle.blk_volume.specs.ListPlans.{writes_of}
-use Rattle.blk_volume.specs.ListSteps.{IsPartly}
-use Rattle.blk_volume.specs.Loads.{Loaded}
-use Rattle.blk_volume.specs.Searches.{bucket_of_key}
-use Rattle.blk_volume.specs.View.{list_of}
+use Rattle.spec_folder.specs.Completion.{remove}
+use Rattle.spec_folder.specs.Layout.{Layout, is_listed}
+use Rattle.spec_folder.specs.ListPlans.{writes_of}
+use Rattle.spec_folder.specs.ListSteps.{IsPartly}
+use Rattle.spec_folder.specs.Loads.{Loaded}
+use Rattle.spec_folder.specs.Searches.{bucket_of_key}
+use Rattle.spec_folder.specs.View.{list_of}
 use Rattle.blk_chain.specs.Unlinking.{BeforeChecks, CanBeUnlinked, IsSealedAgain, IsStillLinked, IsUnlinked, StandsBehind}
-use Rattle.blk_kept.specs.Changes.{SameCounters, SameSession}
-use Rattle.blk_kept.specs.Keeping.{KeepsUncounted}
-use Rattle.blk_kept.specs.PlainRemovals.{IsRemoved, IsRemoving}
-use Rattle.blk_kept.specs.RemovalLaws.{IsRemovalDone, chains_without}
-use Rattle.blk_kept.specs.WordStops.{IsMidRemoval}
+use Rattle.law_state.specs.Changes.{SameCounters, SameSession}
+use Rattle.law_state.specs.Keeping.{KeepsUncounted}
+use Rattle.law_state.specs.PlainRemovals.{IsRemoved, IsRemoving}
+use Rattle.law_state.specs.RemovalLaws.{IsRemovalDone, chains_without}
+use Rattle.law_state.specs.WordStops.{IsMidRemoval}
 use Rattle.blk_object.specs.KeptLists.{IsAmidList}
 
 -- What the call does.

@@ -1,12 +1,12 @@
 -- What a search finds in a kept state, as a removal asks for it.
 use Rattle.std.specs.Prelude.{◌≡◌, ℕ, List, Option, false}
-use Rattle.blk_image.specs.Image.{Image}
+use Rattle.spec_image.specs.Image.{Image}
 use Rattle.blk_model.specs.Items.{main}
 use Rattle.blk_model.specs.State.{State}
-use Rattle.blk_volume.specs.Layout.{Layout}
-use Rattle.blk_volume.specs.Loads.{Loaded}
+use Rattle.spec_folder.specs.Layout.{Layout}
+use Rattle.spec_folder.specs.Loads.{Loaded}
 use Rattle.blk_chain.specs.Finding.{CanBeSearched, IsFound}
-use Rattle.blk_kept.specs.Keeping.{KeepsUncounted}
+use Rattle.law_state.specs.Keeping.{KeepsUncounted}
 use Rattle.blk_object.specs.Removing.{LiesBehind}
 
 -- where a state is kept the chain of each key can be searched, as `find` asks

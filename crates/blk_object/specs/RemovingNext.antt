@@ -1,23 +1,23 @@
 -- What the index counts while items of an object are out, each freed and counted less before the next.
 use Rattle.std.specs.Prelude.{◌≡◌, ℕ, ◌%◌, ◌^◌, List, [], ◌∷◌, ◌++◌, Bool, Option, None, Some, false, filter, length, true}
-use Rattle.blk_image.specs.Image.{Image, Index, byte}
+use Rattle.spec_image.specs.Image.{Image, Index, byte}
 use Rattle.blk_model.specs.Items.{Item}
 use Rattle.blk_model.specs.Refusals.{refused}
 use Rattle.blk_model.specs.Request.{Request}
 use Rattle.blk_model.specs.Room.{Group, whole, without}
 use Rattle.blk_model.specs.State.{IsValidState, Object, State, is_named, object_at}
 use Rattle.blk_model.specs.Step.{step}
-use Rattle.blk_format.specs.Headers.{num_bytes_of, num_entries_of, sizes_of}
-use Rattle.blk_volume.specs.Found.{charge_of}
-use Rattle.blk_volume.specs.Layout.{Layout, is_listed, nodes_of}
-use Rattle.blk_volume.specs.Loads.{Loaded}
-use Rattle.blk_volume.specs.Removal.{is_of_another, without_items}
-use Rattle.blk_kept.specs.Changes.{SameSession}
-use Rattle.blk_kept.specs.CommandStates.{IsDoomOf}
-use Rattle.blk_kept.specs.CountsOfParts.{charges_at}
-use Rattle.blk_kept.specs.GroupLaws.{IsLess, gone_nodes, layout_less}
-use Rattle.blk_kept.specs.Keeping.{Keeps}
-use Rattle.blk_kept.specs.PartlyOut.{KeepsPartlyOut, keeps_but}
+use Rattle.spec_format.specs.Headers.{num_bytes_of, num_entries_of, sizes_of}
+use Rattle.spec_folder.specs.Found.{charge_of}
+use Rattle.spec_folder.specs.Layout.{Layout, is_listed, nodes_of}
+use Rattle.spec_folder.specs.Loads.{Loaded}
+use Rattle.spec_folder.specs.Removal.{is_of_another, without_items}
+use Rattle.law_state.specs.Changes.{SameSession}
+use Rattle.law_state.specs.CommandStates.{IsDoomOf}
+use Rattle.law_state.specs.CountsOfParts.{charges_at}
+use Rattle.law_state.specs.GroupLaws.{IsLess, gone_nodes, layout_less}
+use Rattle.law_state.specs.Keeping.{Keeps}
+use Rattle.law_state.specs.PartlyOut.{KeepsPartlyOut, keeps_but}
 use Rattle.blk_object.specs.Counters.{AreCountedLess}
 
 -- the counters of the index count the items that are still listed, and sum their charges

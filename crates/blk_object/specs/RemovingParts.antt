@@ -1,20 +1,20 @@
 -- Items of a sparse object are taken out one after another, and freed: what each is to what is kept in between.
 use Rattle.std.specs.Prelude.{◌≡◌, ◌⊎◌, ℕ, List, [], ◌∷◌, ◌++◌, Bool, Ok, Option, Some, is_some, true}
-use Rattle.blk_image.specs.Image.{Image}
+use Rattle.spec_image.specs.Image.{Image}
 use Rattle.blk_model.specs.Effects.{doomed}
 use Rattle.blk_model.specs.Holding.{rest}
 use Rattle.blk_model.specs.Items.{Item, main, part}
 use Rattle.blk_model.specs.Room.{single, without}
 use Rattle.blk_model.specs.State.{Object, State, object_at, part_at}
-use Rattle.blk_format.specs.Records.{entry_normal}
-use Rattle.blk_volume.specs.Layout.{Layout}
-use Rattle.blk_volume.specs.Loads.{Loaded, load, unchained_rule}
-use Rattle.blk_volume.specs.Sound.{AreSealed, words_of}
-use Rattle.blk_volume.specs.View.{store_of}
-use Rattle.blk_kept.specs.Changes.{Finds}
-use Rattle.blk_kept.specs.Keeping.{KeepsUncounted}
-use Rattle.blk_kept.specs.PartlyOut.{KeepsPartlyOut, chains_but, keeps_but}
-use Rattle.blk_kept.specs.PartlyOutStops.{LeavesOtherKeys}
+use Rattle.spec_format.specs.Records.{entry_normal}
+use Rattle.spec_folder.specs.Layout.{Layout}
+use Rattle.spec_folder.specs.Loads.{Loaded, load, unchained_rule}
+use Rattle.spec_folder.specs.Sound.{AreSealed, words_of}
+use Rattle.spec_folder.specs.View.{store_of}
+use Rattle.law_state.specs.Changes.{Finds}
+use Rattle.law_state.specs.Keeping.{KeepsUncounted}
+use Rattle.law_state.specs.PartlyOut.{KeepsPartlyOut, chains_but, keeps_but}
+use Rattle.law_state.specs.PartlyOutStops.{LeavesOtherKeys}
 use Rattle.blk_object.specs.Removing.{IsBeingUnlinked, IsGoingOut, IsTakenOut, LiesBehind, MayGoOut}
 
 -- an item that isn't out lies at its node, and its record stands in its chain, of the chains as they are, behind this one, or is the first

@@ -1,19 +1,19 @@
 -- What lies in unlinked places, as the main item of an object whose parts go after it, loads yet by itself while others go.
 use Rattle.std.specs.Prelude.{◌≡◌, ℕ, List, ◌++◌, Bool, Ok, Option, Some, false, true}
-use Rattle.blk_image.specs.Image.{Image}
+use Rattle.spec_image.specs.Image.{Image}
 use Rattle.blk_model.specs.Effects.{doomed}
 use Rattle.blk_model.specs.Items.{Item}
 use Rattle.blk_model.specs.State.{Object, State}
-use Rattle.blk_format.specs.Claims.{Claim, claims_of_all, has_claim, repeats}
-use Rattle.blk_volume.specs.Layout.{Layout}
-use Rattle.blk_volume.specs.Loads.{Loaded, all_claims, load, unchained_rule}
-use Rattle.blk_volume.specs.Removal.{is_of_another}
-use Rattle.blk_volume.specs.Sound.{AreSealed}
-use Rattle.blk_volume.specs.View.{store_of}
-use Rattle.blk_kept.specs.HeldPartlyOut.{IsHeldOut}
-use Rattle.blk_kept.specs.Keeping.{Keeps}
-use Rattle.blk_kept.specs.PartlyOut.{KeepsPartlyOut}
-use Rattle.blk_kept.specs.WholeRemovals.{layout_doomed_whole}
+use Rattle.spec_format.specs.Claims.{Claim, claims_of_all, has_claim, repeats}
+use Rattle.spec_folder.specs.Layout.{Layout}
+use Rattle.spec_folder.specs.Loads.{Loaded, all_claims, load, unchained_rule}
+use Rattle.spec_folder.specs.Removal.{is_of_another}
+use Rattle.spec_folder.specs.Sound.{AreSealed}
+use Rattle.spec_folder.specs.View.{store_of}
+use Rattle.law_state.specs.HeldPartlyOut.{IsHeldOut}
+use Rattle.law_state.specs.Keeping.{Keeps}
+use Rattle.law_state.specs.PartlyOut.{KeepsPartlyOut}
+use Rattle.law_state.specs.WholeRemovals.{layout_doomed_whole}
 use Rattle.blk_object.specs.Counters.{AreCountedLess}
 use Rattle.blk_object.specs.Freeing.{Removes}
 use Rattle.blk_object.specs.Removing.{IsTakenOut}

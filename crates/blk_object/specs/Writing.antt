@@ -1,28 +1,28 @@
 -- A stream of an open object is written: which objects can have it, and what is kept then.
 use Rattle.std.specs.Prelude.{◌≡◌, ℕ, ◌+◌, ◌<◌, ◌≤◌, ◌%◌, ◌^◌, List, length, Bool, true, false, Some, if◌then◌else◌}
-use Rattle.blk_image.specs.Image.{Image, Index, byte}
+use Rattle.spec_image.specs.Image.{Image, Index, byte}
 use Rattle.blk_model.specs.Effects.{stream_after, stream_of, with_slot}
 use Rattle.blk_model.specs.Items.{Item, PartValue, is_sparse, main, part, part_row}
 use Rattle.blk_model.specs.Room.{items}
 use Rattle.blk_model.specs.Sizes.{most_items}
 use Rattle.blk_model.specs.State.{Object, State, IsValidState, object_at, part_at}
-use Rattle.blk_format.specs.Address.{is_address}
-use Rattle.blk_format.specs.Headers.{num_bytes_of}
-use Rattle.blk_format.specs.Sealed.{RecordChecks}
-use Rattle.blk_laws.specs.IndexWrites.{IsIndexWord}
-use Rattle.blk_volume.specs.Entries.{Role, part_role, stream}
-use Rattle.blk_volume.specs.Found.{row_with}
-use Rattle.blk_volume.specs.Layout.{Layout, is_listed}
-use Rattle.blk_volume.specs.Loads.{Loaded}
+use Rattle.spec_format.specs.Address.{is_address}
+use Rattle.spec_format.specs.Headers.{num_bytes_of}
+use Rattle.spec_format.specs.Sealed.{RecordChecks}
+use Rattle.law_folder.specs.IndexWrites.{IsIndexWord}
+use Rattle.spec_folder.specs.Entries.{Role, part_role, stream}
+use Rattle.spec_folder.specs.Found.{row_with}
+use Rattle.spec_folder.specs.Layout.{Layout, is_listed}
+use Rattle.spec_folder.specs.Loads.{Loaded}
 use Rattle.blk_entry.specs.Keys.{IsInFile}
 use Rattle.blk_stream.specs.Loading.{stored_streams_with}
 use Rattle.blk_stream.specs.Streams.{address_word, size_word}
-use Rattle.blk_kept.specs.Changes.{SameCounters, SameSession}
-use Rattle.blk_kept.specs.CommandEnds.{after_write}
-use Rattle.blk_kept.specs.Keeping.{CountsItems, Keeps, KeepsUncounted}
-use Rattle.blk_kept.specs.ListLaws.{with_used}
-use Rattle.blk_kept.specs.ObjectLaws.{layout_after}
-use Rattle.blk_kept.specs.PartStates.{with_object, with_value}
+use Rattle.law_state.specs.Changes.{SameCounters, SameSession}
+use Rattle.law_state.specs.CommandEnds.{after_write}
+use Rattle.law_state.specs.Keeping.{CountsItems, Keeps, KeepsUncounted}
+use Rattle.law_state.specs.ListLaws.{with_used}
+use Rattle.law_state.specs.ObjectLaws.{layout_after}
+use Rattle.law_state.specs.PartStates.{with_object, with_value}
 use Rattle.blk_object.specs.Counters.{charges}
 
 -- What can be written.

@@ -1,11 +1,11 @@
 -- The places of a stream that is written: a new one is taken and filled, and an old one is freed.
 use Rattle.std.specs.Prelude.{◌≡◌, ℕ, [], Option, true}
-use Rattle.blk_image.specs.Image.{Image}
-use Rattle.blk_format.specs.BlockFiles.{IsWellFormed, stands_in}
+use Rattle.spec_image.specs.Image.{Image}
+use Rattle.spec_format.specs.BlockFiles.{IsWellFormed, stands_in}
 use Rattle.blk_disk.specs.declared.tables.BlockFiles.{BlockFiles}
 use Rattle.blk_disk.specs.Tables.{Agrees}
 use Rattle.blk_stream.specs.Stages.{FillsByStage, FreesPlace, IsFilled}
-use Rattle.blk_kept.specs.Changes.{SameCounters, StillFinds}
+use Rattle.law_state.specs.Changes.{SameCounters, StillFinds}
 use Rattle.blk_object.specs.Freeing.{RemovesPlace}
 use Rattle.blk_object.specs.Making.{Takes, long_word}
 

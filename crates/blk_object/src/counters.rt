@@ -1,12 +1,12 @@
 // The counters of the index, which count the entries and their charges.
 ghost use Rattle.std.specs.Prelude.{◌≡◌, ◌≤◌, ◌+◌, ◌%◌, ◌^◌, [], None, IfOk, OnErr, OnOk};
 ghost use Rattle.std.specs.Option.{ForSome};
-ghost use Rattle.blk_image.specs.Told.{Passes, Rises, Stays};
-ghost use Rattle.blk_format.specs.Headers.{HasWholeIndex};
+ghost use Rattle.spec_image.specs.Told.{Passes, Rises, Stays};
+ghost use Rattle.spec_format.specs.Headers.{HasWholeIndex};
 ghost use Rattle.blk_io.specs.Faults.{IfDamaged, IfDevice};
 ghost use Rattle.blk_disk.specs.Open.{IsOpen};
-ghost use Rattle.blk_laws.specs.IndexWrites.{IsIndexWord};
-ghost use Rattle.blk_kept.specs.Changes.{KeepsWith};
+ghost use Rattle.law_folder.specs.IndexWrites.{IsIndexWord};
+ghost use Rattle.law_state.specs.Changes.{KeepsWith};
 ghost use Rattle.blk_object.specs.Counters.{AreCountedLess, AreCountedMore, AreCounters, AreCountersWritten};
 ghost use Rattle.blk_object.specs.FailedChecks.{IsFailedCheck, ReadsTooFew};
 ghost use Rattle.blk_object.specs.RemovingNext.{KeepsOut};

@@ -1,16 +1,16 @@
 // An object that a handle names is doomed.
 ghost use Rattle.std.specs.Prelude.{◌≡◌, ◌≤◌, IfSome, IsTrue, None, OnOk, Some};
 ghost use Rattle.std.specs.Option.{ForSome};
-ghost use Rattle.blk_image.specs.Told.{Passes, Rises};
+ghost use Rattle.spec_image.specs.Told.{Passes, Rises};
 ghost use Rattle.blk_model.specs.Effects.{doomed};
 ghost use Rattle.blk_model.specs.Holding.{rest};
-ghost use Rattle.blk_format.specs.Address.{blocks_256, kind_of};
-ghost use Rattle.blk_volume.specs.Found.{charge_of};
+ghost use Rattle.spec_format.specs.Address.{blocks_256, kind_of};
+ghost use Rattle.spec_folder.specs.Found.{charge_of};
 ghost use Rattle.blk_io.specs.Faults.{IfDamaged, IfDevice};
 ghost use Rattle.blk_disk.specs.Open.{IsOpen};
 ghost use Rattle.blk_disk.specs.Tables.{is_node_among, stands_among};
-ghost use Rattle.blk_kept.specs.Changes.{Finds, SameSession};
-ghost use Rattle.blk_kept.specs.Keeping.{CountsItems, Keeps};
+ghost use Rattle.law_state.specs.Changes.{Finds, SameSession};
+ghost use Rattle.law_state.specs.Keeping.{CountsItems, Keeps};
 ghost use Rattle.blk_object.specs.Dooming.{ForEachHeld, ForEachOut, IsDoomedOut, IsDoomedUncounted, layout_held};
 ghost use Rattle.blk_object.specs.FailedChecks.{IsFailedCheck};
 ghost use Rattle.blk_object.specs.RemovingObjects.{FindsEither};

@@ -1,9 +1,9 @@
 // An object is ended that no handle names any more.
 ghost use Rattle.std.specs.Prelude.{◌≡◌, ◌≤◌, IsTrue, None, false, true};
 ghost use Rattle.std.specs.Option.{ForSome};
-ghost use Rattle.blk_image.specs.Told.{Rises};
-ghost use Rattle.blk_format.specs.Sealed.{record_size};
-ghost use Rattle.blk_volume.specs.View.{list_of};
+ghost use Rattle.spec_image.specs.Told.{Rises};
+ghost use Rattle.spec_format.specs.Sealed.{record_size};
+ghost use Rattle.spec_folder.specs.View.{list_of};
 ghost use Rattle.blk_io.specs.Faults.{IfDamaged, IfDevice};
 ghost use Rattle.blk_disk.specs.Damages.{IsFailedRecord};
 ghost use Rattle.blk_disk.specs.Open.{IsOpen};

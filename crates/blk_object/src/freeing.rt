@@ -1,9 +1,9 @@
 // The places of an object that is gone are freed.
 ghost use Rattle.std.specs.Prelude.{◌≡◌, ◌≤◌, ◌==◌, ◌∷◌, [], All, None, OnErr, OnOk, Some, true};
 ghost use Rattle.std.specs.Option.{ForSome};
-ghost use Rattle.blk_image.specs.Told.{Passes, Rises};
-ghost use Rattle.blk_format.specs.Address.{external, kind_of};
-ghost use Rattle.blk_format.specs.BlockFiles.{stands_in, IsWellFormed};
+ghost use Rattle.spec_image.specs.Told.{Passes, Rises};
+ghost use Rattle.spec_format.specs.Address.{external, kind_of};
+ghost use Rattle.spec_format.specs.BlockFiles.{stands_in, IsWellFormed};
 ghost use Rattle.blk_io.specs.Faults.{IfDamaged, IfDevice};
 ghost use Rattle.blk_disk.specs.Open.{IsOpen};
 ghost use Rattle.blk_stream.specs.Freeing.{MayBeFreed};

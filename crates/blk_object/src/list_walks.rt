@@ -1,6 +1,6 @@
 // The words of nodes by which a walk over the use list goes, and the end of such a walk.
 ghost use Rattle.std.specs.Prelude.{◌≡◌, IfSome, None, OnOk};
-ghost use Rattle.blk_format.specs.Address.{kind_of, rankings};
+ghost use Rattle.spec_format.specs.Address.{kind_of, rankings};
 ghost use Rattle.blk_io.specs.Faults.{IfDamaged, IfDevice};
 ghost use Rattle.blk_entry.specs.Keys.{IsDamageAt};
 ghost use Rattle.blk_object.specs.ListWalks.{IsWordBehind};

@@ -1,12 +1,12 @@
 // The parts of a key in the use list.
 ghost use Rattle.std.specs.Prelude.{◌≡◌, ◌≤◌, ℕ, List, ◌<◌, IfOk, IfSome, IsTrue, None, length, true};
 ghost use Rattle.std.specs.Option.{ForSome};
-ghost use Rattle.blk_image.specs.Told.{Rises, Stays};
+ghost use Rattle.spec_image.specs.Told.{Rises, Stays};
 ghost use Rattle.blk_model.specs.Sizes.{part_count};
-ghost use Rattle.blk_format.specs.Address.{blocks_256, kind_of};
-ghost use Rattle.blk_format.specs.Names.{read_name};
-ghost use Rattle.blk_volume.specs.Loads.{Loaded};
-ghost use Rattle.blk_volume.specs.View.{node_at};
+ghost use Rattle.spec_format.specs.Address.{blocks_256, kind_of};
+ghost use Rattle.spec_format.specs.Names.{read_name};
+ghost use Rattle.spec_folder.specs.Loads.{Loaded};
+ghost use Rattle.spec_folder.specs.View.{node_at};
 ghost use Rattle.blk_io.specs.Faults.{IfDamaged, IfDevice};
 ghost use Rattle.blk_disk.specs.Open.{IsOpen};
 ghost use Rattle.blk_disk.specs.Tables.{Agrees, is_node_among, stands_among};

@@ -1,16 +1,16 @@
 // A new object is made.
 ghost use Rattle.std.specs.Prelude.{◌≡◌, ◌≤◌, None, IfOk, IsTrue, OnOk, length};
 ghost use Rattle.std.specs.Option.{ForSome};
-ghost use Rattle.blk_image.specs.Image.{Index as index, byte};
-ghost use Rattle.blk_image.specs.Told.{Passes, Rises};
+ghost use Rattle.spec_image.specs.Image.{Index as index, byte};
+ghost use Rattle.spec_image.specs.Told.{Passes, Rises};
 ghost use Rattle.blk_model.specs.Sizes.{longest_key};
-ghost use Rattle.blk_format.specs.Headers.{this_id_of};
+ghost use Rattle.spec_format.specs.Headers.{this_id_of};
 ghost use Rattle.blk_io.specs.Faults.{IfDamaged, IfDevice};
 ghost use Rattle.blk_disk.specs.Open.{IsOpen};
 ghost use Rattle.blk_disk.specs.Tables.{is_node_among, is_record_among};
 ghost use Rattle.blk_entry.specs.Writing.{FitsKey, HoldsLongKey, LiesApart};
 ghost use Rattle.blk_alloc.specs.Extending.{KeepsStanding};
-ghost use Rattle.blk_kept.specs.Changes.{StillFinds};
+ghost use Rattle.law_state.specs.Changes.{StillFinds};
 ghost use Rattle.blk_object.specs.FailedChecks.{IsFailedCheck};
 ghost use Rattle.blk_object.specs.Making.{CanBeListed, CreatesCanHaveNew, FindsUntilListed, FindsWhileMade, HasNewObjects, HasRoomForNew, HasTimes, IsEntryOfKept, IsListed, KeepsTimes, new_entry, words_of_places};
 

@@ -1,13 +1,13 @@
 // The places of a new entry are taken.
 ghost use Rattle.std.specs.Prelude.{◌≡◌, ◌≢◌, ◌+◌, ◌==◌, ◌<◌, ◌≤◌, [], ◌∷◌, true, false, None, Some, IfOk, OnOk, IsTrue, nat_le};
 ghost use Rattle.std.specs.Option.{ForSome};
-ghost use Rattle.blk_image.specs.Image.{External as external_file, length_of};
-ghost use Rattle.blk_image.specs.Told.{Passes, Rises, Stays};
-ghost use Rattle.blk_format.specs.Address.{block_count, blocks_256, external, external_number, file_selector, first_block, is_address, kind_of, rankings};
-ghost use Rattle.blk_format.specs.Headers.{HasWholeIndex};
-ghost use Rattle.blk_format.specs.Maps.{group_size};
-ghost use Rattle.blk_format.specs.Names.{longest_name};
-ghost use Rattle.blk_format.specs.Storage as storage;
+ghost use Rattle.spec_image.specs.Image.{External as external_file, length_of};
+ghost use Rattle.spec_image.specs.Told.{Passes, Rises, Stays};
+ghost use Rattle.spec_format.specs.Address.{block_count, blocks_256, external, external_number, file_selector, first_block, is_address, kind_of, rankings};
+ghost use Rattle.spec_format.specs.Headers.{HasWholeIndex};
+ghost use Rattle.spec_format.specs.Maps.{group_size};
+ghost use Rattle.spec_format.specs.Names.{longest_name};
+ghost use Rattle.spec_format.specs.Storage as storage;
 ghost use Rattle.blk_addr.specs.Kind.{kind_number};
 ghost use Rattle.blk_io.specs.Faults.{IfDamaged, IfDevice};
 ghost use Rattle.blk_disk.specs.Open.{IsOpen};
@@ -15,7 +15,7 @@ ghost use Rattle.blk_disk.specs.Tables.{stands_among};
 ghost use Rattle.blk_entry.specs.Keys as keys;
 ghost use Rattle.blk_entry.specs.Writing.{HoldsLongKey, IsLongPlace, LiesApart};
 ghost use Rattle.blk_alloc.specs.Extending.{KeepsStanding};
-ghost use Rattle.blk_kept.specs.Changes.{StillFinds};
+ghost use Rattle.law_state.specs.Changes.{StillFinds};
 ghost use Rattle.blk_object.specs.FailedChecks.{HasOtherLength, IsFailedCheck, IsSharedKey};
 ghost use Rattle.blk_object.specs.Making.{LeavesRoom, Takes, long_word, words_of_places};
 

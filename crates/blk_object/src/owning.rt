@@ -1,13 +1,13 @@
 // The places that an entry has.
 ghost use Rattle.std.specs.Prelude.{◌≡◌, ◌≤◌, ◌<◌, ◌+◌, ◌%◌, ◌^◌, ◌==◌, All, IfOk, IsOk, IsTrue, None, OnOk, Some, false, true, slice_index, if◌then◌else◌};
 ghost use Rattle.std.specs.Option.{ForSome};
-ghost use Rattle.blk_image.specs.Told.{Passes, Rises, Stays};
-ghost use Rattle.blk_format.specs.Address.{blocks_256, kind_of};
-ghost use Rattle.blk_format.specs.Records.{entry_size};
-ghost use Rattle.blk_volume.specs.Found.{charge_of};
-ghost use Rattle.blk_volume.specs.Loads.{Loaded};
-ghost use Rattle.blk_volume.specs.Sound.{words_of};
-ghost use Rattle.blk_volume.specs.View.{entry_at};
+ghost use Rattle.spec_image.specs.Told.{Passes, Rises, Stays};
+ghost use Rattle.spec_format.specs.Address.{blocks_256, kind_of};
+ghost use Rattle.spec_format.specs.Records.{entry_size};
+ghost use Rattle.spec_folder.specs.Found.{charge_of};
+ghost use Rattle.spec_folder.specs.Loads.{Loaded};
+ghost use Rattle.spec_folder.specs.Sound.{words_of};
+ghost use Rattle.spec_folder.specs.View.{entry_at};
 ghost use Rattle.blk_io.specs.Faults.{IfDamaged, IfDevice};
 ghost use Rattle.blk_disk.specs.Open.{IsOpen};
 ghost use Rattle.blk_disk.specs.Tables.{Agrees, stands_among};

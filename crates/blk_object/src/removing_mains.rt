@@ -1,15 +1,15 @@
 // The main item of an object goes out before its parts.
 ghost use Rattle.std.specs.Prelude.{◌≡◌, ◌≤◌, IfSome, IsTrue, None, OnOk, Some};
 ghost use Rattle.std.specs.Option.{ForSome};
-ghost use Rattle.blk_image.specs.Told.{Passes, Rises};
+ghost use Rattle.spec_image.specs.Told.{Passes, Rises};
 ghost use Rattle.blk_model.specs.Effects.{doomed};
-ghost use Rattle.blk_format.specs.Address.{blocks_256, kind_of};
-ghost use Rattle.blk_volume.specs.Found.{charge_of};
+ghost use Rattle.spec_format.specs.Address.{blocks_256, kind_of};
+ghost use Rattle.spec_folder.specs.Found.{charge_of};
 ghost use Rattle.blk_io.specs.Faults.{IfDamaged, IfDevice};
 ghost use Rattle.blk_disk.specs.Open.{IsOpen};
 ghost use Rattle.blk_disk.specs.Tables.{is_node_among, stands_among};
-ghost use Rattle.blk_kept.specs.Changes.{SameSession};
-ghost use Rattle.blk_kept.specs.Keeping.{CountsItems};
+ghost use Rattle.law_state.specs.Changes.{SameSession};
+ghost use Rattle.law_state.specs.Keeping.{CountsItems};
 ghost use Rattle.blk_object.specs.FailedChecks.{IsFailedCheck};
 ghost use Rattle.blk_object.specs.NextItems.{ForEachMain, IsMainOut};
 ghost use Rattle.blk_object.specs.RemovingObjects.{FindsEither};

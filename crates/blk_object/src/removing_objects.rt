@@ -1,14 +1,14 @@
 // An item that goes alone is removed.
 ghost use Rattle.std.specs.Prelude.{◌≡◌, ◌≤◌, ◌<◌, ◌^◌, All, IfOk, IfSome, IsTrue, None, OnOk};
 ghost use Rattle.std.specs.Option.{ForSome};
-ghost use Rattle.blk_image.specs.Told.{Passes, Rises};
-ghost use Rattle.blk_format.specs.Address.{blocks_256, kind_of};
-ghost use Rattle.blk_volume.specs.Found.{charge_of};
-ghost use Rattle.blk_volume.specs.Loads.{Loaded};
+ghost use Rattle.spec_image.specs.Told.{Passes, Rises};
+ghost use Rattle.spec_format.specs.Address.{blocks_256, kind_of};
+ghost use Rattle.spec_folder.specs.Found.{charge_of};
+ghost use Rattle.spec_folder.specs.Loads.{Loaded};
 ghost use Rattle.blk_io.specs.Faults.{IfDamaged, IfDevice};
 ghost use Rattle.blk_disk.specs.Open.{IsOpen};
 ghost use Rattle.blk_disk.specs.Tables.{is_node_among, stands_among};
-ghost use Rattle.blk_kept.specs.Changes.{SameSession};
+ghost use Rattle.law_state.specs.Changes.{SameSession};
 ghost use Rattle.blk_object.specs.FailedChecks.{IsFailedCheck};
 ghost use Rattle.blk_object.specs.Freeing.{IsPlaceAmong};
 ghost use Rattle.blk_object.specs.NextItems.{ForEachNext, IsGoingNext, IsOutUncounted};

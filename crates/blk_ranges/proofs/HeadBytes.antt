@@ -6,12 +6,12 @@ use Rattle.std.proofs.lemmas.Bool.{eqb-true, eq-eqb, lt-ltb, le-leb}
 use Rattle.std.proofs.lemmas.List.{get_or-drop, ext_get_or, drop_all, take_all}
 use borrow.Rule.Slice.PartMut.{put_mid}
 use Rattle.byteorder.specs.Endian.{little_bytes, little_number}
-use Rattle.blk_image.specs.Bytes.{content, word_at, long_at, words_at, word_bytes}
-use Rattle.blk_image.proofs.Words.{range-is}
-use Rattle.blk_format.specs.Headers.{index_magic}
-use Rattle.blk_format.specs.Records.{bytes_of_words}
-use Rattle.blk_format.specs.SparseIndex.{is_index_head, sparse_magic_of, parent_key_len_of, last_block_len_of}
-use Rattle.blk_format.proofs.Bodies.{range-words}
+use Rattle.spec_image.specs.Bytes.{content, word_at, long_at, words_at, word_bytes}
+use Rattle.spec_image.proofs.Words.{range-is}
+use Rattle.spec_format.specs.Headers.{index_magic}
+use Rattle.spec_format.specs.Records.{bytes_of_words}
+use Rattle.spec_format.specs.SparseIndex.{is_index_head, sparse_magic_of, parent_key_len_of, last_block_len_of}
+use Rattle.spec_format.proofs.Bodies.{range-words}
 use Rattle.blk_ranges.specs.PartMaps.{head_words}
 
 -- words as they are written

@@ -20,8 +20,8 @@ use Rattle.std.proofs.lemmas.Str.Ascii.{IsAscii-nil, IsAscii-cons}
 use Rattle.std.proofs.lemmas.Str.Parse.{without_leading_plus_none}
 use Rattle.std.proofs.lemmas.Result.{Ok-from_Ok_iff}
 use Rattle.hex.specs.Hex.{encode_with, lower_digits}
-use Rattle.blk_format.specs.Names.{hexadecimal}
-use Rattle.blk_format.proofs.NameLemmas.{text-of}
+use Rattle.spec_format.specs.Names.{hexadecimal}
+use Rattle.spec_format.proofs.NameLemmas.{text-of}
 
 -- so many digits of a number, the highest first
 abbrev digits_high : ℕ → ℕ → List ℕ

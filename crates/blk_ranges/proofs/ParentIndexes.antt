@@ -11,11 +11,11 @@ use Rattle.std.proofs.lemmas.Bool.{cases_lt, lt-ltb, le-ltb, le-leb, eq-eqb, eqb
 use Rattle.std.proofs.lemmas.Bool.Decides.{eqb_tells}
 use Rattle.std.proofs.lemmas.Nat.Bits.{bit_at_set_same, bit_at_set_other, bit_at-zero}
 use Rattle.std.proofs.lemmas.Option.{cond_some}
-use Rattle.blk_image.proofs.Splices.{content-zeros}
-use Rattle.blk_image.specs.Bytes.{zeros, content, word_at, long_at, words_at}
+use Rattle.spec_image.proofs.Splices.{content-zeros}
+use Rattle.spec_image.specs.Bytes.{zeros, content, word_at, long_at, words_at}
 use Rattle.blk_model.specs.Bytes.{overwritten}
-use Rattle.blk_format.specs.Records.{bytes_of_words}
-use Rattle.blk_format.specs.SparseIndex.{sparse_signature_of as signature_said, last_block_of, ParentIndex, read_parent_index, is_index_head, minus_one, map_bit, parent_key_len_of, last_block_len_of}
+use Rattle.spec_format.specs.Records.{bytes_of_words}
+use Rattle.spec_format.specs.SparseIndex.{sparse_signature_of as signature_said, last_block_of, ParentIndex, read_parent_index, is_index_head, minus_one, map_bit, parent_key_len_of, last_block_len_of}
 use Rattle.blk_ranges.specs.declared.parent_map.ParentHead.{ParentHead}
 use Rattle.blk_ranges.specs.declared.parent_map.ParentMap.{ParentMap}
 use Rattle.blk_ranges.specs.PartMaps.{head_words}

@@ -1,7 +1,7 @@
 -- The hash of bytes, a step at a time.
 use Rattle.std.proofs.Common.{◌≡◌, ℕ, ◌-◌, ◌<◌, ◌≤◌, ◌%◌, ◌^◌, List, [], ◌∷◌, length, take, drop, get_or, refl, sym, ◌∙◌, arith, length-drop}
 use Rattle.std.proofs.lemmas.List.{take_all}
-use Rattle.blk_format.specs.Hash.{hash, mixed, of_bytes, of_four, of_three, of_two, of_one}
+use Rattle.spec_format.specs.Hash.{hash, mixed, of_bytes, of_four, of_three, of_two, of_one}
 
 pub of_bytes-four : (h : ℕ) (xs : List ℕ) → 4 ≤ length xs → of_bytes h xs ≡ of_bytes (of_four h (get_or xs 0 0) (get_or xs 1 0) (get_or xs 2 0) (get_or xs 3 0)) (drop 4 xs)
 unfolding of_bytes

@@ -32,8 +32,8 @@ use denote.Struct.Struct.{Shape, Struct, within}
 use borrow.Table.Elements.{at, at_mul, cut_app, join_app, length-take-le}
 use Rattle.std.proofs.Common.{append-nil}
 use Rattle.std.proofs.lemmas.List.{drop_all, drop-drop}
-use Rattle.blk_image.specs.Bytes.{spliced}
-use Rattle.blk_image.proofs.Splices.{length-spliced, spliced-is}
+use Rattle.spec_image.specs.Bytes.{spliced}
+use Rattle.spec_image.proofs.Splices.{length-spliced, spliced-is}
 
 -- new bytes over all of the old ones
 spliced-all : (new old : List ℕ) → length new ≡ length old → spliced 0 new old ≡ new

@@ -2,10 +2,10 @@
 use Rattle.std.proofs.Common.{◌≡◌, ℕ, ◌+◌, ◌-◌, ◌<◌, ◌≤◌, ◌%◌, ◌^◌, List, [], ◌++◌, length, take, drop, refl, sym, ap, ap₂, ◌∙◌, arith, ◌⊎◌, inl, inr, ⊎_elim, length-drop, append-nil}
 use Rattle.std.proofs.lemmas.Bool.{cases_lt}
 use Rattle.std.proofs.lemmas.List.{take_all, drop_all, drop-drop}
-use Rattle.blk_image.specs.Bytes.{content, spliced, word_at, word_bytes}
-use Rattle.blk_image.specs.Steps.{with_word}
-use Rattle.blk_image.proofs.Splices.{spliced-is, content-spliced_inside}
-use Rattle.blk_image.proofs.Words.{word-there, word-beside, word-other}
+use Rattle.spec_image.specs.Bytes.{content, spliced, word_at, word_bytes}
+use Rattle.spec_image.specs.Steps.{with_word}
+use Rattle.spec_image.proofs.Splices.{spliced-is, content-spliced_inside}
+use Rattle.spec_image.proofs.Words.{word-there, word-beside, word-other}
 use Rattle.blk_record.specs.Fields.{OtherFieldsStay, WrittenWordsAreRead, WrittenFieldsLeaveOthers}
 
 -- a window with a word is its front, the four bytes of the word, and the rest

@@ -1,6 +1,6 @@
 -- The fields of a record.
 use Rattle.std.specs.Prelude.{ℕ, ◌≡◌, ◌≢◌, ◌+◌, ◌%◌, ◌<◌, ◌≤◌, List, length, take, drop}
-use Rattle.blk_image.specs.Bytes.{content, spliced, word_at}
+use Rattle.spec_image.specs.Bytes.{content, spliced, word_at}
 
 -- a word begins at this place of a record of so many bytes
 pub record IsField (size place : ℕ) : Type 0 where

@@ -2,9 +2,9 @@
 use Rattle.std.specs.Prelude.{ℕ, ◌≤◌, List}
 use Rattle.std.specs.Borrow.{GName}
 use Rattle.std.proofs.Common.{subst, sym}
-use Rattle.blk_image.specs.Bytes.{spliced}
-use Rattle.blk_image.proofs.Splices.{length-spliced}
-use Rattle.blk_format.specs.Records.{entry_size, node_size}
+use Rattle.spec_image.specs.Bytes.{spliced}
+use Rattle.spec_image.proofs.Splices.{length-spliced}
+use Rattle.spec_format.specs.Records.{entry_size, node_size}
 use Rattle.blk_record.specs.declared.entry.EntryView.{EntryView}
 use Rattle.blk_record.specs.declared.entry.EntryMut.{EntryMut}
 use Rattle.blk_record.specs.declared.node.NodeView.{NodeView}

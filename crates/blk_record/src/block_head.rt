@@ -1,7 +1,7 @@
 // The header of a block file.
 ghost use Rattle.std.specs.Prelude.{◌≡◌, ◌<◌, ◌≤◌, ◌↔◌, length, IsSome, IfSome};
-ghost use Rattle.blk_image.specs.Bytes.{content};
-ghost use Rattle.blk_format.specs.Headers.{allocations_of, block_fields_length, empty_of, entry_size_of, hints_of, magic_of, max_entries_of, next_file_of, this_file_of, updating_of, user_of, version_of};
+ghost use Rattle.spec_image.specs.Bytes.{content};
+ghost use Rattle.spec_format.specs.Headers.{allocations_of, block_fields_length, empty_of, entry_size_of, hints_of, magic_of, max_entries_of, next_file_of, this_file_of, updating_of, user_of, version_of};
 
 use crate::words::{half, word};
 use std::marker::Model;
@@ -14,7 +14,7 @@ pub struct BlockHead<'a> {
 
 impl<'a> Model for BlockHead<'a> {
     ghost use Rattle.std.specs.Prelude.{ℕ, List, ◌≤◌, length};
-    ghost use Rattle.blk_format.specs.Headers.{block_fields_length};
+    ghost use Rattle.spec_format.specs.Headers.{block_fields_length};
 
     ghost Value = { List ℕ };
 

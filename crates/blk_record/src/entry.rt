@@ -1,6 +1,6 @@
 // Views of entry records.
 ghost use Rattle.std.specs.Prelude.{◌≡◌, ◌≤◌, ◌↔◌, length, IsSome, IfSome};
-ghost use Rattle.blk_format.specs.Records.{entry_size, entry_seal_place};
+ghost use Rattle.spec_format.specs.Records.{entry_size, entry_seal_place};
 
 use crate::record::{Record, RecordMut};
 use crate::seals::{is_sealed, put_seal};

@@ -1,6 +1,6 @@
 // The hash of keys and records.
 ghost use Rattle.std.specs.Prelude.{◌≡◌, ◌≤◌, length, slice_index};
-ghost use Rattle.blk_format.specs.Hash.{half, hash as hash_of, mixed, of_bytes, of_four, of_one, of_three, of_two, signed};
+ghost use Rattle.spec_format.specs.Hash.{half, hash as hash_of, mixed, of_bytes, of_four, of_one, of_three, of_two, signed};
 
 /// The hash of a key, or of a record's bytes before its seal.
 pub fn super_fast_hash(bytes: &[u8]) -> u32

@@ -1,7 +1,7 @@
 // The header of the index.
 ghost use Rattle.std.specs.Prelude.{◌≡◌, ◌<◌, ◌≤◌, ◌↔◌, length, IsSome, IfSome};
-ghost use Rattle.blk_image.specs.Bytes.{content};
-ghost use Rattle.blk_format.specs.Headers.{crash_of, create_time_of, experiment_of, filled_of, header_length, heads_of, last_file_of, magic_of, num_bytes_of, num_entries_of, operation_list_of, operation_of, pad1_of, pad2_of, pad_of, sizes_of, stats_of, table_len_of, tails_of, this_id_of, transaction_of, version_of};
+ghost use Rattle.spec_image.specs.Bytes.{content};
+ghost use Rattle.spec_format.specs.Headers.{crash_of, create_time_of, experiment_of, filled_of, header_length, heads_of, last_file_of, magic_of, num_bytes_of, num_entries_of, operation_list_of, operation_of, pad1_of, pad2_of, pad_of, sizes_of, stats_of, table_len_of, tails_of, this_id_of, transaction_of, version_of};
 
 use crate::words::{long, word};
 use std::marker::Model;
@@ -14,7 +14,7 @@ pub struct IndexHead<'a> {
 
 impl<'a> Model for IndexHead<'a> {
     ghost use Rattle.std.specs.Prelude.{ℕ, List, ◌≤◌, length};
-    ghost use Rattle.blk_format.specs.Headers.{header_length};
+    ghost use Rattle.spec_format.specs.Headers.{header_length};
 
     ghost Value = { List ℕ };
 

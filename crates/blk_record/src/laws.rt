@@ -1,12 +1,12 @@
 //! Laws of the views.
 ghost use Rattle.std.specs.Prelude.{◌≡◌, ℕ, ◌+◌, ◌*◌};
-ghost use Rattle.blk_image.specs.Bytes.{half_at, long_at, word_at, words_at};
-ghost use Rattle.blk_format.specs.Address.{header_size};
-ghost use Rattle.blk_format.specs.BlockFiles.{most_blocks};
-ghost use Rattle.blk_format.specs.Headers.{allocations_of, block_fields_length, block_magic, create_time_of, empty_of, header_length, heads_of, index_length, index_magic, last_file_of, max_entries_of, next_file_of, num_bytes_of, num_entries_of, operation_of, place_of_bucket, sizes_of, table_len_of, table_length, tails_of, transaction_of, updating_of, version};
-ghost use Rattle.blk_format.specs.Maps.{map_place};
-ghost use Rattle.blk_format.specs.Records.{entry_in, node_in};
-ghost use Rattle.blk_format.specs.SparseIndex.{sparse_head_length};
+ghost use Rattle.spec_image.specs.Bytes.{half_at, long_at, word_at, words_at};
+ghost use Rattle.spec_format.specs.Address.{header_size};
+ghost use Rattle.spec_format.specs.BlockFiles.{most_blocks};
+ghost use Rattle.spec_format.specs.Headers.{allocations_of, block_fields_length, block_magic, create_time_of, empty_of, header_length, heads_of, index_length, index_magic, last_file_of, max_entries_of, next_file_of, num_bytes_of, num_entries_of, operation_of, place_of_bucket, sizes_of, table_len_of, table_length, tails_of, transaction_of, updating_of, version};
+ghost use Rattle.spec_format.specs.Maps.{map_place};
+ghost use Rattle.spec_format.specs.Records.{entry_in, node_in};
+ghost use Rattle.spec_format.specs.SparseIndex.{sparse_head_length};
 
 use crate::{BlockHead, EntryView, IndexHead, NodeView, SparseHead};
 
@@ -35,7 +35,7 @@ pub fn sparse_heads_have_the_length_of_the_format()
 {}
 
 /// The places of an entry record are those of the format.
-#[tactic(auto, unfolding(blk_format::specs::Records::entry_in))]
+#[tactic(auto, unfolding(spec_format::specs::Records::entry_in))]
 pub fn entry_records_have_the_places_of_the_format()
     ensures chain { (f : ℕ → ℕ) (at : ℕ) → ((entry_in f at).hash ≡ word_at f (at + EntryView.HASH)) × ((entry_in f at).next ≡ word_at f (at + EntryView.NEXT)) }
     ensures node { (f : ℕ → ℕ) (at : ℕ) → (entry_in f at).rankings_node ≡ word_at f (at + EntryView.NODE) }
@@ -46,7 +46,7 @@ pub fn entry_records_have_the_places_of_the_format()
 {}
 
 /// The places of a rankings node are those of the format.
-#[tactic(auto, unfolding(blk_format::specs::Records::node_in))]
+#[tactic(auto, unfolding(spec_format::specs::Records::node_in))]
 pub fn nodes_have_the_places_of_the_format()
     ensures moments { (f : ℕ → ℕ) (at : ℕ) → ((node_in f at).last_used ≡ long_at f (at + NodeView.LAST_USED)) × ((node_in f at).last_modified ≡ long_at f (at + NodeView.LAST_MODIFIED)) }
     ensures links { (f : ℕ → ℕ) (at : ℕ) → ((node_in f at).next ≡ word_at f (at + NodeView.NEXT)) × ((node_in f at).prev ≡ word_at f (at + NodeView.PREV)) }

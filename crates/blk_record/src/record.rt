@@ -1,9 +1,9 @@
 // Sealed records over windows of bytes.
 ghost use Rattle.std.specs.Prelude.{◌≡◌, ℕ, ◌≤◌, List, length, take, true};
 ghost use Rattle.std.specs.Borrow.{Array, GName, Lends, sem, u8 as byte};
-ghost use Rattle.blk_image.specs.Bytes.{content, spliced, word_at};
-ghost use Rattle.blk_image.specs.Steps.{with_word};
-ghost use Rattle.blk_format.specs.Records.{checks, seal_of};
+ghost use Rattle.spec_image.specs.Bytes.{content, spliced, word_at};
+ghost use Rattle.spec_image.specs.Steps.{with_word};
+ghost use Rattle.spec_format.specs.Records.{checks, seal_of};
 ghost use Rattle.blk_record.specs.Fields.{IsField, OtherFieldsStay, WrittenFieldsLeaveOthers, WrittenWordsAreRead, field_bytes};
 
 /// A record of little endian words with a seal, which is 0 or the hash of the bytes before it.

@@ -1,7 +1,7 @@
 // The seals of records.
 ghost use Rattle.std.specs.Prelude.{◌≡◌, ◌+◌, ◌≤◌, length};
-ghost use Rattle.blk_image.specs.Steps.{with_word};
-ghost use Rattle.blk_format.specs.Records.{checks, seal_of};
+ghost use Rattle.spec_image.specs.Steps.{with_word};
+ghost use Rattle.spec_format.specs.Records.{checks, seal_of};
 
 use crate::hash::super_fast_hash;
 use crate::words::{put_word, word};

@@ -1,7 +1,7 @@
 // The head of a sparse index.
 ghost use Rattle.std.specs.Prelude.{◌≡◌, ◌<◌, ◌≤◌, ◌↔◌, length, IsSome, IfSome};
-ghost use Rattle.blk_image.specs.Bytes.{content};
-ghost use Rattle.blk_format.specs.SparseIndex.{last_block_len_of, last_block_of, parent_key_len_of, sparse_signature_of, sparse_head_length, sparse_magic_of, zeros_of};
+ghost use Rattle.spec_image.specs.Bytes.{content};
+ghost use Rattle.spec_format.specs.SparseIndex.{last_block_len_of, last_block_of, parent_key_len_of, sparse_signature_of, sparse_head_length, sparse_magic_of, zeros_of};
 
 use crate::words::{long, word};
 use std::marker::Model;
@@ -14,7 +14,7 @@ pub struct SparseHead<'a> {
 
 impl<'a> Model for SparseHead<'a> {
     ghost use Rattle.std.specs.Prelude.{ℕ, List, ◌≤◌, length};
-    ghost use Rattle.blk_format.specs.SparseIndex.{sparse_head_length};
+    ghost use Rattle.spec_format.specs.SparseIndex.{sparse_head_length};
 
     ghost Value = { List ℕ };
 

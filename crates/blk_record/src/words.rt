@@ -1,7 +1,7 @@
 // The little endian numbers in a window of bytes.
 ghost use Rattle.std.specs.Prelude.{◌≡◌, ◌+◌, ◌≤◌, length};
-ghost use Rattle.blk_image.specs.Bytes.{content, half_at, long_at, word_at};
-ghost use Rattle.blk_image.specs.Steps.{with_word};
+ghost use Rattle.spec_image.specs.Bytes.{content, half_at, long_at, word_at};
+ghost use Rattle.spec_image.specs.Steps.{with_word};
 
 use byteorder::{ByteOrder, LittleEndian};
 

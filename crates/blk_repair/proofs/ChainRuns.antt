@@ -3,24 +3,24 @@ use Rattle.std.proofs.Common.{◌≡◌, ℕ, ◌+◌, ◌-◌, ◌<◌, ◌≤�
 use Rattle.std.specs.Prelude.{All, ◌==◌, if◌then◌else◌}
 use Rattle.std.proofs.lemmas.List.{append-nil, drop_more, drop_all, length-drop, take_all}
 use Rattle.std.proofs.lemmas.List.Elements.{All-weaker, filter_passes}
-use Rattle.blk_image.specs.Image.{Image, Index}
-use Rattle.blk_image.specs.Steps.{TrailStep, after, word_step}
-use Rattle.blk_image.specs.Told.{Along, IsQuiet}
-use Rattle.blk_image.proofs.Runs.{quiet-append}
-use Rattle.blk_image.proofs.WordSteps.{quiet-word_step}
-use Rattle.blk_format.specs.Headers.{place_of_bucket}
-use Rattle.blk_format.specs.Records.{entry_next_place}
-use Rattle.blk_format.specs.Sealed.{RecordChecks, sealed_steps}
-use Rattle.blk_volume.specs.Chains.{chain}
-use Rattle.blk_volume.specs.Found.{kept}
-use Rattle.blk_volume.specs.ListView.{first_or}
-use Rattle.blk_volume.specs.Loads.{Loaded}
-use Rattle.blk_volume.specs.View.{store_of}
-use Rattle.blk_laws.proofs.lists.WriteSteps.{quiet-sealed}
-use Rattle.blk_repair_laws.specs.ChainRepair.{HasChainsUpTo, bucket_steps, chain_steps, is_kept_record, kept_records, next_words_steps, next_steps}
-use Rattle.blk_repair_laws.specs.ListRepair.{HoldsTheSame}
-use Rattle.blk_repair_laws.proofs.ChainRepair.{buckets-mended}
-use Rattle.blk_repair_laws.proofs.KeptRecords.{kept-records-check}
+use Rattle.spec_image.specs.Image.{Image, Index}
+use Rattle.spec_image.specs.Steps.{TrailStep, after, word_step}
+use Rattle.spec_image.specs.Told.{Along, IsQuiet}
+use Rattle.spec_image.proofs.Runs.{quiet-append}
+use Rattle.spec_image.proofs.WordSteps.{quiet-word_step}
+use Rattle.spec_format.specs.Headers.{place_of_bucket}
+use Rattle.spec_format.specs.Records.{entry_next_place}
+use Rattle.spec_format.specs.Sealed.{RecordChecks, sealed_steps}
+use Rattle.spec_folder.specs.Chains.{chain}
+use Rattle.spec_folder.specs.Found.{kept}
+use Rattle.spec_folder.specs.ListView.{first_or}
+use Rattle.spec_folder.specs.Loads.{Loaded}
+use Rattle.spec_folder.specs.View.{store_of}
+use Rattle.law_folder.proofs.lists.WriteSteps.{quiet-sealed}
+use Rattle.law_recovery.specs.ChainRepair.{HasChainsUpTo, bucket_steps, chain_steps, is_kept_record, kept_records, next_words_steps, next_steps}
+use Rattle.law_recovery.specs.ListRepair.{HoldsTheSame}
+use Rattle.law_recovery.proofs.ChainRepair.{buckets-mended}
+use Rattle.law_recovery.proofs.KeptRecords.{kept-records-check}
 use Rattle.blk_repair.specs.Chains.{IsNextChain}
 use Rattle.blk_repair.specs.Damages.{AllCheck}
 use Rattle.blk_repair.proofs.Progress.{Leads}

@@ -3,20 +3,20 @@ use Rattle.std.proofs.Common.{◌≡◌, ◌≢◌, ℕ, ◌+◌, Bool, true, fa
 use Rattle.std.specs.Prelude.{◌==◌, if◌then◌else◌}
 use Rattle.std.specs.Option.{ForSome}
 use Rattle.std.proofs.lemmas.Bool.{eq-eqb, ne_eqb}
-use Rattle.blk_image.specs.Bytes.{word_bytes}
-use Rattle.blk_image.specs.Image.{Index, Block, Image, byte, word}
-use Rattle.blk_image.specs.Footprint.{range}
-use Rattle.blk_image.specs.Steps.{TrailStep, Word, after, applied, word_step}
-use Rattle.blk_image.specs.Told.{Told, Along}
-use Rattle.blk_image.proofs.Footprints.{outside_write}
-use Rattle.blk_image.proofs.Images.{length-after_write}
-use Rattle.blk_image.proofs.Runs.{until-append, until_last}
-use Rattle.blk_volume.specs.ListView.{first_or}
-use Rattle.blk_format.specs.Address.{file_selector, kind_of, place, blocks_256}
-use Rattle.blk_format.specs.Headers.{bucket_of, place_of_bucket}
-use Rattle.blk_format.specs.Records.{entry_in, entry_next_place}
-use Rattle.blk_format.specs.Sealed.{sealed_steps}
-use Rattle.blk_volume.specs.View.{stands_as, store_of, follow_at}
+use Rattle.spec_image.specs.Bytes.{word_bytes}
+use Rattle.spec_image.specs.Image.{Index, Block, Image, byte, word}
+use Rattle.spec_image.specs.Footprint.{range}
+use Rattle.spec_image.specs.Steps.{TrailStep, Word, after, applied, word_step}
+use Rattle.spec_image.specs.Told.{Told, Along}
+use Rattle.spec_image.proofs.Footprints.{outside_write}
+use Rattle.spec_image.proofs.Images.{length-after_write}
+use Rattle.spec_image.proofs.Runs.{until-append, until_last}
+use Rattle.spec_folder.specs.ListView.{first_or}
+use Rattle.spec_format.specs.Address.{file_selector, kind_of, place, blocks_256}
+use Rattle.spec_format.specs.Headers.{bucket_of, place_of_bucket}
+use Rattle.spec_format.specs.Records.{entry_in, entry_next_place}
+use Rattle.spec_format.specs.Sealed.{sealed_steps}
+use Rattle.spec_folder.specs.View.{stands_as, store_of, follow_at}
 use Rattle.blk_disk.specs.declared.tables.BlockFiles.{BlockFiles}
 use Rattle.blk_disk.specs.Tables.{Agrees, is_record_among, stands_among}
 use Rattle.blk_disk.specs.Open.{IsOpen}
@@ -24,7 +24,7 @@ use Rattle.blk_disk.proofs.Agreeing.{agrees_still}
 use Rattle.blk_lru.proofs.Kept.{kept_sealed}
 use Rattle.blk_audit.proofs.Shown.{names_stand}
 use Rattle.blk_chain.proofs.Heads.{names-parts}
-use Rattle.blk_repair_laws.specs.ChainRepair.{bucket_steps, next_words_steps, next_steps}
+use Rattle.law_recovery.specs.ChainRepair.{bucket_steps, next_words_steps, next_steps}
 
 -- the word of a bucket
 bucket-by : (image : Image) (number w now : ℕ) → now ≡ bucket_of (byte image Index) number → (b : Bool) → (now == w) ≡ b → bucket_steps number w image ≡ (if b then [] else word_step Index (place_of_bucket number) w)

@@ -5,29 +5,29 @@ use Rattle.std.specs.Option.{ForSome}
 use Rattle.std.proofs.lemmas.Bool.{eq-eqb, eqb-true, ne_eqb}
 use Rattle.std.proofs.lemmas.List.{append-nil, drop_more, drop_all}
 use Rattle.std.proofs.lemmas.List.Elements.{All-cons, All-head, All-nil, All-tail}
-use Rattle.blk_image.specs.Bytes.{word_bytes}
-use Rattle.blk_image.specs.Image.{Image, Index, word}
-use Rattle.blk_image.specs.Steps.{TrailStep, Word, after, applied, word_step}
-use Rattle.blk_image.specs.Told.{Told, Along, Applies, AppliesPrefix, IsQuiet, Passes}
-use Rattle.blk_image.specs.Footprint.{SameOutside, one_word}
-use Rattle.blk_image.proofs.Cuts.{after-append}
-use Rattle.blk_image.proofs.Footprints.{outside_write}
-use Rattle.blk_image.proofs.Images.{length-after_write, word-after_other, word-after_same}
-use Rattle.blk_image.proofs.Runs.{passes_part, quiet-append, some_inj, told_whole, until-append, until_last, until_weaker2}
-use Rattle.blk_image.proofs.WordSteps.{quiet-word_step}
-use Rattle.blk_format.specs.Headers.{HasWholeIndex}
-use Rattle.blk_format.specs.Sealed.{AreDifferent}
+use Rattle.spec_image.specs.Bytes.{word_bytes}
+use Rattle.spec_image.specs.Image.{Image, Index, word}
+use Rattle.spec_image.specs.Steps.{TrailStep, Word, after, applied, word_step}
+use Rattle.spec_image.specs.Told.{Told, Along, Applies, AppliesPrefix, IsQuiet, Passes}
+use Rattle.spec_image.specs.Footprint.{SameOutside, one_word}
+use Rattle.spec_image.proofs.Cuts.{after-append}
+use Rattle.spec_image.proofs.Footprints.{outside_write}
+use Rattle.spec_image.proofs.Images.{length-after_write, word-after_other, word-after_same}
+use Rattle.spec_image.proofs.Runs.{passes_part, quiet-append, some_inj, told_whole, until-append, until_last, until_weaker2}
+use Rattle.spec_image.proofs.WordSteps.{quiet-word_step}
+use Rattle.spec_format.specs.Headers.{HasWholeIndex}
+use Rattle.spec_format.specs.Sealed.{AreDifferent}
 use Rattle.std.specs.List.{sum_by}
-use Rattle.blk_volume.specs.Found.{charge_of, kept}
-use Rattle.blk_volume.specs.Loads.{Loaded}
-use Rattle.blk_laws.proofs.updates.NodeRecords.{are_bytes-word}
+use Rattle.spec_folder.specs.Found.{charge_of, kept}
+use Rattle.spec_folder.specs.Loads.{Loaded}
+use Rattle.law_folder.proofs.updates.NodeRecords.{are_bytes-word}
 use Rattle.blk_disk.specs.declared.tables.BlockFiles.{BlockFiles}
 use Rattle.blk_disk.specs.Open.{IsOpen}
-use Rattle.blk_repair_laws.specs.Mended.{AreKeptSealed, HasMendedFiles, HasOnlyKeptFiles}
-use Rattle.blk_repair_laws.specs.MendedChanges.{KeepsMendedLinks}
-use Rattle.blk_repair_laws.proofs.MendedChanges.{hidden-change, links-on}
-use Rattle.blk_repair_laws.proofs.MendedParts.{files-mended, words-leave}
-use Rattle.blk_repair_laws.proofs.RecordSeals.{words-behind}
+use Rattle.law_recovery.specs.Mended.{AreKeptSealed, HasMendedFiles, HasOnlyKeptFiles}
+use Rattle.law_recovery.specs.MendedChanges.{KeepsMendedLinks}
+use Rattle.law_recovery.proofs.MendedChanges.{hidden-change, links-on}
+use Rattle.law_recovery.proofs.MendedParts.{files-mended, words-leave}
+use Rattle.law_recovery.proofs.RecordSeals.{words-behind}
 use Rattle.blk_repair.specs.Counters.{HasIndexWords, IsHiddenWord, IsIndexMended, IsNextCounted, counted_words, crash_place, index_steps, index_word_steps, index_words_steps}
 use Rattle.blk_repair.specs.Seals.{HasMendedLinksOf}
 use Rattle.blk_repair.proofs.Choices.{choice-open, index_word-open}

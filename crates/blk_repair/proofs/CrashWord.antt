@@ -4,30 +4,30 @@ use Rattle.std.specs.Prelude.{All, nat_le, ◌<◌, if◌then◌else◌}
 use Rattle.std.specs.Option.{unwrap_or}
 use Rattle.std.proofs.lemmas.Bool.Decides.{nat_tests}
 use Rattle.std.proofs.lemmas.List.Elements.{All-append, All-cons, All-head, All-nil, All-tail}
-use Rattle.blk_image.specs.Bytes.{content, spliced, word_bytes}
-use Rattle.blk_image.specs.Image.{File, Image, Index, Block, bytes_of, byte, length_of, same_file, word}
-use Rattle.blk_image.specs.Steps.{TrailStep, Word, SetLength, Delete, Note, after, applied, word_step, word_steps}
-use Rattle.blk_image.specs.Told.{Along}
-use Rattle.blk_image.proofs.Images.{bytes_of-written, same_file-true}
-use Rattle.blk_image.proofs.Splices.{content-spliced_inside}
-use Rattle.blk_format.specs.Address.{file_selector, place}
-use Rattle.blk_format.specs.Headers.{header_length, place_of_bucket, table_length}
-use Rattle.blk_format.specs.Records.{entry_next_place, node_next_place, node_prev_place, seal_of}
-use Rattle.blk_format.specs.Sealed.{is_sealed, new_seal, placed, record_at, seal_place, seal_steps, sealed_steps, update_steps, update_words}
-use Rattle.blk_volume.specs.Completion.{remove}
-use Rattle.blk_volume.specs.ListImages.{completion_steps, operation_steps}
-use Rattle.blk_volume.specs.ListPlans.{completion_writes, writes_of}
-use Rattle.blk_volume.specs.ListSteps.{steps_of_writes, write_steps}
-use Rattle.blk_volume.specs.ListView.{ListWrite, Next, Prev, Head, Tail, Transaction, Operation, first_or}
-use Rattle.blk_volume.specs.View.{list_of, store_of}
+use Rattle.spec_image.specs.Bytes.{content, spliced, word_bytes}
+use Rattle.spec_image.specs.Image.{File, Image, Index, Block, bytes_of, byte, length_of, same_file, word}
+use Rattle.spec_image.specs.Steps.{TrailStep, Word, SetLength, Delete, Note, after, applied, word_step, word_steps}
+use Rattle.spec_image.specs.Told.{Along}
+use Rattle.spec_image.proofs.Images.{bytes_of-written, same_file-true}
+use Rattle.spec_image.proofs.Splices.{content-spliced_inside}
+use Rattle.spec_format.specs.Address.{file_selector, place}
+use Rattle.spec_format.specs.Headers.{header_length, place_of_bucket, table_length}
+use Rattle.spec_format.specs.Records.{entry_next_place, node_next_place, node_prev_place, seal_of}
+use Rattle.spec_format.specs.Sealed.{is_sealed, new_seal, placed, record_at, seal_place, seal_steps, sealed_steps, update_steps, update_words}
+use Rattle.spec_folder.specs.Completion.{remove}
+use Rattle.spec_folder.specs.ListImages.{completion_steps, operation_steps}
+use Rattle.spec_folder.specs.ListPlans.{completion_writes, writes_of}
+use Rattle.spec_folder.specs.ListSteps.{steps_of_writes, write_steps}
+use Rattle.spec_folder.specs.ListView.{ListWrite, Next, Prev, Head, Tail, Transaction, Operation, first_or}
+use Rattle.spec_folder.specs.View.{list_of, store_of}
 use Rattle.blk_addr.specs.declared.claim_set.Claims.{Claims}
 use Rattle.blk_index.specs.Making.{deletions}
 use Rattle.blk_alloc.specs.Mending.{AreNeeded, IsNeeded}
 use Rattle.blk_alloc.specs.Rebuilding.{IsRebuilding}
 use Rattle.blk_alloc.proofs.Needed.{range_content}
-use Rattle.blk_repair_laws.specs.ChainRepair.{bucket_steps, chain_repair_steps, chain_steps, chains_steps, kept_records, next_steps, next_words_steps}
-use Rattle.blk_repair_laws.specs.EndRepair.{end_writes}
-use Rattle.blk_repair_laws.specs.ListRepair.{completed_image, dropped_nodes, end_steps, ended_image, list_repair_steps, removal_steps}
+use Rattle.law_recovery.specs.ChainRepair.{bucket_steps, chain_repair_steps, chain_steps, chains_steps, kept_records, next_steps, next_words_steps}
+use Rattle.law_recovery.specs.EndRepair.{end_writes}
+use Rattle.law_recovery.specs.ListRepair.{completed_image, dropped_nodes, end_steps, ended_image, list_repair_steps, removal_steps}
 use Rattle.blk_repair.specs.Counters.{counted_words, index_word_steps, index_words_steps, is_in_crash_word, writes_crash_word}
 use Rattle.blk_repair.specs.Seals.{seals_steps}
 use Rattle.blk_repair.proofs.MapRuns.{index-same}

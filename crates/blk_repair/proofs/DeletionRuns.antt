@@ -9,28 +9,28 @@ use Rattle.std.proofs.lemmas.Bool.{and_parts, eq-eqb, or_left, false_from_ne_tru
 use Rattle.std.proofs.lemmas.Bool.Decides.{eqb_tells, nat_tests}
 use Rattle.std.proofs.lemmas.List.{map-append}
 use Rattle.std.proofs.lemmas.List.Elements.{filter-append}
-use Rattle.blk_image.specs.Bytes.{content}
-use Rattle.blk_image.specs.Checks.{first_of}
-use Rattle.blk_image.specs.Footprint.{SameOutside, whole}
-use Rattle.blk_image.specs.Image.{File, Index, Block, External, Image, has_file}
-use Rattle.blk_image.specs.Order.{IsBefore, IsNextFile}
-use Rattle.blk_image.specs.Steps.{TrailStep, Delete, after, applied}
-use Rattle.blk_image.specs.Told.{Told, Applies}
-use Rattle.blk_image.proofs.ByteSteps.{are_bytes-step}
-use Rattle.blk_image.proofs.Footprints.{outside_step}
-use Rattle.blk_image.proofs.Images.{with_file-other}
-use Rattle.blk_image.proofs.Orders.{before_trans}
-use Rattle.blk_image.proofs.Runs.{grows_none, grows_then, passes_end, some_inj, told_whole}
-use Rattle.blk_format.specs.Address.{external, external_number, external_word, file_selector, is_address, is_block_kind, kind_of, names_blocks, names_external}
-use Rattle.blk_format.specs.BlockFiles.{files_along, is_among, kind_among, linked, linked_as, max_entries_in, next_file_in, stands_in, stands_in_blocks}
-use Rattle.blk_format.specs.Claims.{Claim, BlockOf, ExternalOf, claims_of, claims_of_all, has_claim}
-use Rattle.blk_format.specs.Headers.{max_entries_of}
-use Rattle.blk_format.specs.Standing.{stands}
-use Rattle.blk_format.proofs.LinkedHeads.{linked_head}
-use Rattle.blk_format.proofs.Words.{external_number-external_word, kind_of-external_word}
-use Rattle.blk_volume.specs.Found.{kept}
-use Rattle.blk_volume.specs.Loads.{Loaded, claims_of_loaded}
-use Rattle.blk_volume.specs.Sound.{OnlyClaimed, OnlyLinked, words_of}
+use Rattle.spec_image.specs.Bytes.{content}
+use Rattle.spec_image.specs.Checks.{first_of}
+use Rattle.spec_image.specs.Footprint.{SameOutside, whole}
+use Rattle.spec_image.specs.Image.{File, Index, Block, External, Image, has_file}
+use Rattle.spec_image.specs.Order.{IsBefore, IsNextFile}
+use Rattle.spec_image.specs.Steps.{TrailStep, Delete, after, applied}
+use Rattle.spec_image.specs.Told.{Told, Applies}
+use Rattle.spec_image.proofs.ByteSteps.{are_bytes-step}
+use Rattle.spec_image.proofs.Footprints.{outside_step}
+use Rattle.spec_image.proofs.Images.{with_file-other}
+use Rattle.spec_image.proofs.Orders.{before_trans}
+use Rattle.spec_image.proofs.Runs.{grows_none, grows_then, passes_end, some_inj, told_whole}
+use Rattle.spec_format.specs.Address.{external, external_number, external_word, file_selector, is_address, is_block_kind, kind_of, names_blocks, names_external}
+use Rattle.spec_format.specs.BlockFiles.{files_along, is_among, kind_among, linked, linked_as, max_entries_in, next_file_in, stands_in, stands_in_blocks}
+use Rattle.spec_format.specs.Claims.{Claim, BlockOf, ExternalOf, claims_of, claims_of_all, has_claim}
+use Rattle.spec_format.specs.Headers.{max_entries_of}
+use Rattle.spec_format.specs.Standing.{stands}
+use Rattle.spec_format.proofs.LinkedHeads.{linked_head}
+use Rattle.spec_format.proofs.Words.{external_number-external_word, kind_of-external_word}
+use Rattle.spec_folder.specs.Found.{kept}
+use Rattle.spec_folder.specs.Loads.{Loaded, claims_of_loaded}
+use Rattle.spec_folder.specs.Sound.{OnlyClaimed, OnlyLinked, words_of}
 use Rattle.blk_addr.specs.Claims.{IsClaimsOf, contains_claim, is_claimed}
 use Rattle.blk_addr.specs.declared.claim_set.Claims.{Claims}
 use Rattle.blk_addr.proofs.ClaimLemmas.{claims_of-external}
@@ -42,15 +42,15 @@ use Rattle.blk_disk.proofs.Joined.{among_kinds}
 use Rattle.blk_alloc.proofs.Rebuilt.{told_same}
 use Rattle.blk_index.specs.Making.{Lists, deletions}
 use Rattle.blk_index.proofs.Makings.{files_after, lists_more, next_same, other_file, up_to}
-use Rattle.blk_laws.proofs.claims.ByteChanges.{same-links}
-use Rattle.blk_laws.proofs.claims.ClaimLists.{claim-append, no-claim}
-use Rattle.blk_laws.proofs.claims.Files.{blocks-same, list-same, none-linked, other-file, unlinked-go}
-use Rattle.blk_repair_laws.specs.MendedChanges.{KeepsMendedLinks}
-use Rattle.blk_repair_laws.specs.RecordSeals.{StaysSealed}
-use Rattle.blk_repair_laws.proofs.MendedChanges.{links-on, unclaimed-change, unlinked-deleted}
-use Rattle.blk_repair_laws.proofs.MendedParts.{blocks-alike, external-leaves, words-claim, words-stand}
-use Rattle.blk_repair_laws.proofs.OwnClaims.{claim-file}
-use Rattle.blk_repair_laws.proofs.RecordSeals.{linked-of, same-sealed}
+use Rattle.law_folder.proofs.claims.ByteChanges.{same-links}
+use Rattle.law_folder.proofs.claims.ClaimLists.{claim-append, no-claim}
+use Rattle.law_folder.proofs.claims.Files.{blocks-same, list-same, none-linked, other-file, unlinked-go}
+use Rattle.law_recovery.specs.MendedChanges.{KeepsMendedLinks}
+use Rattle.law_recovery.specs.RecordSeals.{StaysSealed}
+use Rattle.law_recovery.proofs.MendedChanges.{links-on, unclaimed-change, unlinked-deleted}
+use Rattle.law_recovery.proofs.MendedParts.{blocks-alike, external-leaves, words-claim, words-stand}
+use Rattle.law_recovery.proofs.OwnClaims.{claim-file}
+use Rattle.law_recovery.proofs.RecordSeals.{linked-of, same-sealed}
 use Rattle.blk_repair.specs.Deletions.{DeletesAll, DeletesUpTo, IsMidDeletion, deletion_of, is_number_claimed, is_unclaimed, is_unlinked}
 use Rattle.blk_repair.specs.Endings.{BreaksOff}
 use Rattle.blk_repair.specs.Maps.{IsNextRebuilt}

@@ -1,21 +1,21 @@
 -- How each part of a repair breaks off, and how the rest of it ends.
 use Rattle.std.proofs.Common.{◌≡◌, ℕ, ◌<◌, ◌%◌, ◌^◌, ◌⊎◌, inl, inr, Bool, List, length, Some, sym, ◌∙◌, subst, arith}
 use Rattle.std.specs.Option.{ForSome}
-use Rattle.blk_image.specs.Image.{Image}
-use Rattle.blk_image.specs.Steps.{TrailStep, after}
-use Rattle.blk_image.specs.Told.{Told, Along, Applies, AppliesPrefix, MakesPartOf}
-use Rattle.blk_image.proofs.Runs.{passes_end, some_inj, told_whole, until_weaker2}
-use Rattle.blk_format.specs.Headers.{HasWholeIndex}
+use Rattle.spec_image.specs.Image.{Image}
+use Rattle.spec_image.specs.Steps.{TrailStep, after}
+use Rattle.spec_image.specs.Told.{Told, Along, Applies, AppliesPrefix, MakesPartOf}
+use Rattle.spec_image.proofs.Runs.{passes_end, some_inj, told_whole, until_weaker2}
+use Rattle.spec_format.specs.Headers.{HasWholeIndex}
 use Rattle.blk_addr.specs.declared.claim_set.Claims.{Claims}
 use Rattle.blk_disk.specs.declared.tables.BlockFiles.{BlockFiles}
 use Rattle.blk_disk.specs.Tables.{all_files}
 use Rattle.blk_alloc.specs.Rebuilding.{IsRebuilding}
-use Rattle.blk_repair_laws.specs.ChainRepair.{chain_repair_steps}
-use Rattle.blk_repair_laws.specs.ListRepair.{HoldsTheSame, IsListMended}
-use Rattle.blk_repair_laws.specs.MendedChanges.{IsMidRepair}
-use Rattle.blk_repair_laws.proofs.ChainRepair.{chains-repaired}
-use Rattle.blk_repair_laws.proofs.ListRepair.{holds-trans}
-use Rattle.blk_repair_laws.proofs.MendedChanges.{holds-mid, keeps-mid}
+use Rattle.law_recovery.specs.ChainRepair.{chain_repair_steps}
+use Rattle.law_recovery.specs.ListRepair.{HoldsTheSame, IsListMended}
+use Rattle.law_recovery.specs.MendedChanges.{IsMidRepair}
+use Rattle.law_recovery.proofs.ChainRepair.{chains-repaired}
+use Rattle.law_recovery.proofs.ListRepair.{holds-trans}
+use Rattle.law_recovery.proofs.MendedChanges.{holds-mid, keeps-mid}
 use Rattle.blk_scan.specs.declared.scan.Scan.{Scan}
 use Rattle.blk_repair.specs.Chains.{AreChainsScanned}
 use Rattle.blk_repair.specs.Counters.{HasIndexWords, IsIndexMended, IsNextCounted, counted_words, index_steps, index_words_steps}

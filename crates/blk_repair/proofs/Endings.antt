@@ -2,12 +2,12 @@
 use Rattle.std.proofs.Common.{◌≡◌, ◌⊎◌, inl, inr, ⊎_elim, List, [], ◌∷◌, ◌++◌, refl, sym, ◌∙◌, ap, subst, append_assoc}
 use Rattle.std.specs.Option.{ForSome, option_map}
 use Rattle.std.proofs.lemmas.List.Elements.{All-cons, All-head, All-nil, All-tail}
-use Rattle.blk_image.specs.Bytes.{word_bytes}
-use Rattle.blk_image.specs.Image.{Image, Index}
-use Rattle.blk_image.specs.Steps.{TrailStep, Word, after, applied, word_step}
-use Rattle.blk_image.specs.Told.{Told, Along, Applies, AppliesPrefix, IsQuiet, Passes}
-use Rattle.blk_image.proofs.Runs.{grows_none, grows_then, quiet-append, quiet_front, until-append, until_front, until_weaker2}
-use Rattle.blk_image.proofs.WordSteps.{quiet-word_step}
+use Rattle.spec_image.specs.Bytes.{word_bytes}
+use Rattle.spec_image.specs.Image.{Image, Index}
+use Rattle.spec_image.specs.Steps.{TrailStep, Word, after, applied, word_step}
+use Rattle.spec_image.specs.Told.{Told, Along, Applies, AppliesPrefix, IsQuiet, Passes}
+use Rattle.spec_image.proofs.Runs.{grows_none, grows_then, quiet-append, quiet_front, until-append, until_front, until_weaker2}
+use Rattle.spec_image.proofs.WordSteps.{quiet-word_step}
 use Rattle.blk_repair.specs.Counters.{crash_place}
 use Rattle.blk_repair.specs.Endings.{BreaksOff, EndsOrBreaksOff, EndsWithCrashWord}
 use Rattle.blk_repair.proofs.CrashWord.{IsOther, SpareIt, spare-append}

@@ -2,22 +2,22 @@
 use Rattle.std.proofs.Common.{◌≡◌, ℕ, ◌+◌, ◌%◌, ◌<◌, ◌≤◌, Bool, true, false, List, [], ◌∷◌, length, Option, None, refl, sym, ◌∙◌, ap, subst, arith}
 use Rattle.std.specs.Prelude.{◌==◌, if◌then◌else◌, slice_index}
 use Rattle.std.specs.Option.{ForSome, unwrap_or}
-use Rattle.blk_image.specs.Bytes.{content, word_bytes}
-use Rattle.blk_image.specs.Image.{Image, Index, Block, byte}
-use Rattle.blk_image.specs.Steps.{TrailStep, Word, after, applied, word_step, word_steps}
-use Rattle.blk_image.specs.Told.{Told, Along, Applies, AppliesPrefix}
-use Rattle.blk_image.proofs.Cuts.{after-append}
-use Rattle.blk_image.proofs.Images.{word-after_other}
-use Rattle.blk_image.proofs.Runs.{some_inj, told_rel, told_whole}
-use Rattle.blk_format.specs.Address.{file_selector, place}
-use Rattle.blk_format.specs.Headers.{bucket_of, place_of_bucket}
-use Rattle.blk_format.specs.Records.{entry_next_place}
-use Rattle.blk_format.specs.Sealed.{new_seal, placed, seal_place, sealed_steps, update_steps, update_words}
-use Rattle.blk_volume.specs.ListView.{first_or}
-use Rattle.blk_volume.specs.View.{store_of}
+use Rattle.spec_image.specs.Bytes.{content, word_bytes}
+use Rattle.spec_image.specs.Image.{Image, Index, Block, byte}
+use Rattle.spec_image.specs.Steps.{TrailStep, Word, after, applied, word_step, word_steps}
+use Rattle.spec_image.specs.Told.{Told, Along, Applies, AppliesPrefix}
+use Rattle.spec_image.proofs.Cuts.{after-append}
+use Rattle.spec_image.proofs.Images.{word-after_other}
+use Rattle.spec_image.proofs.Runs.{some_inj, told_rel, told_whole}
+use Rattle.spec_format.specs.Address.{file_selector, place}
+use Rattle.spec_format.specs.Headers.{bucket_of, place_of_bucket}
+use Rattle.spec_format.specs.Records.{entry_next_place}
+use Rattle.spec_format.specs.Sealed.{new_seal, placed, seal_place, sealed_steps, update_steps, update_words}
+use Rattle.spec_folder.specs.ListView.{first_or}
+use Rattle.spec_folder.specs.View.{store_of}
 use Rattle.blk_io.proofs.Carried.{told_at_end}
 use Rattle.blk_index.specs.Table.{AreBuckets}
-use Rattle.blk_repair_laws.specs.ChainRepair.{next_steps, next_words_steps}
+use Rattle.law_recovery.specs.ChainRepair.{next_steps, next_words_steps}
 use Rattle.blk_repair.specs.Chains.{AreFronts, IsFront, KeepsOtherBuckets}
 
 -- ---- a chain that is mended leaves the words of the other buckets

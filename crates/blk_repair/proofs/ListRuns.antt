@@ -5,22 +5,22 @@ use Rattle.std.specs.Option.{ForSome, IfSome}
 use Rattle.std.specs.List.{slice_get}
 use Rattle.std.proofs.lemmas.List.{append-nil}
 use Rattle.std.proofs.lemmas.List.Elements.{All-head, All-tail}
-use Rattle.blk_image.specs.Image.{Image}
-use Rattle.blk_image.specs.Steps.{TrailStep, after}
-use Rattle.blk_image.specs.Told.{Told, Along, Applies, AppliesPrefix, IsQuiet, Passes}
-use Rattle.blk_image.proofs.Runs.{passes_part, quiet-append, some_inj, told_whole}
-use Rattle.blk_volume.specs.Found.{kept}
-use Rattle.blk_volume.specs.ListImages.{CanBeMade, completion_steps}
-use Rattle.blk_volume.specs.ListPlans.{completion_writes, ending_writes}
-use Rattle.blk_volume.specs.ListSteps.{steps_of_writes}
-use Rattle.blk_volume.specs.ListView.{ListView, ListWrite}
-use Rattle.blk_volume.specs.View.{list_of}
-use Rattle.blk_laws.proofs.lists.WordStops.{completions-done}
-use Rattle.blk_laws.proofs.lists.WriteSteps.{quiet-writes}
+use Rattle.spec_image.specs.Image.{Image}
+use Rattle.spec_image.specs.Steps.{TrailStep, after}
+use Rattle.spec_image.specs.Told.{Told, Along, Applies, AppliesPrefix, IsQuiet, Passes}
+use Rattle.spec_image.proofs.Runs.{passes_part, quiet-append, some_inj, told_whole}
+use Rattle.spec_folder.specs.Found.{kept}
+use Rattle.spec_folder.specs.ListImages.{CanBeMade, completion_steps}
+use Rattle.spec_folder.specs.ListPlans.{completion_writes, ending_writes}
+use Rattle.spec_folder.specs.ListSteps.{steps_of_writes}
+use Rattle.spec_folder.specs.ListView.{ListView, ListWrite}
+use Rattle.spec_folder.specs.View.{list_of}
+use Rattle.law_folder.proofs.lists.WordStops.{completions-done}
+use Rattle.law_folder.proofs.lists.WriteSteps.{quiet-writes}
 use Rattle.blk_lru.specs.Lists.{last_node_of}
-use Rattle.blk_repair_laws.specs.EndRepair.{end_writes, end_writes_of}
-use Rattle.blk_repair_laws.specs.ListRepair.{HasRemoved, HoldsTheSame, IsListMended, all_but, completed_image, dropped_nodes, ended_image, list_repair_steps, removal_steps}
-use Rattle.blk_repair_laws.proofs.ListRepair.{dropped-are, end-can, lists-repaired, removals-begin}
+use Rattle.law_recovery.specs.EndRepair.{end_writes, end_writes_of}
+use Rattle.law_recovery.specs.ListRepair.{HasRemoved, HoldsTheSame, IsListMended, all_but, completed_image, dropped_nodes, ended_image, list_repair_steps, removal_steps}
+use Rattle.law_recovery.proofs.ListRepair.{dropped-are, end-can, lists-repaired, removals-begin}
 use Rattle.blk_repair.specs.Removals.{IsEndedList, IsListScanned, ending_steps, mending_steps, steps_from_end}
 use Rattle.blk_repair.proofs.Progress.{Leads, Progress, begun, ended, now_has, stopped, went_on}
 use Rattle.blk_repair.proofs.RemovalRuns.{quiet-removals}

@@ -4,19 +4,19 @@ use Rattle.std.specs.Prelude.{All, ◌||◌, if◌then◌else◌}
 use Rattle.std.specs.List.{filter, flat_map}
 use Rattle.std.specs.Option.{ForSome, unwrap_or}
 use Rattle.std.proofs.lemmas.List.Elements.{All-filter, All-from_recursion}
-use Rattle.blk_image.specs.Image.{Image, Index, Block, AreBytes, length_of}
-use Rattle.blk_image.specs.Told.{Told, Passes}
-use Rattle.blk_image.proofs.Footprints.{same_file_outside}
-use Rattle.blk_image.proofs.Runs.{passes_end, passes_weaker}
-use Rattle.blk_format.specs.Address.{block_place, block_size}
-use Rattle.blk_format.specs.BlockFiles.{is_among, kind_among, linked_as, max_entries_in, stands_in}
-use Rattle.blk_format.specs.Claims.{Claim, BlockOf, has_claim, is_in_file}
-use Rattle.blk_format.specs.Headers.{HasWholeIndex}
-use Rattle.blk_format.specs.Maps.{AreAllocations}
-use Rattle.blk_format.proofs.LinkedHeads.{linked_head}
-use Rattle.blk_volume.specs.Found.{kept}
-use Rattle.blk_volume.specs.Loads.{Loaded}
-use Rattle.blk_volume.specs.Sound.{AreLongEnough, words_of}
+use Rattle.spec_image.specs.Image.{Image, Index, Block, AreBytes, length_of}
+use Rattle.spec_image.specs.Told.{Told, Passes}
+use Rattle.spec_image.proofs.Footprints.{same_file_outside}
+use Rattle.spec_image.proofs.Runs.{passes_end, passes_weaker}
+use Rattle.spec_format.specs.Address.{block_place, block_size}
+use Rattle.spec_format.specs.BlockFiles.{is_among, kind_among, linked_as, max_entries_in, stands_in}
+use Rattle.spec_format.specs.Claims.{Claim, BlockOf, has_claim, is_in_file}
+use Rattle.spec_format.specs.Headers.{HasWholeIndex}
+use Rattle.spec_format.specs.Maps.{AreAllocations}
+use Rattle.spec_format.proofs.LinkedHeads.{linked_head}
+use Rattle.spec_folder.specs.Found.{kept}
+use Rattle.spec_folder.specs.Loads.{Loaded}
+use Rattle.spec_folder.specs.Sound.{AreLongEnough, words_of}
 use Rattle.blk_addr.specs.Claims.{IsClaimsOf}
 use Rattle.blk_addr.specs.declared.claim_set.Claims.{Claims}
 use Rattle.blk_disk.specs.declared.tables.BlockFiles.{BlockFiles}
@@ -25,12 +25,12 @@ use Rattle.blk_disk.specs.Tables.{Agrees, all_files, blocks_of, files_of, length
 use Rattle.blk_disk.proofs.Joined.{among_kinds}
 use Rattle.blk_alloc.specs.Mending.{PassesNeeded}
 use Rattle.blk_alloc.specs.Rebuilding.{AreFitted, AreItsAllocations, AreRight, IsRebuilding, IsRebuilt, is_block_file, rebuilding_of, words_of_file}
-use Rattle.blk_repair_laws.specs.Mended.{HasMendedFiles}
-use Rattle.blk_repair_laws.specs.MendedChanges.{KeepsMendedLinks}
-use Rattle.blk_repair_laws.specs.MendedParts.{IsRebuiltFor}
-use Rattle.blk_repair_laws.proofs.MendedChanges.{links-grow, links-on}
-use Rattle.blk_repair_laws.proofs.MendedParts.{rebuilt-mended, words-claim, words-stand}
-use Rattle.blk_repair_laws.proofs.RecordSeals.{growth-leaves}
+use Rattle.law_recovery.specs.Mended.{HasMendedFiles}
+use Rattle.law_recovery.specs.MendedChanges.{KeepsMendedLinks}
+use Rattle.law_recovery.specs.MendedParts.{IsRebuiltFor}
+use Rattle.law_recovery.proofs.MendedChanges.{links-grow, links-on}
+use Rattle.law_recovery.proofs.MendedParts.{rebuilt-mended, words-claim, words-stand}
+use Rattle.law_recovery.proofs.RecordSeals.{growth-leaves}
 use Rattle.blk_repair.specs.Maps.{AreFilesMended, IsNextRebuilt}
 
 -- at each word the links stay mended

@@ -2,23 +2,23 @@
 use Rattle.std.proofs.Common.{◌≡◌, ℕ, zero, suc, ◌+◌, ◌<◌, ◌≤◌, ◌%◌, ◌^◌, Bool, List, [], ◌++◌, Some, None, refl, ◌∙◌, ap, subst, arith}
 use Rattle.std.specs.Prelude.{filter, length, not}
 use Rattle.std.specs.Option.{ForSome, option_map}
-use Rattle.blk_image.specs.Image.{File, Index, Block, External, Image}
-use Rattle.blk_image.specs.Steps.{TrailStep, after}
-use Rattle.blk_image.specs.Told.{Told, Applies}
-use Rattle.blk_image.proofs.Runs.{grows_then}
-use Rattle.blk_format.specs.BlockFiles.{is_among}
-use Rattle.blk_format.specs.Headers.{table_length}
-use Rattle.blk_volume.specs.Chains.{IsChain}
-use Rattle.blk_volume.specs.Found.{kept}
-use Rattle.blk_volume.specs.View.{store_of}
+use Rattle.spec_image.specs.Image.{File, Index, Block, External, Image}
+use Rattle.spec_image.specs.Steps.{TrailStep, after}
+use Rattle.spec_image.specs.Told.{Told, Applies}
+use Rattle.spec_image.proofs.Runs.{grows_then}
+use Rattle.spec_format.specs.BlockFiles.{is_among}
+use Rattle.spec_format.specs.Headers.{table_length}
+use Rattle.spec_folder.specs.Chains.{IsChain}
+use Rattle.spec_folder.specs.Found.{kept}
+use Rattle.spec_folder.specs.View.{store_of}
 use Rattle.blk_addr.specs.declared.claim_set.Claims.{Claims}
 use Rattle.blk_disk.specs.declared.tables.BlockFiles.{BlockFiles}
 use Rattle.blk_disk.specs.Tables.{all_files, files_of}
 use Rattle.blk_index.specs.Making.{deletions}
 use Rattle.blk_alloc.specs.Mending.{PassesNeeded}
 use Rattle.blk_alloc.specs.Rebuilding.{IsRebuilding}
-use Rattle.blk_repair_laws.specs.ChainRepair.{chain_repair_steps, chain_steps, chains_steps, kept_records}
-use Rattle.blk_repair_laws.proofs.ChainRepair.{none-to_link}
+use Rattle.law_recovery.specs.ChainRepair.{chain_repair_steps, chain_steps, chains_steps, kept_records}
+use Rattle.law_recovery.proofs.ChainRepair.{none-to_link}
 use Rattle.blk_scan.specs.declared.scan.Scan.{Scan}
 use Rattle.blk_repair.specs.Counters.{IsNextCounted, index_steps}
 use Rattle.blk_repair.specs.Deletions.{Deletes, DeletesAll, DeletesOthers, is_unclaimed, is_unlinked, last_block_file, last_first_file}

@@ -4,25 +4,25 @@ use Rattle.std.specs.Prelude.{All, ◌==◌, ◌&&◌, if◌then◌else◌, nat_
 use Rattle.std.proofs.lemmas.Bool.{eqb-true, and_left, and_right}
 use Rattle.std.proofs.lemmas.Bool.Decides.{nat_tests}
 use Rattle.std.proofs.lemmas.List.Elements.{All-cons, All-head, All-nil, All-tail}
-use Rattle.blk_image.specs.Bytes.{range_at, word_bytes}
-use Rattle.blk_image.specs.Image.{Block, Image, Index, byte}
-use Rattle.blk_image.specs.Steps.{TrailStep, Word, after, applied, word_step}
-use Rattle.blk_image.specs.Told.{Along}
-use Rattle.blk_image.proofs.Runs.{until-append, until_last, until_weaker2}
-use Rattle.blk_image.proofs.Words.{same-range}
-use Rattle.blk_format.specs.Address.{kind_of, file_selector, first_block, place, blocks_256}
-use Rattle.blk_format.specs.Records.{checks, entry_next_place}
-use Rattle.blk_format.specs.Sealed.{IsMidUpdate, RecordChecks, record_at, record_range, record_size, seal_by_kind, seal_place, sealed_steps, size_by_kind}
-use Rattle.blk_format.proofs.SealedRecords.{entry_bytes, entry_seal, moments}
-use Rattle.blk_volume.specs.ListView.{first_or}
-use Rattle.blk_volume.specs.View.{store_of}
-use Rattle.blk_laws.proofs.chains.ChainWords.{record-at}
-use Rattle.blk_laws.proofs.updates.Sealing.{range_apart}
+use Rattle.spec_image.specs.Bytes.{range_at, word_bytes}
+use Rattle.spec_image.specs.Image.{Block, Image, Index, byte}
+use Rattle.spec_image.specs.Steps.{TrailStep, Word, after, applied, word_step}
+use Rattle.spec_image.specs.Told.{Along}
+use Rattle.spec_image.proofs.Runs.{until-append, until_last, until_weaker2}
+use Rattle.spec_image.proofs.Words.{same-range}
+use Rattle.spec_format.specs.Address.{kind_of, file_selector, first_block, place, blocks_256}
+use Rattle.spec_format.specs.Records.{checks, entry_next_place}
+use Rattle.spec_format.specs.Sealed.{IsMidUpdate, RecordChecks, record_at, record_range, record_size, seal_by_kind, seal_place, sealed_steps, size_by_kind}
+use Rattle.spec_format.proofs.SealedRecords.{entry_bytes, entry_seal, moments}
+use Rattle.spec_folder.specs.ListView.{first_or}
+use Rattle.spec_folder.specs.View.{store_of}
+use Rattle.law_folder.proofs.chains.ChainWords.{record-at}
+use Rattle.law_folder.proofs.updates.Sealing.{range_apart}
 use Rattle.blk_disk.specs.declared.tables.BlockFiles.{BlockFiles}
 use Rattle.blk_disk.specs.Tables.{is_record_among}
 use Rattle.blk_disk.specs.Open.{IsOpen}
 use Rattle.blk_disk.proofs.SealedWrites.{record_fits}
-use Rattle.blk_repair_laws.specs.ChainRepair.{next_steps, next_words_steps}
+use Rattle.law_recovery.specs.ChainRepair.{next_steps, next_words_steps}
 use Rattle.blk_repair.specs.Damages.{AllCheck}
 use Rattle.blk_repair.proofs.Choices.{entry_kind, entry_stands, next-open}
 

@@ -4,24 +4,24 @@ use Rattle.std.specs.Prelude.{if◌then◌else◌}
 use Rattle.std.specs.Option.{ForSome}
 use Rattle.std.proofs.lemmas.List.{drop_more, drop_all, drop-drop}
 use Rattle.std.proofs.lemmas.Bool.{eq-eqb, eqb-true}
-use Rattle.blk_image.specs.Image.{Image}
-use Rattle.blk_image.specs.Steps.{TrailStep, after}
-use Rattle.blk_image.specs.Told.{Told, Along, Applies, AppliesPrefix, IsQuiet, Passes}
-use Rattle.blk_image.proofs.Cuts.{after-append}
-use Rattle.blk_image.proofs.Runs.{passes_part, quiet-append, some_inj, told_whole, until-append}
-use Rattle.blk_format.specs.BlockFiles.{is_among, IsWellFormed}
-use Rattle.blk_volume.specs.Completion.{remove}
-use Rattle.blk_volume.specs.ListImages.{HasListAtRest, IsWritable, operation_steps, walked}
-use Rattle.blk_volume.specs.ListPlans.{writes_of}
-use Rattle.blk_volume.specs.View.{list_of}
-use Rattle.blk_laws.proofs.lists.Walks.{walk_list}
-use Rattle.blk_laws.proofs.lists.WriteSteps.{quiet-writes}
+use Rattle.spec_image.specs.Image.{Image}
+use Rattle.spec_image.specs.Steps.{TrailStep, after}
+use Rattle.spec_image.specs.Told.{Told, Along, Applies, AppliesPrefix, IsQuiet, Passes}
+use Rattle.spec_image.proofs.Cuts.{after-append}
+use Rattle.spec_image.proofs.Runs.{passes_part, quiet-append, some_inj, told_whole, until-append}
+use Rattle.spec_format.specs.BlockFiles.{is_among, IsWellFormed}
+use Rattle.spec_folder.specs.Completion.{remove}
+use Rattle.spec_folder.specs.ListImages.{HasListAtRest, IsWritable, operation_steps, walked}
+use Rattle.spec_folder.specs.ListPlans.{writes_of}
+use Rattle.spec_folder.specs.View.{list_of}
+use Rattle.law_folder.proofs.lists.Walks.{walk_list}
+use Rattle.law_folder.proofs.lists.WriteSteps.{quiet-writes}
 use Rattle.blk_disk.specs.declared.tables.BlockFiles.{BlockFiles}
 use Rattle.blk_disk.specs.Open.{IsOpen}
 use Rattle.blk_lru.specs.Lists.{IsListed}
 use Rattle.blk_chain.proofs.Apart.{middle-there}
-use Rattle.blk_repair_laws.specs.ListRepair.{HasRemoved, HoldsTheSame, IsListMended, all_but, is_first, removal_steps}
-use Rattle.blk_repair_laws.proofs.ListRepair.{kept-passed_by, others-removed, removals-end}
+use Rattle.law_recovery.specs.ListRepair.{HasRemoved, HoldsTheSame, IsListMended, all_but, is_first, removal_steps}
+use Rattle.law_recovery.proofs.ListRepair.{kept-passed_by, others-removed, removals-end}
 use Rattle.blk_repair.specs.Removals.{IsEndedList}
 use Rattle.blk_repair.proofs.Progress.{Leads, Progress, begun, now_by, now_has, said_as, stopped, went_on}
 

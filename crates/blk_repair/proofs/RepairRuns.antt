@@ -5,20 +5,20 @@ use Rattle.std.specs.List.{filter, flat_map}
 use Rattle.std.specs.Option.{ForSome, option_map}
 use Rattle.std.proofs.lemmas.List.{length-map}
 use Rattle.std.proofs.lemmas.List.Elements.{All-weaker}
-use Rattle.blk_image.specs.Image.{File, Image, AreBytes}
-use Rattle.blk_image.specs.Steps.{TrailStep, after}
-use Rattle.blk_image.specs.Told.{Told, Applies, Passes}
-use Rattle.blk_image.proofs.Runs.{passes_end}
+use Rattle.spec_image.specs.Image.{File, Image, AreBytes}
+use Rattle.spec_image.specs.Steps.{TrailStep, after}
+use Rattle.spec_image.specs.Told.{Told, Applies, Passes}
+use Rattle.spec_image.proofs.Runs.{passes_end}
 use Rattle.blk_model.specs.Holding.{open_state}
 use Rattle.blk_model.specs.Items.{Row}
-use Rattle.blk_format.specs.Headers.{HasWholeIndex}
-use Rattle.blk_volume.specs.Chains.{IsChain}
-use Rattle.blk_volume.specs.Found.{kept}
-use Rattle.blk_volume.specs.ListImages.{IsWritable, walked}
-use Rattle.blk_volume.specs.Loads.{Loaded, claims_of_loaded}
-use Rattle.blk_volume.specs.Sound.{OnlyClaimed, OnlyLinked, words_of}
-use Rattle.blk_volume.specs.StandsFor.{StandsFor}
-use Rattle.blk_volume.specs.View.{store_of}
+use Rattle.spec_format.specs.Headers.{HasWholeIndex}
+use Rattle.spec_folder.specs.Chains.{IsChain}
+use Rattle.spec_folder.specs.Found.{kept}
+use Rattle.spec_folder.specs.ListImages.{IsWritable, walked}
+use Rattle.spec_folder.specs.Loads.{Loaded, claims_of_loaded}
+use Rattle.spec_folder.specs.Sound.{OnlyClaimed, OnlyLinked, words_of}
+use Rattle.spec_folder.specs.StandsFor.{StandsFor}
+use Rattle.spec_folder.specs.View.{store_of}
 use Rattle.blk_addr.specs.Claims.{IsClaimsOf}
 use Rattle.blk_addr.specs.declared.claim_set.Claims.{Claims}
 use Rattle.blk_disk.specs.declared.tables.BlockFiles.{BlockFiles}
@@ -30,20 +30,20 @@ use Rattle.blk_audit.specs.Sealable.{CanBeSealed}
 use Rattle.blk_audit.specs.BucketEnds.{records_of}
 use Rattle.blk_alloc.specs.Rebuilding.{AreRight}
 use Rattle.blk_alloc.proofs.Rebuilt.{told_same}
-use Rattle.blk_repair_laws.specs.ChainRepair.{AreChainsMended, chain_repair_steps, kept_records}
-use Rattle.blk_repair_laws.specs.KeptSeals.{AreOthersSealed, IsOfKept}
-use Rattle.blk_repair_laws.specs.ListRepair.{HoldsTheSame, IsListMended, list_repair_steps}
-use Rattle.blk_repair_laws.specs.Mended.{HasMendedFiles, IsMended}
-use Rattle.blk_repair_laws.specs.MendedChanges.{IsMidRepair, KeepsMendedLinks}
-use Rattle.blk_repair_laws.specs.MendedLinks.{HasMendedLinks}
-use Rattle.blk_repair_laws.specs.RecordSeals.{IsSealedAt, KeepsRecordsSealed, StaysSealed}
-use Rattle.blk_repair_laws.proofs.ChainRepair.{chains-stay, records-stay}
-use Rattle.blk_repair_laws.proofs.LinkRepair.{chains-links, kept-walked}
-use Rattle.blk_repair_laws.proofs.ListRepair.{holds-trans}
-use Rattle.blk_repair_laws.proofs.Mended.{mended-folders}
-use Rattle.blk_repair_laws.proofs.MendedChanges.{keeps-mid, repaired-kept}
-use Rattle.blk_repair_laws.proofs.RecordSeals.{keeps-more, keeps-none}
-use Rattle.blk_repair_laws.proofs.SoundFolders.{mended-none}
+use Rattle.law_recovery.specs.ChainRepair.{AreChainsMended, chain_repair_steps, kept_records}
+use Rattle.law_recovery.specs.KeptSeals.{AreOthersSealed, IsOfKept}
+use Rattle.law_recovery.specs.ListRepair.{HoldsTheSame, IsListMended, list_repair_steps}
+use Rattle.law_recovery.specs.Mended.{HasMendedFiles, IsMended}
+use Rattle.law_recovery.specs.MendedChanges.{IsMidRepair, KeepsMendedLinks}
+use Rattle.law_recovery.specs.MendedLinks.{HasMendedLinks}
+use Rattle.law_recovery.specs.RecordSeals.{IsSealedAt, KeepsRecordsSealed, StaysSealed}
+use Rattle.law_recovery.proofs.ChainRepair.{chains-stay, records-stay}
+use Rattle.law_recovery.proofs.LinkRepair.{chains-links, kept-walked}
+use Rattle.law_recovery.proofs.ListRepair.{holds-trans}
+use Rattle.law_recovery.proofs.Mended.{mended-folders}
+use Rattle.law_recovery.proofs.MendedChanges.{keeps-mid, repaired-kept}
+use Rattle.law_recovery.proofs.RecordSeals.{keeps-more, keeps-none}
+use Rattle.law_recovery.proofs.SoundFolders.{mended-none}
 use Rattle.blk_scan.specs.declared.chains.KeptChains.{KeptChains}
 use Rattle.blk_scan.specs.declared.scan.Scan.{Scan}
 use Rattle.blk_scan.specs.Scans.{AreChainsTold, IsScanOf, kept_as_told}

@@ -4,41 +4,41 @@ use Rattle.std.specs.Prelude.{All, Contains, map, if◌then◌else◌}
 use Rattle.std.specs.Option.{ForSome}
 use Rattle.std.proofs.lemmas.List.{drop_more, drop_all}
 use Rattle.std.proofs.lemmas.List.Elements.{All-cons, All-contains, All-head, All-nil, All-tail, All-weaker}
-use Rattle.blk_image.specs.Bytes.{word_bytes}
-use Rattle.blk_image.specs.Image.{Image, Index, Block}
-use Rattle.blk_image.specs.Steps.{TrailStep, Word, after, applied, word_step}
-use Rattle.blk_image.specs.Told.{Told, Along, Applies, AppliesPrefix, IsQuiet, Passes}
-use Rattle.blk_image.specs.Footprint.{SameOutside, range}
-use Rattle.blk_image.proofs.Cuts.{after-append}
-use Rattle.blk_image.proofs.Footprints.{outside_write}
-use Rattle.blk_image.proofs.Images.{length-after_write}
-use Rattle.blk_image.proofs.Runs.{passes_part, quiet-append, some_inj, told_whole, until-append, until_both, until_last, until_weaker2}
-use Rattle.blk_image.proofs.WordSteps.{quiet-word_step}
-use Rattle.blk_format.specs.Address.{file_selector, place}
-use Rattle.blk_format.specs.BlockFiles.{is_among, stands_in}
-use Rattle.blk_format.specs.Records.{seal_of}
-use Rattle.blk_format.specs.Sealed.{BeginsWithRecord, IsMidUpdate, RecordChecks, is_sealed, record_at, record_range, seal_place, seal_steps}
-use Rattle.blk_format.proofs.SealedRecords.{sealed_after, sealing}
-use Rattle.blk_format.proofs.SpareHeaders.{blocks_spare}
-use Rattle.blk_volume.specs.ListImages.{IsWritable}
-use Rattle.blk_volume.specs.Loads.{Loaded}
-use Rattle.blk_laws.proofs.claims.Inside.{updates-inside}
-use Rattle.blk_laws.proofs.updates.NodeRecords.{are_bytes-word}
+use Rattle.spec_image.specs.Bytes.{word_bytes}
+use Rattle.spec_image.specs.Image.{Image, Index, Block}
+use Rattle.spec_image.specs.Steps.{TrailStep, Word, after, applied, word_step}
+use Rattle.spec_image.specs.Told.{Told, Along, Applies, AppliesPrefix, IsQuiet, Passes}
+use Rattle.spec_image.specs.Footprint.{SameOutside, range}
+use Rattle.spec_image.proofs.Cuts.{after-append}
+use Rattle.spec_image.proofs.Footprints.{outside_write}
+use Rattle.spec_image.proofs.Images.{length-after_write}
+use Rattle.spec_image.proofs.Runs.{passes_part, quiet-append, some_inj, told_whole, until-append, until_both, until_last, until_weaker2}
+use Rattle.spec_image.proofs.WordSteps.{quiet-word_step}
+use Rattle.spec_format.specs.Address.{file_selector, place}
+use Rattle.spec_format.specs.BlockFiles.{is_among, stands_in}
+use Rattle.spec_format.specs.Records.{seal_of}
+use Rattle.spec_format.specs.Sealed.{BeginsWithRecord, IsMidUpdate, RecordChecks, is_sealed, record_at, record_range, seal_place, seal_steps}
+use Rattle.spec_format.proofs.SealedRecords.{sealed_after, sealing}
+use Rattle.spec_format.proofs.SpareHeaders.{blocks_spare}
+use Rattle.spec_folder.specs.ListImages.{IsWritable}
+use Rattle.spec_folder.specs.Loads.{Loaded}
+use Rattle.law_folder.proofs.claims.Inside.{updates-inside}
+use Rattle.law_folder.proofs.updates.NodeRecords.{are_bytes-word}
 use Rattle.blk_disk.specs.declared.tables.BlockFiles.{BlockFiles}
 use Rattle.blk_disk.specs.Open.{IsOpen}
 use Rattle.blk_disk.proofs.Agreeing.{agrees_still}
-use Rattle.blk_repair_laws.specs.ChainRepair.{is_kept_record}
-use Rattle.blk_repair_laws.specs.MendedChanges.{KeepsMendedLinks}
-use Rattle.blk_repair_laws.specs.RecordSeals.{IsSealedAt, KeepsRecordsSealed}
-use Rattle.blk_repair_laws.proofs.KeptRecords.{kept-nodes-check, kept-records-check}
-use Rattle.blk_repair_laws.proofs.MendedChanges.{links-on, nodes-sealed, records-sealed}
-use Rattle.blk_repair_laws.proofs.MendedParts.{files-mended}
-use Rattle.blk_repair_laws.proofs.RecordSeals.{keeps-more, keeps-none, record-fits, records-behind, seals-made, seals-stand}
+use Rattle.law_recovery.specs.ChainRepair.{is_kept_record}
+use Rattle.law_recovery.specs.MendedChanges.{KeepsMendedLinks}
+use Rattle.law_recovery.specs.RecordSeals.{IsSealedAt, KeepsRecordsSealed}
+use Rattle.law_recovery.proofs.KeptRecords.{kept-nodes-check, kept-records-check}
+use Rattle.law_recovery.proofs.MendedChanges.{links-on, nodes-sealed, records-sealed}
+use Rattle.law_recovery.proofs.MendedParts.{files-mended}
+use Rattle.law_recovery.proofs.RecordSeals.{keeps-more, keeps-none, record-fits, records-behind, seals-made, seals-stand}
 use Rattle.blk_repair.specs.Damages.{AllCheck}
-use Rattle.blk_volume.specs.Found.{kept}
-use Rattle.blk_repair_laws.specs.Mended.{AreKeptSealed}
-use Rattle.blk_repair_laws.proofs.Seals as laws
-use Rattle.blk_repair_laws.specs.KeptSeals.{AreOthersSealed, IsOfKept}
+use Rattle.spec_folder.specs.Found.{kept}
+use Rattle.law_recovery.specs.Mended.{AreKeptSealed}
+use Rattle.law_recovery.proofs.Seals as laws
+use Rattle.law_recovery.specs.KeptSeals.{AreOthersSealed, IsOfKept}
 use Rattle.blk_repair.specs.Seals.{AreSealedNow, HasMendedLinksOf, IsNextSealed, seals_steps}
 use Rattle.blk_repair.proofs.Progress.{Leads}
 

@@ -3,16 +3,16 @@ use Rattle.std.proofs.Common.{◌≡◌, ℕ, zero, suc, ◌+◌, ◌-◌, ◌<�
 use Rattle.std.specs.Prelude.{slice_index_or}
 use Rattle.std.specs.Option.{ForSome, option_map}
 use Rattle.std.proofs.lemmas.List.{append-nil}
-use Rattle.blk_image.specs.Image.{Image}
-use Rattle.blk_image.specs.Steps.{TrailStep, after}
-use Rattle.blk_image.specs.Told.{Told, Along, Applies, AppliesPrefix, IsQuiet, Passes}
-use Rattle.blk_image.proofs.Cuts.{after-append}
-use Rattle.blk_image.proofs.Runs.{grows_none, grows_then, part_only, part_then, part_whole, passes_part, quiet-append, some_inj, told_whole}
-use Rattle.blk_volume.specs.Chains.{IsChain}
-use Rattle.blk_volume.specs.View.{store_of}
-use Rattle.blk_repair_laws.specs.ChainRepair.{AreChainsMended, HasChainsUpTo, chain_repair_steps, chain_steps, chains_steps, kept_records}
-use Rattle.blk_repair_laws.specs.ListRepair.{HoldsTheSame}
-use Rattle.blk_repair_laws.proofs.ChainRepair.{chains-begin, chains-repaired}
+use Rattle.spec_image.specs.Image.{Image}
+use Rattle.spec_image.specs.Steps.{TrailStep, after}
+use Rattle.spec_image.specs.Told.{Told, Along, Applies, AppliesPrefix, IsQuiet, Passes}
+use Rattle.spec_image.proofs.Cuts.{after-append}
+use Rattle.spec_image.proofs.Runs.{grows_none, grows_then, part_only, part_then, part_whole, passes_part, quiet-append, some_inj, told_whole}
+use Rattle.spec_folder.specs.Chains.{IsChain}
+use Rattle.spec_folder.specs.View.{store_of}
+use Rattle.law_recovery.specs.ChainRepair.{AreChainsMended, HasChainsUpTo, chain_repair_steps, chain_steps, chains_steps, kept_records}
+use Rattle.law_recovery.specs.ListRepair.{HoldsTheSame}
+use Rattle.law_recovery.proofs.ChainRepair.{chains-begin, chains-repaired}
 use Rattle.blk_audit.specs.BucketEnds.{records_of}
 use Rattle.blk_repair.specs.Chains.{AreChainsScanned, IsFront, IsNextBucket}
 use Rattle.blk_repair.specs.Damages.{AllCheck}

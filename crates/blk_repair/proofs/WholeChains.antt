@@ -1,13 +1,13 @@
 -- Chains that are whole, and stay so while others are mended.
 use Rattle.std.proofs.Common.{◌≡◌, ℕ, List, [], refl, ◌∙◌, arith, true}
-use Rattle.blk_image.specs.Image.{Image}
-use Rattle.blk_volume.specs.Chains.{IsChain, chain}
-use Rattle.blk_volume.specs.View.{store_of}
-use Rattle.blk_laws.proofs.chains.ChainEnds.{chain-back}
-use Rattle.blk_laws.proofs.chains.Chains.{chain-is}
-use Rattle.blk_laws.proofs.states.Bare.{no-record}
-use Rattle.blk_repair_laws.specs.ChainRepair.{chain_steps}
-use Rattle.blk_repair_laws.proofs.ChainRepair.{none-to_link}
+use Rattle.spec_image.specs.Image.{Image}
+use Rattle.spec_folder.specs.Chains.{IsChain, chain}
+use Rattle.spec_folder.specs.View.{store_of}
+use Rattle.law_folder.proofs.chains.ChainEnds.{chain-back}
+use Rattle.law_folder.proofs.chains.Chains.{chain-is}
+use Rattle.law_folder.proofs.states.Bare.{no-record}
+use Rattle.law_recovery.specs.ChainRepair.{chain_steps}
+use Rattle.law_recovery.proofs.ChainRepair.{none-to_link}
 use Rattle.blk_repair.specs.Chains.{IsNextBucket}
 
 -- a whole chain is one still where it is as before

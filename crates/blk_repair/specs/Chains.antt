@@ -1,14 +1,14 @@
 -- The chain that is mended next, and the kept records of all chains.
 use Rattle.std.specs.Prelude.{ℕ, ◌<◌, ◌≤◌, ◌≡◌, ◌≢◌, ◌%◌, Bool, true, false, List, slice_index, slice_index_or}
-use Rattle.blk_image.specs.Image.{Image, Index, byte}
-use Rattle.blk_format.specs.BlockFiles.{IsWellFormed}
-use Rattle.blk_format.specs.Headers.{bucket_of, table_length}
-use Rattle.blk_volume.specs.Chains.{IsChain}
-use Rattle.blk_volume.specs.ListImages.{IsWritable}
-use Rattle.blk_volume.specs.View.{store_of}
+use Rattle.spec_image.specs.Image.{Image, Index, byte}
+use Rattle.spec_format.specs.BlockFiles.{IsWellFormed}
+use Rattle.spec_format.specs.Headers.{bucket_of, table_length}
+use Rattle.spec_folder.specs.Chains.{IsChain}
+use Rattle.spec_folder.specs.ListImages.{IsWritable}
+use Rattle.spec_folder.specs.View.{store_of}
 use Rattle.blk_index.specs.Table.{buckets_of_piece}
 use Rattle.blk_audit.specs.BucketEnds.{records_of}
-use Rattle.blk_repair_laws.specs.ChainRepair.{HasChainsUpTo, KeepsAllWalked, kept_records}
+use Rattle.law_recovery.specs.ChainRepair.{HasChainsUpTo, KeepsAllWalked, kept_records}
 
 -- the list was mended, the chains below this bucket are, and these are the kept records of the bucket
 pub record IsNextChain (from : Image) (bucket : ℕ) (records : List ℕ) (image : Image) : Type 0 where

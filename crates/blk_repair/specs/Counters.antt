@@ -1,17 +1,17 @@
 -- The words of the index that are mended last: the counters, the number of the session, and the crash word.
 use Rattle.std.specs.Prelude.{ℕ, ◌≡◌, ◌+◌, ◌<◌, ◌%◌, ◌^◌, ◌==◌, ◌&&◌, if◌then◌else◌, nat_le, Bool, List, [], ◌∷◌, ◌++◌, length, false}
 use Rattle.std.specs.List.{sum_by}
-use Rattle.blk_image.specs.Image.{Image, Index, byte, same_file, word}
-use Rattle.blk_image.specs.Steps.{TrailStep, Word, SetLength, Delete, Note, after, word_step}
-use Rattle.blk_image.specs.Told.{Told}
-use Rattle.blk_format.specs.BlockFiles.{is_among}
-use Rattle.blk_format.specs.Headers.{crash_of, header_length, num_bytes_of, num_bytes_place, num_entries_of, num_entries_place, sizes_of, sizes_place, this_id_of}
-use Rattle.blk_volume.specs.Found.{charge_of, kept}
-use Rattle.blk_laws.specs.IndexWrites.{checked_words, shown_words}
+use Rattle.spec_image.specs.Image.{Image, Index, byte, same_file, word}
+use Rattle.spec_image.specs.Steps.{TrailStep, Word, SetLength, Delete, Note, after, word_step}
+use Rattle.spec_image.specs.Told.{Told}
+use Rattle.spec_format.specs.BlockFiles.{is_among}
+use Rattle.spec_format.specs.Headers.{crash_of, header_length, num_bytes_of, num_bytes_place, num_entries_of, num_entries_place, sizes_of, sizes_place, this_id_of}
+use Rattle.spec_folder.specs.Found.{charge_of, kept}
+use Rattle.law_folder.specs.IndexWrites.{checked_words, shown_words}
 use Rattle.blk_io.specs.declared.folder.FileId.TheVariants as names
 use Rattle.blk_io.specs.declared.fault.Damage.{Damage}
 use Rattle.blk_io.specs.Faults.{IsShort}
-use Rattle.blk_repair_laws.specs.Mended.{AreKeptSealed, HasMendedCounters, HasMendedFiles, HasOnlyKeptFiles}
+use Rattle.law_recovery.specs.Mended.{AreKeptSealed, HasMendedCounters, HasMendedFiles, HasOnlyKeptFiles}
 use Rattle.blk_repair.specs.Seals.{HasMendedLinksOf}
 
 -- the places of the number of the session and of the crash word

@@ -2,22 +2,22 @@
 use Rattle.std.specs.Prelude.{ℕ, ◌≡◌, ◌^◌, Bool, true, false, not, ◌&&◌, nat_lt, if◌then◌else◌, List, [], ◌∷◌}
 use Rattle.std.specs.List.{filter}
 use Rattle.std.specs.Option.{ForSome}
-use Rattle.blk_image.specs.Image.{File, Index, Block, External, Image, has_file}
-use Rattle.blk_image.specs.Order.{IsBefore}
-use Rattle.blk_image.specs.Steps.{TrailStep, Delete}
-use Rattle.blk_image.specs.Told.{Told, Applies}
-use Rattle.blk_format.specs.BlockFiles.{is_among}
-use Rattle.blk_format.specs.Claims.{ExternalOf}
-use Rattle.blk_volume.specs.Found.{kept}
-use Rattle.blk_volume.specs.Loads.{claims_of_loaded}
-use Rattle.blk_volume.specs.Sound.{OnlyClaimed, OnlyLinked}
+use Rattle.spec_image.specs.Image.{File, Index, Block, External, Image, has_file}
+use Rattle.spec_image.specs.Order.{IsBefore}
+use Rattle.spec_image.specs.Steps.{TrailStep, Delete}
+use Rattle.spec_image.specs.Told.{Told, Applies}
+use Rattle.spec_format.specs.BlockFiles.{is_among}
+use Rattle.spec_format.specs.Claims.{ExternalOf}
+use Rattle.spec_folder.specs.Found.{kept}
+use Rattle.spec_folder.specs.Loads.{claims_of_loaded}
+use Rattle.spec_folder.specs.Sound.{OnlyClaimed, OnlyLinked}
 use Rattle.blk_addr.specs.Claims.{contains_claim}
 use Rattle.blk_addr.specs.declared.claim_set.Claims.{Claims}
 use Rattle.blk_disk.specs.declared.tables.BlockFiles.{BlockFiles}
 use Rattle.blk_disk.specs.Tables.{all_files}
 use Rattle.blk_index.specs.Making.{Lists, deletions}
-use Rattle.blk_repair_laws.specs.Mended.{HasMendedFiles}
-use Rattle.blk_repair_laws.specs.RecordSeals.{StaysSealed}
+use Rattle.law_recovery.specs.Mended.{HasMendedFiles}
+use Rattle.law_recovery.specs.RecordSeals.{StaysSealed}
 use Rattle.blk_repair.specs.Parts.{InTurn}
 use Rattle.blk_repair.specs.Seals.{HasMendedLinksOf}
 

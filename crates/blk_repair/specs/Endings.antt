@@ -1,9 +1,9 @@
 -- How steps end that are to mark a session as open: they break off before that, or the last of them does it.
 use Rattle.std.specs.Prelude.{◌≡◌, ◌⊎◌, List, ◌++◌, All, false}
 use Rattle.std.specs.Option.{ForSome}
-use Rattle.blk_image.specs.Image.{Image, Index}
-use Rattle.blk_image.specs.Steps.{TrailStep, word_step}
-use Rattle.blk_image.specs.Told.{Told, Along, Applies, IsQuiet, Passes}
+use Rattle.spec_image.specs.Image.{Image, Index}
+use Rattle.spec_image.specs.Steps.{TrailStep, word_step}
+use Rattle.spec_image.specs.Told.{Told, Along, Applies, IsQuiet, Passes}
 use Rattle.blk_repair.specs.Counters.{crash_place, writes_crash_word}
 
 -- steps were made, none of them a note, and none writes inside the crash word; P holds of the files before each of them and after the last

@@ -1,19 +1,19 @@
 -- The block files that are mended behind the links.
 use Rattle.std.specs.Prelude.{List}
 use Rattle.std.specs.List.{flat_map}
-use Rattle.blk_image.specs.Image.{Image}
-use Rattle.blk_image.specs.Steps.{TrailStep}
-use Rattle.blk_image.specs.Told.{Along, IsQuiet}
-use Rattle.blk_volume.specs.Found.{kept}
-use Rattle.blk_volume.specs.Sound.{words_of}
+use Rattle.spec_image.specs.Image.{Image}
+use Rattle.spec_image.specs.Steps.{TrailStep}
+use Rattle.spec_image.specs.Told.{Along, IsQuiet}
+use Rattle.spec_folder.specs.Found.{kept}
+use Rattle.spec_folder.specs.Sound.{words_of}
 use Rattle.blk_addr.specs.Claims.{IsClaimsOf}
 use Rattle.blk_addr.specs.declared.claim_set.Claims.{Claims}
 use Rattle.blk_disk.specs.declared.tables.BlockFiles.{BlockFiles}
 use Rattle.blk_disk.specs.Tables.{all_files}
 use Rattle.blk_alloc.specs.Mending.{AreNeeded}
 use Rattle.blk_alloc.specs.Rebuilding.{IsRebuilding}
-use Rattle.blk_repair_laws.specs.Mended.{HasMendedFiles}
-use Rattle.blk_repair_laws.specs.RecordSeals.{StaysSealed}
+use Rattle.law_recovery.specs.Mended.{HasMendedFiles}
+use Rattle.law_recovery.specs.RecordSeals.{StaysSealed}
 use Rattle.blk_repair.specs.Seals.{HasMendedLinksOf}
 
 -- the links are mended, and the claims are those of the address words of what is kept

@@ -1,8 +1,8 @@
 -- Steps that are made part after part.
 use Rattle.std.specs.Prelude.{◌≡◌, List, ◌++◌}
-use Rattle.blk_image.specs.Image.{Image}
-use Rattle.blk_image.specs.Steps.{TrailStep, after}
-use Rattle.blk_image.specs.Told.{Told, Applies}
+use Rattle.spec_image.specs.Image.{Image}
+use Rattle.spec_image.specs.Steps.{TrailStep, after}
+use Rattle.spec_image.specs.Told.{Told, Applies}
 
 -- exactly the steps that an image asks for
 abbrev pub Exactly : (Image → List TrailStep) → Image → List TrailStep → Type 0

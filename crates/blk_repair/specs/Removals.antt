@@ -1,15 +1,15 @@
 -- The repair of the use list, by its walked and its kept nodes.
 use Rattle.std.specs.Prelude.{◌≡◌, ℕ, List, [], ◌++◌, Option, map}
-use Rattle.blk_image.specs.Image.{Image}
-use Rattle.blk_format.specs.BlockFiles.{IsWellFormed}
-use Rattle.blk_image.specs.Steps.{TrailStep, after}
-use Rattle.blk_volume.specs.Found.{kept}
-use Rattle.blk_volume.specs.ListImages.{IsWritable, completed_walk, completion_steps}
-use Rattle.blk_volume.specs.ListPlans.{ending_writes}
-use Rattle.blk_volume.specs.ListSteps.{steps_of_writes}
-use Rattle.blk_volume.specs.View.{list_of}
+use Rattle.spec_image.specs.Image.{Image}
+use Rattle.spec_format.specs.BlockFiles.{IsWellFormed}
+use Rattle.spec_image.specs.Steps.{TrailStep, after}
+use Rattle.spec_folder.specs.Found.{kept}
+use Rattle.spec_folder.specs.ListImages.{IsWritable, completed_walk, completion_steps}
+use Rattle.spec_folder.specs.ListPlans.{ending_writes}
+use Rattle.spec_folder.specs.ListSteps.{steps_of_writes}
+use Rattle.spec_folder.specs.View.{list_of}
 use Rattle.blk_lru.specs.Lists.{last_node_of}
-use Rattle.blk_repair_laws.specs.ListRepair.{HasRemoved, all_but, removal_steps}
+use Rattle.law_recovery.specs.ListRepair.{HasRemoved, all_but, removal_steps}
 
 -- the list was ended with these nodes, and these of them are kept; none was taken out yet
 pub record IsEndedList (entry : Image) (walked kept : List ℕ) (image : Image) : Type 0 where

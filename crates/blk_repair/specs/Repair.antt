@@ -2,26 +2,26 @@
 use Rattle.std.specs.Prelude.{ℕ, ◌≡◌, ◌⊎◌, ◌+◌, ◌%◌, ◌^◌, ◌==◌, if◌then◌else◌, List, [], length}
 use Rattle.std.specs.List.{sum_by}
 use Rattle.std.specs.declared.option.Option.{Option}
-use Rattle.blk_image.specs.Image.{Image, Index, byte}
-use Rattle.blk_image.specs.Steps.{TrailStep}
-use Rattle.blk_image.specs.Told.{Told}
+use Rattle.spec_image.specs.Image.{Image, Index, byte}
+use Rattle.spec_image.specs.Steps.{TrailStep}
+use Rattle.spec_image.specs.Told.{Told}
 use Rattle.blk_model.specs.Holding.{open_state}
 use Rattle.blk_model.specs.State.{Bounds}
-use Rattle.blk_format.specs.BlockFiles.{IsWellFormed}
-use Rattle.blk_format.specs.Headers.{crash_of, this_id_of}
-use Rattle.blk_volume.specs.Found.{charge_of, found, kept}
-use Rattle.blk_volume.specs.ListImages.{IsWritable}
-use Rattle.blk_volume.specs.StandsFor.{StandsFor}
+use Rattle.spec_format.specs.BlockFiles.{IsWellFormed}
+use Rattle.spec_format.specs.Headers.{crash_of, this_id_of}
+use Rattle.spec_folder.specs.Found.{charge_of, found, kept}
+use Rattle.spec_folder.specs.ListImages.{IsWritable}
+use Rattle.spec_folder.specs.StandsFor.{StandsFor}
 use Rattle.blk_io.specs.declared.fault.Damage.{Damage}
 use Rattle.blk_addr.specs.declared.claim_set.Claims.{Claims}
 use Rattle.blk_disk.specs.declared.tables.BlockFiles.{BlockFiles}
 use Rattle.blk_disk.specs.Tables.{all_files}
 use Rattle.blk_alloc.specs.Rebuilding.{IsShortReadOf}
-use Rattle.blk_repair_laws.specs.ChainRepair.{KeepsAllWalked, chain_repair_steps}
-use Rattle.blk_repair_laws.specs.ListRepair.{list_repair_steps}
-use Rattle.blk_repair_laws.specs.KeptSeals.{AreOthersSealed}
-use Rattle.blk_repair_laws.specs.Mended.{HasMendedFiles, HasOnlyKeptFiles, IsMended}
-use Rattle.blk_repair_laws.specs.MendedLinks.{HasMendedLinks}
+use Rattle.law_recovery.specs.ChainRepair.{KeepsAllWalked, chain_repair_steps}
+use Rattle.law_recovery.specs.ListRepair.{list_repair_steps}
+use Rattle.law_recovery.specs.KeptSeals.{AreOthersSealed}
+use Rattle.law_recovery.specs.Mended.{HasMendedFiles, HasOnlyKeptFiles, IsMended}
+use Rattle.law_recovery.specs.MendedLinks.{HasMendedLinks}
 use Rattle.blk_scan.specs.declared.chains.KeptChains.{KeptChains}
 use Rattle.blk_scan.specs.declared.scan.Scan.{Scan}
 use Rattle.blk_scan.specs.Scans.{AreChainsTold, IsScanOf}

@@ -1,18 +1,18 @@
 -- Nodes and records that are sealed, while the links stay mended.
 use Rattle.std.specs.Prelude.{ℕ, List, [], ◌∷◌, ◌++◌, All}
-use Rattle.blk_image.specs.Image.{Image}
-use Rattle.blk_image.specs.Steps.{TrailStep, after}
-use Rattle.blk_image.specs.Told.{Told}
-use Rattle.blk_format.specs.Sealed.{record_size, seal_steps}
-use Rattle.blk_volume.specs.ListImages.{IsWritable}
+use Rattle.spec_image.specs.Image.{Image}
+use Rattle.spec_image.specs.Steps.{TrailStep, after}
+use Rattle.spec_image.specs.Told.{Told}
+use Rattle.spec_format.specs.Sealed.{record_size, seal_steps}
+use Rattle.spec_folder.specs.ListImages.{IsWritable}
 use Rattle.blk_io.specs.declared.fault.Damage.{Damage}
 use Rattle.blk_disk.specs.declared.tables.BlockFiles.{BlockFiles}
 use Rattle.blk_disk.specs.Damages.{IsFailedRecord}
 use Rattle.blk_audit.specs.Sealable.{CanBeSealed}
-use Rattle.blk_repair_laws.specs.KeptSeals.{AreOthersSealed, IsOfKept}
-use Rattle.blk_repair_laws.specs.Mended.{AreKeptSealed, HasMendedFiles, HasOnlyKeptFiles}
-use Rattle.blk_repair_laws.specs.MendedChanges.{KeepsMendedLinks}
-use Rattle.blk_repair_laws.specs.RecordSeals.{IsSealedAt, KeepsRecordsSealed}
+use Rattle.law_recovery.specs.KeptSeals.{AreOthersSealed, IsOfKept}
+use Rattle.law_recovery.specs.Mended.{AreKeptSealed, HasMendedFiles, HasOnlyKeptFiles}
+use Rattle.law_recovery.specs.MendedChanges.{KeepsMendedLinks}
+use Rattle.law_recovery.specs.RecordSeals.{IsSealedAt, KeepsRecordsSealed}
 
 -- the folder can be written and its links are mended, with the same kept and found as at the entry
 pub record HasMendedLinksOf (entry image : Image) : Type 0 where

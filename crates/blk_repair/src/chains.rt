@@ -1,11 +1,11 @@
 // Buckets that are made the chains of their kept records.
 ghost use Rattle.std.specs.Prelude.{◌≡◌, ◌≤◌, None, OnOk, All, true};
 ghost use Rattle.std.specs.Option.{ForSome};
-ghost use Rattle.blk_image.specs.Told.{Applies, AppliesPrefix, MakesPartOf, Rises};
+ghost use Rattle.spec_image.specs.Told.{Applies, AppliesPrefix, MakesPartOf, Rises};
 ghost use Rattle.blk_io.specs.Faults.{IfDamaged, IfDevice};
 ghost use Rattle.blk_disk.specs.Tables.{is_record_among};
 ghost use Rattle.blk_disk.specs.Open.{IsOpen};
-ghost use Rattle.blk_repair_laws.specs.ChainRepair.{chain_steps, next_words_steps};
+ghost use Rattle.law_recovery.specs.ChainRepair.{chain_steps, next_words_steps};
 ghost use Rattle.blk_repair.specs.Damages.{AllCheck, IsFailedLink};
 ghost use Rattle.blk_repair.specs.Chains.{IsFront, KeepsOtherBuckets};
 

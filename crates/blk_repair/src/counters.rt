@@ -1,9 +1,9 @@
 // The words of the index's header that repair makes right: the counters, the number of the session, and the crash word.
 ghost use Rattle.std.specs.Prelude.{◌≡◌, ◌≤◌, ℕ, None, OnOk, All};
 ghost use Rattle.std.specs.Option.{ForSome};
-ghost use Rattle.blk_image.specs.Image.{Image};
-ghost use Rattle.blk_image.specs.Told.{Applies, MakesPartOf, Passes, Rises};
-ghost use Rattle.blk_format.specs.Headers.{HasWholeIndex};
+ghost use Rattle.spec_image.specs.Image.{Image};
+ghost use Rattle.spec_image.specs.Told.{Applies, MakesPartOf, Passes, Rises};
+ghost use Rattle.spec_format.specs.Headers.{HasWholeIndex};
 ghost use Rattle.blk_io.specs.declared.folder.FileId.TheVariants as FileId;
 ghost use Rattle.blk_io.specs.Faults.{IfDamaged, IfDevice, IsShort};
 ghost use Rattle.blk_repair.specs.Counters.{HasIndexWords, IsHiddenWord, IsIndexMended, IsNextCounted, IsShortIndexWord, index_steps, index_word_steps, index_words_steps};

@@ -1,13 +1,13 @@
 // The files that nothing names go: block files that aren't linked, and external files that aren't claimed.
 ghost use Rattle.std.specs.Prelude.{◌≡◌, ◌<◌, ◌≤◌, ℕ, None, Some, Ok, OnOk, OnErr, IfOk, false};
 ghost use Rattle.std.specs.Option.{ForSome};
-ghost use Rattle.blk_image.specs.Image.{Image, has_file, Block as block, External as external};
-ghost use Rattle.blk_image.specs.Order.{IsBefore, IsNextFile};
-ghost use Rattle.blk_image.specs.Told.{Applies, Rises, Stays};
+ghost use Rattle.spec_image.specs.Image.{Image, has_file, Block as block, External as external};
+ghost use Rattle.spec_image.specs.Order.{IsBefore, IsNextFile};
+ghost use Rattle.spec_image.specs.Told.{Applies, Rises, Stays};
 ghost use Rattle.blk_io.specs.FileNames.{file_of};
-ghost use Rattle.blk_volume.specs.Found.{kept};
-ghost use Rattle.blk_volume.specs.Loads.{claims_of_loaded};
-ghost use Rattle.blk_volume.specs.Sound.{OnlyClaimed, OnlyLinked};
+ghost use Rattle.spec_folder.specs.Found.{kept};
+ghost use Rattle.spec_folder.specs.Loads.{claims_of_loaded};
+ghost use Rattle.spec_folder.specs.Sound.{OnlyClaimed, OnlyLinked};
 ghost use Rattle.blk_disk.specs.declared.tables.BlockFiles.{BlockFiles};
 ghost use Rattle.blk_disk.specs.Open.{IsOpen};
 ghost use Rattle.blk_repair.specs.Deletions.{DeletesAll, DeletesSome, IsMidDeletion, deletion_of, is_number_claimed, is_unclaimed, is_unlinked, last_block_file, last_first_file};

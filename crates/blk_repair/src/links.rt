@@ -1,17 +1,17 @@
 // The words by which chains are linked: those of the table, and the nexts of records. One is written only where it differs.
 ghost use Rattle.std.specs.Prelude.{◌≡◌, ◌≤◌, ◌⊎◌, None, OnErr, OnOk, true};
 ghost use Rattle.std.specs.Option.{ForSome};
-ghost use Rattle.blk_image.specs.Image.{Index as index};
-ghost use Rattle.blk_image.specs.Steps.{word_step};
-ghost use Rattle.blk_image.specs.Told.{Applies, AppliesPrefix, MakesPartOf, Rises};
-ghost use Rattle.blk_format.specs.Headers.{HasWholeIndex, place_of_bucket};
-ghost use Rattle.blk_format.specs.Sealed.{RecordChecks};
-ghost use Rattle.blk_volume.specs.View.{store_of};
-ghost use Rattle.blk_volume.specs.ListView.{first_or};
+ghost use Rattle.spec_image.specs.Image.{Index as index};
+ghost use Rattle.spec_image.specs.Steps.{word_step};
+ghost use Rattle.spec_image.specs.Told.{Applies, AppliesPrefix, MakesPartOf, Rises};
+ghost use Rattle.spec_format.specs.Headers.{HasWholeIndex, place_of_bucket};
+ghost use Rattle.spec_format.specs.Sealed.{RecordChecks};
+ghost use Rattle.spec_folder.specs.View.{store_of};
+ghost use Rattle.spec_folder.specs.ListView.{first_or};
 ghost use Rattle.blk_io.specs.Faults.{IfDamaged, IfDevice};
 ghost use Rattle.blk_disk.specs.Tables.{is_record_among};
 ghost use Rattle.blk_disk.specs.Open.{IsOpen};
-ghost use Rattle.blk_repair_laws.specs.ChainRepair.{bucket_steps, next_steps};
+ghost use Rattle.law_recovery.specs.ChainRepair.{bucket_steps, next_steps};
 ghost use Rattle.blk_repair.specs.Chains.{IsFront};
 ghost use Rattle.blk_repair.specs.Damages.{IsFailedLink};
 

@@ -1,12 +1,12 @@
 // The use list is repaired.
 ghost use Rattle.std.specs.Prelude.{◌≡◌, ◌≤◌, None, OnOk, All, true};
 ghost use Rattle.std.specs.Option.{ForSome};
-ghost use Rattle.blk_image.specs.Told.{Applies, MakesPartOf, Passes, Rises};
+ghost use Rattle.spec_image.specs.Told.{Applies, MakesPartOf, Passes, Rises};
 ghost use Rattle.blk_io.specs.Faults.{IfDamaged, IfDevice};
 ghost use Rattle.blk_disk.specs.Open.{IsOpen};
 ghost use Rattle.blk_disk.specs.Tables.{is_node_among};
 ghost use Rattle.blk_lru.specs.Lists.{last_node_of};
-ghost use Rattle.blk_repair_laws.specs.ListRepair.{HoldsTheSame, IsListMended};
+ghost use Rattle.law_recovery.specs.ListRepair.{HoldsTheSame, IsListMended};
 ghost use Rattle.blk_repair.specs.Damages.{IsListRepairDamage};
 ghost use Rattle.blk_repair.specs.Removals.{IsListScanned, mending_steps};
 

@@ -1,14 +1,14 @@
 // The lengths, the maps and the counters of the block files that are made those of what is kept.
 ghost use Rattle.std.specs.Prelude.{◌≡◌, ◌≤◌, ℕ, None, OnOk};
 ghost use Rattle.std.specs.Option.{ForSome};
-ghost use Rattle.blk_image.specs.Image.{Image};
-ghost use Rattle.blk_image.specs.Told.{Passes, Rises, Stays};
+ghost use Rattle.spec_image.specs.Image.{Image};
+ghost use Rattle.spec_image.specs.Told.{Passes, Rises, Stays};
 ghost use Rattle.blk_io.specs.Faults.{IfDamaged, IfDevice};
 ghost use Rattle.blk_disk.specs.Open.{IsOpen};
 ghost use Rattle.blk_disk.specs.Tables.{all_files, files_of};
 ghost use Rattle.blk_alloc.specs.Extending.{KeepsStanding};
 ghost use Rattle.blk_alloc.specs.Rebuilding.{AreFitted, AreRight, IsShortReadOf};
-ghost use Rattle.blk_repair_laws.specs.MendedChanges.{KeepsMendedLinks};
+ghost use Rattle.law_recovery.specs.MendedChanges.{KeepsMendedLinks};
 ghost use Rattle.blk_repair.specs.Maps.{AreFilesMended, IsNextRebuilt, Rebuilds};
 ghost use Rattle.blk_repair.specs.Parts.{AppliesOf};
 

@@ -1,12 +1,12 @@
 // The nodes that are not kept go out of the use list.
 ghost use Rattle.std.specs.Prelude.{◌≡◌, ◌≤◌, None, OnOk, All, drop, true};
 ghost use Rattle.std.specs.Option.{ForSome};
-ghost use Rattle.blk_image.specs.Image.{Image};
-ghost use Rattle.blk_image.specs.Told.{Applies, MakesPartOf, Passes, Rises};
+ghost use Rattle.spec_image.specs.Image.{Image};
+ghost use Rattle.spec_image.specs.Told.{Applies, MakesPartOf, Passes, Rises};
 ghost use Rattle.blk_io.specs.Faults.{IfDamaged, IfDevice};
 ghost use Rattle.blk_disk.specs.Open.{IsOpen};
 ghost use Rattle.blk_disk.specs.Tables.{is_node_among};
-ghost use Rattle.blk_repair_laws.specs.ListRepair.{HoldsTheSame, IsListMended, all_but, is_first, removal_steps};
+ghost use Rattle.law_recovery.specs.ListRepair.{HoldsTheSame, IsListMended, all_but, is_first, removal_steps};
 ghost use Rattle.blk_repair.specs.Damages.{IsRemovalsDamage};
 ghost use Rattle.blk_repair.specs.Removals.{IsEndedList};
 

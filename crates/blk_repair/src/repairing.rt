@@ -1,20 +1,20 @@
 // The whole repair of a folder.
 ghost use Rattle.std.specs.Prelude.{◌≡◌, ◌≤◌, ◌%◌, ◌^◌, ℕ, None, OnOk, OnErr, All};
 ghost use Rattle.std.specs.Option.{ForSome};
-ghost use Rattle.blk_image.specs.Image.{Image, Index as index, byte};
-ghost use Rattle.blk_image.specs.Told.{Applies, Rises, Stays};
-ghost use Rattle.blk_format.specs.Headers.{this_id_of};
+ghost use Rattle.spec_image.specs.Image.{Image, Index as index, byte};
+ghost use Rattle.spec_image.specs.Told.{Applies, Rises, Stays};
+ghost use Rattle.spec_format.specs.Headers.{this_id_of};
 ghost use Rattle.blk_io.specs.Faults.{IfDamaged, IfDevice};
 ghost use Rattle.blk_disk.specs.Open.{IsOpen};
 ghost use Rattle.blk_disk.specs.Tables.{all_files, files_of};
 ghost use Rattle.blk_alloc.specs.Extending.{KeepsStanding};
 ghost use Rattle.blk_alloc.specs.Rebuilding.{AreFitted, IsShortReadOf};
 ghost use Rattle.blk_audit.specs.Sealable.{CanBeSealed};
-ghost use Rattle.blk_repair_laws.specs.ChainRepair.{AreChainsMended, chain_repair_steps};
-ghost use Rattle.blk_repair_laws.specs.ListRepair.{HoldsTheSame};
-ghost use Rattle.blk_repair_laws.specs.Mended.{HasMendedFiles, HasOnlyKeptFiles};
-ghost use Rattle.blk_repair_laws.specs.MendedChanges.{IsMidRepair};
-ghost use Rattle.blk_repair_laws.specs.MendedLinks.{HasMendedLinks};
+ghost use Rattle.law_recovery.specs.ChainRepair.{AreChainsMended, chain_repair_steps};
+ghost use Rattle.law_recovery.specs.ListRepair.{HoldsTheSame};
+ghost use Rattle.law_recovery.specs.Mended.{HasMendedFiles, HasOnlyKeptFiles};
+ghost use Rattle.law_recovery.specs.MendedChanges.{IsMidRepair};
+ghost use Rattle.law_recovery.specs.MendedLinks.{HasMendedLinks};
 ghost use Rattle.blk_scan.specs.Scans.{ChainsStandIf, StandAmong};
 ghost use Rattle.blk_repair.specs.Damages.{IsChainsRepairDamage};
 ghost use Rattle.blk_repair.specs.Deletions.{DeletesOthers};

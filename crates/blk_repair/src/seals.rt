@@ -1,8 +1,8 @@
 // Nodes and records that are sealed.
 ghost use Rattle.std.specs.Prelude.{◌≡◌, ◌≤◌, None, OnOk, All};
 ghost use Rattle.std.specs.Option.{ForSome};
-ghost use Rattle.blk_image.specs.Image.{Image};
-ghost use Rattle.blk_image.specs.Told.{Applies, MakesPartOf, Passes, Rises};
+ghost use Rattle.spec_image.specs.Image.{Image};
+ghost use Rattle.spec_image.specs.Told.{Applies, MakesPartOf, Passes, Rises};
 ghost use Rattle.blk_io.specs.Faults.{IfDamaged, IfDevice};
 ghost use Rattle.blk_disk.specs.Open.{IsOpen};
 ghost use Rattle.blk_audit.specs.Sealable.{CanBeSealed};

@@ -1,14 +1,14 @@
 // All buckets are made the chains of their kept records.
 ghost use Rattle.std.specs.Prelude.{◌≡◌, ◌<◌, ◌≤◌, None, IfOk, OnOk, All, true, false, length};
 ghost use Rattle.std.specs.Option.{ForSome};
-ghost use Rattle.blk_image.specs.Image.{Image};
-ghost use Rattle.blk_image.specs.Told.{Applies, AppliesPrefix, Passes, Rises, Stays};
-ghost use Rattle.blk_format.specs.Headers.{HasWholeIndex, table_length};
+ghost use Rattle.spec_image.specs.Image.{Image};
+ghost use Rattle.spec_image.specs.Told.{Applies, AppliesPrefix, Passes, Rises, Stays};
+ghost use Rattle.spec_format.specs.Headers.{HasWholeIndex, table_length};
 ghost use Rattle.blk_io.specs.Faults.{IfDamaged, IfDevice};
 ghost use Rattle.blk_disk.specs.Open.{IsOpen};
 ghost use Rattle.blk_disk.specs.Tables.{is_record_among};
-ghost use Rattle.blk_repair_laws.specs.ChainRepair.{AreChainsMended, chain_repair_steps, chain_steps};
-ghost use Rattle.blk_repair_laws.specs.ListRepair.{HoldsTheSame};
+ghost use Rattle.law_recovery.specs.ChainRepair.{AreChainsMended, chain_repair_steps, chain_steps};
+ghost use Rattle.law_recovery.specs.ListRepair.{HoldsTheSame};
 ghost use Rattle.blk_index.specs.Table.{buckets_of_piece};
 ghost use Rattle.blk_audit.specs.BucketEnds.{AreEnds, records_of as records_among};
 ghost use Rattle.blk_audit.specs.Faults.{IsTableDamage};

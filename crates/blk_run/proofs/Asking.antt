@@ -2,21 +2,21 @@
 use Rattle.std.proofs.Common.{ℕ, ◌+◌, ◌≡◌, Bool, ◌||◌, true, false, List, [], ◌∷◌, ◌++◌, length, Option, None, Some, Ok, Err, Result, IfOk, OnOk, refl, sym, ◌∙◌, ap, subst, arith}
 use Rattle.std.specs.Option.{option_map, ForSome}
 use Rattle.std.proofs.lemmas.List.{append-nil, length-append}
-use Rattle.blk_image.specs.Image.{Image}
-use Rattle.blk_image.specs.Steps.{Note, after}
-use Rattle.blk_image.specs.Told.{Told}
+use Rattle.spec_image.specs.Image.{Image}
+use Rattle.spec_image.specs.Steps.{Note, after}
+use Rattle.spec_image.specs.Told.{Told}
 use Rattle.blk_io.specs.Streams.{Appends, Readings, later_of}
 use Rattle.blk_model.specs.declared.Answer.{Answer}
 use Rattle.blk_model.specs.Reply.{answer_of}
 use Rattle.blk_model.specs.Request.{Request}
 use Rattle.blk_model.specs.State.{State}
 use Rattle.blk_model.specs.Step.{step}
-use Rattle.blk_kept.specs.Commands.{ForKept, IsNoted, IsStepped, note_number}
-use Rattle.blk_headline.specs.Script.{is_refusal, is_refused, outcome_text, refusal_of}
-use Rattle.blk_headline.specs.Run.{Stamped, clock_after}
-use Rattle.blk_headline.proofs.CommandStates.{state_after-one}
-use Rattle.blk_headline.proofs.Composing.{one_more, some_after, stopped}
-use Rattle.blk_headline.proofs.InTurn.{note_exact}
+use Rattle.law_state.specs.Commands.{ForKept, IsNoted, IsStepped, note_number}
+use Rattle.spec_run.specs.Script.{is_refusal, is_refused, outcome_text, refusal_of}
+use Rattle.spec_run.specs.Run.{Stamped, clock_after}
+use Rattle.spec_run.proofs.CommandStates.{state_after-one}
+use Rattle.spec_run.proofs.Composing.{one_more, some_after, stopped}
+use Rattle.spec_run.proofs.InTurn.{note_exact}
 use Rattle.blk_cache.specs.declared.fault.StepFault.{StepFault}
 use Rattle.blk_cache.specs.declared.fault.StepFault.TheVariants as fault
 use Rattle.blk_cache.specs.Stepping.{IfDone, IfStepDamaged}

@@ -2,26 +2,26 @@
 use Rattle.std.proofs.Common.{ℕ, zero, suc, ◌+◌, ◌^◌, ◌<◌, ◌≡◌, ◌⊎◌, true, false, inl, inr, List, [], ◌∷◌, ◌++◌, length, take, Option, Some, Ok, Err, refl, sym, ◌∙◌, ap, subst, arith, append_assoc}
 use Rattle.std.specs.Option.{option_map, ForSome}
 use Rattle.std.proofs.lemmas.List.{append-nil, length-append, take-append-le}
-use Rattle.blk_image.specs.Image.{Image}
-use Rattle.blk_image.specs.Steps.{after}
-use Rattle.blk_image.specs.Told.{Told, Passes}
-use Rattle.blk_image.proofs.Runs.{passes_end, passes_weaker}
+use Rattle.spec_image.specs.Image.{Image}
+use Rattle.spec_image.specs.Steps.{after}
+use Rattle.spec_image.specs.Told.{Told, Passes}
+use Rattle.spec_image.proofs.Runs.{passes_end, passes_weaker}
 use Rattle.blk_model.specs.Holding.{open_state, rest}
 use Rattle.blk_model.specs.State.{Bounds, State}
-use Rattle.blk_volume.specs.Found.{found}
-use Rattle.blk_volume.specs.StandsFor.{StandsFor}
-use Rattle.blk_laws.proofs.states.StoodFor.{stood-found}
+use Rattle.spec_folder.specs.Found.{found}
+use Rattle.spec_folder.specs.StandsFor.{StandsFor}
+use Rattle.law_folder.proofs.states.StoodFor.{stood-found}
 use Rattle.blk_io.specs.declared.fault.Fault.{Fault}
 use Rattle.blk_io.specs.declared.fault.Fault.TheVariants as fault
 use Rattle.blk_io.specs.Streams.{Appends, Readings, later_of}
-use Rattle.blk_headline.specs.Lines.{lines, whole_lines}
-use Rattle.blk_headline.specs.Opening.{FailsToOpen, HoldsStill, IsUsable, Opens, open_mark}
-use Rattle.blk_headline.specs.Progress.{IsWholeRun, Stops}
-use Rattle.blk_headline.specs.Run.{Run, Stamped, Turn, bound_names, clock_after, closings, commands, commands_of, cut_after, refuse, run_of, state_after, text_of, turns}
-use Rattle.blk_headline.specs.Script.{Script, session_script}
-use Rattle.blk_headline.proofs.Composing.{ended, some_after}
-use Rattle.blk_headline.proofs.Openings.{begun, failed}
-use Rattle.blk_headline.proofs.Turns.{clock_after-more, commands_of-append, more_turns, text_of-append}
+use Rattle.spec_run.specs.Lines.{lines, whole_lines}
+use Rattle.spec_run.specs.Opening.{FailsToOpen, HoldsStill, IsUsable, Opens, open_mark}
+use Rattle.spec_run.specs.Progress.{IsWholeRun, Stops}
+use Rattle.spec_run.specs.Run.{Run, Stamped, Turn, bound_names, clock_after, closings, commands, commands_of, cut_after, refuse, run_of, state_after, text_of, turns}
+use Rattle.spec_run.specs.Script.{Script, session_script}
+use Rattle.spec_run.proofs.Composing.{ended, some_after}
+use Rattle.spec_run.proofs.Openings.{begun, failed}
+use Rattle.spec_run.proofs.Turns.{clock_after-more, commands_of-append, more_turns, text_of-append}
 use Rattle.blk_cache.specs.Opening.{EndsSession}
 use Rattle.blk_run.specs.declared.ending.Status.TheVariants as status
 use Rattle.blk_cache.specs.declared.fault.StepFault.TheVariants as step_fault

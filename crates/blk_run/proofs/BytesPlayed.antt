@@ -3,12 +3,12 @@ use Rattle.std.proofs.Common.{ℕ, ◌+◌, ◌<◌, ◌≤◌, ◌≡◌, List,
 use Rattle.std.specs.List.{position}
 use Rattle.std.proofs.lemmas.List.{length-append, length-drop, length-take-le}
 use Rattle.std.proofs.lemmas.List.Quantifiers.{position-Some}
-use Rattle.blk_image.specs.Image.{Image}
+use Rattle.spec_image.specs.Image.{Image}
 use Rattle.blk_io.specs.Streams.{Readings}
 use Rattle.blk_model.specs.State.{State}
-use Rattle.blk_headline.specs.Lines.{Cut, with_bytes}
-use Rattle.blk_headline.specs.Script.{session_script}
-use Rattle.blk_headline.specs.Run.{Turn, turns}
+use Rattle.spec_run.specs.Lines.{Cut, with_bytes}
+use Rattle.spec_run.specs.Script.{session_script}
+use Rattle.spec_run.specs.Run.{Turn, turns}
 use Rattle.blk_cache.specs.declared.fault.StepFault.{StepFault}
 use Rattle.blk_run.specs.declared.line.Line.{Line}
 use Rattle.blk_run.specs.Pending.{Holds}

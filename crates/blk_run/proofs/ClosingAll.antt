@@ -9,8 +9,8 @@ use Rattle.std.specs.Option.{option_map, ForSome}
 use Rattle.std.proofs.lemmas.List.{append-nil, length-append}
 use Rattle.std.proofs.lemmas.List.Quantifiers.{position-Some}
 use Rattle.std.proofs.lemmas.List.Sums.{fails_before_first, sum_by-set}
-use Rattle.blk_image.specs.Image.{Image}
-use Rattle.blk_image.specs.Told.{Told}
+use Rattle.spec_image.specs.Image.{Image}
+use Rattle.spec_image.specs.Told.{Told}
 use Rattle.blk_io.specs.Streams.{Readings, reading_of, later_of}
 use Rattle.blk_io.specs.Faults.{IfDamaged}
 use Rattle.blk_io.specs.declared.fault.Fault.{Fault}
@@ -19,16 +19,16 @@ use Rattle.blk_model.specs.Sizes.{handle_names}
 use Rattle.blk_model.specs.State.{IsValidState, State, named_by}
 use Rattle.blk_model.specs.Request.{to_close}
 use Rattle.blk_model.specs.Step.{step}
-use Rattle.blk_kept.specs.Commands.{ForKept, IsNoted, IsStepped, note_number}
-use Rattle.blk_headline.specs.Run.{Stamped, bound_names, clock_after, closings, stamped_by, state_after, state_then}
-use Rattle.blk_headline.specs.Progress.{Stops}
-use Rattle.blk_headline.proofs.Closing.{few_names, least_closed, least_of_slots, none_closed, none_of_slots}
-use Rattle.blk_headline.proofs.CommandStates.{state_after-one}
-use Rattle.blk_headline.proofs.Composing.{stopped}
+use Rattle.law_state.specs.Commands.{ForKept, IsNoted, IsStepped, note_number}
+use Rattle.spec_run.specs.Run.{Stamped, bound_names, clock_after, closings, stamped_by, state_after, state_then}
+use Rattle.spec_run.specs.Progress.{Stops}
+use Rattle.spec_run.proofs.Closing.{few_names, least_closed, least_of_slots, none_closed, none_of_slots}
+use Rattle.spec_run.proofs.CommandStates.{state_after-one}
+use Rattle.spec_run.proofs.Composing.{stopped}
 use Rattle.blk_run.specs.Playing.{SoFar, StandsAt, state_now, with_more}
 use Rattle.blk_run.specs.Closings.{Closes, ClosesAll}
 use Rattle.blk_run.proofs.Parts.{handed_on, stands_fewer, stands_joined, stands_none}
-use Rattle.blk_headline.proofs.Turns.{clock_after-more}
+use Rattle.spec_run.proofs.Turns.{clock_after-more}
 use Rattle.blk_run.proofs.RunLaws.{read_twice}
 use Rattle.blk_run.proofs.Asking.{next_note, stands_after}
 

@@ -2,13 +2,13 @@
 use Rattle.std.proofs.Common.{ℕ, ◌≤◌, ◌≡◌, List, ◌∷◌, ◌++◌, length, Option, refl, ◌∙◌, ap, arith}
 use Rattle.std.specs.Option.{option_map}
 use Rattle.std.proofs.lemmas.List.{length-append}
-use Rattle.blk_image.specs.Image.{Image}
+use Rattle.spec_image.specs.Image.{Image}
 use Rattle.blk_model.specs.State.{Bounds}
-use Rattle.blk_volume.specs.Found.{found}
+use Rattle.spec_folder.specs.Found.{found}
 use Rattle.blk_io.specs.Streams.{Readings}
-use Rattle.blk_headline.specs.Lines.{lines}
-use Rattle.blk_headline.specs.Run.{Run, run_of, text_of}
-use Rattle.blk_headline.specs.Script.{Script}
+use Rattle.spec_run.specs.Lines.{lines}
+use Rattle.spec_run.specs.Run.{Run, run_of, text_of}
+use Rattle.spec_run.specs.Script.{Script}
 use Rattle.blk_run.specs.declared.ending.Status.{Status}
 use Rattle.blk_run.specs.declared.ending.Status.TheVariants as status
 use Rattle.blk_run.specs.Inputs.{IsPastBudget}

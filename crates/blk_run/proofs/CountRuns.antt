@@ -3,15 +3,15 @@ use Rattle.std.proofs.Common.{ℕ, ◌+◌, ◌*◌, ◌≡◌, true, false, Lis
 use Rattle.std.specs.Prelude.{is_some, position, slice_index_or}
 use Rattle.std.specs.Option.{option_map, ForSome}
 use Rattle.std.proofs.lemmas.List.Quantifiers.{position-Some}
-use Rattle.blk_image.specs.Image.{Image}
-use Rattle.blk_image.specs.Told.{Passes, Told}
+use Rattle.spec_image.specs.Image.{Image}
+use Rattle.spec_image.specs.Told.{Passes, Told}
 use Rattle.blk_io.specs.Streams.{Appends, Readings, later_of}
 use Rattle.blk_model.specs.Holding.{open_state}
 use Rattle.blk_model.specs.Sizes.{handle_names}
 use Rattle.blk_model.specs.State.{Bounds, State}
-use Rattle.blk_volume.specs.Found.{found}
-use Rattle.blk_headline.specs.Script.{count_script, totals_line, totals_text}
-use Rattle.blk_headline.specs.Run.{turns}
+use Rattle.spec_folder.specs.Found.{found}
+use Rattle.spec_run.specs.Script.{count_script, totals_line, totals_text}
+use Rattle.spec_run.specs.Run.{turns}
 use Rattle.blk_cache.specs.declared.cache.Cache.{Cache}
 use Rattle.blk_cache.specs.declared.fault.StepFault.{StepFault}
 use Rattle.blk_cache.specs.declared.fault.StepFault.TheVariants as fault

@@ -2,13 +2,13 @@
 use Rattle.std.proofs.Common.{◌≡◌, ℕ, List, [], ◌++◌, Option, None, Some, Err, refl, sym, ◌∙◌, ap, subst, arith, lit≤}
 use Rattle.std.specs.Option.{ForSome, option_map}
 use Rattle.std.proofs.lemmas.List.{append-nil}
-use Rattle.blk_image.specs.Bytes.{word_bytes}
-use Rattle.blk_image.specs.Image.{Image, Index, byte, word}
-use Rattle.blk_image.specs.Steps.{after, word_step}
-use Rattle.blk_image.specs.Told.{Told, Applies, Passes, PassesTo}
-use Rattle.blk_image.proofs.Images.{word-after_other}
-use Rattle.blk_image.proofs.Runs.{passes_end, passes_then, passes_weaker, some_inj, told_whole}
-use Rattle.blk_format.specs.Headers.{this_id_of}
+use Rattle.spec_image.specs.Bytes.{word_bytes}
+use Rattle.spec_image.specs.Image.{Image, Index, byte, word}
+use Rattle.spec_image.specs.Steps.{after, word_step}
+use Rattle.spec_image.specs.Told.{Told, Applies, Passes, PassesTo}
+use Rattle.spec_image.proofs.Images.{word-after_other}
+use Rattle.spec_image.proofs.Runs.{passes_end, passes_then, passes_weaker, some_inj, told_whole}
+use Rattle.spec_format.specs.Headers.{this_id_of}
 use Rattle.blk_io.specs.Streams.{Appends}
 use Rattle.blk_cache.specs.declared.cache.Cache.{Cache}
 use Rattle.blk_cache.specs.CacheKeeping.{KeepsState}
@@ -21,7 +21,7 @@ use Rattle.blk_cache.specs.Opening.{EndsSession, HoldsStill, IfOpenDamaged, open
 use Rattle.blk_cache.proofs.Ends.{kept-open}
 use Rattle.blk_disk.specs.Open.{IsOpen}
 use Rattle.blk_model.specs.State.{Bounds, State}
-use Rattle.blk_headline.specs.Script.{totals_line}
+use Rattle.spec_run.specs.Script.{totals_line}
 use Rattle.blk_run.specs.declared.ending.Status.{Status}
 use Rattle.blk_run.specs.Count.{AreTotalsOf, EndsSame, IsDamaged, PrintsAt, ShowsTotals, opened_on}
 

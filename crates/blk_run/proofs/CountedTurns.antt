@@ -2,8 +2,8 @@
 use Rattle.std.proofs.Common.{◌≡◌, ℕ, ◌+◌, ◌<◌, ◌≤◌, ◌^◌, Bool, true, false, if◌then◌else◌, List, [], ◌∷◌, Option, None, Result, Ok, Err, refl, sym, ap, subst, ◌∙◌, arith}
 use Rattle.std.specs.Option.{ForSome}
 use Rattle.std.specs.Prelude.{IsErrAnd}
-use Rattle.blk_image.specs.Image.{Image}
-use Rattle.blk_image.specs.Told.{Told}
+use Rattle.spec_image.specs.Image.{Image}
+use Rattle.spec_image.specs.Told.{Told}
 use Rattle.blk_io.specs.Streams.{Readings, reading_of, later_of}
 use Rattle.blk_model.specs.declared.Answer.{Answer}
 use Rattle.blk_model.specs.Reply.{answer_of}
@@ -12,9 +12,9 @@ use Rattle.blk_model.specs.Room.{items}
 use Rattle.blk_model.specs.Sizes.{most_items}
 use Rattle.blk_model.specs.State.{State}
 use Rattle.blk_model.specs.Step.{Outcome}
-use Rattle.blk_headline.specs.Run.{Stamped, commands_of, outcome_in, stamped_by, state_after, turns}
-use Rattle.blk_headline.specs.Script.{Script, is_missing, is_missing_refusal, is_refused, refusal_of}
-use Rattle.blk_headline.proofs.CommandStates.{state_after-append, state_after-one}
+use Rattle.spec_run.specs.Run.{Stamped, commands_of, outcome_in, stamped_by, state_after, turns}
+use Rattle.spec_run.specs.Script.{Script, is_missing, is_missing_refusal, is_refused, refusal_of}
+use Rattle.spec_run.proofs.CommandStates.{state_after-append, state_after-one}
 use Rattle.blk_gen.specs.declared.counting.Counts.{Counts}
 use Rattle.blk_gen.specs.Counting.{AreLong, bytes_read, evicted_items, refusals_in, with_answer, with_outcome}
 use Rattle.blk_gen.specs.Generator.{asks_counted}

@@ -8,7 +8,7 @@ use Rattle.std.proofs.lemmas.Bool.{ltb-false}
 use Rattle.std.proofs.Common.{ℕ, zero, suc, get_or, ◌+◌, ◌<◌, ◌≤◌, ◌≡◌, ◌==◌, cond, Bool, true, false, List, [], ◌∷◌, ◌++◌, length, take, drop, Option, None, Some, refl, sym, ◌∙◌, ap, arith, append_assoc}
 use Rattle.std.proofs.lemmas.List.{append-nil, length-append}
 use Rattle.blk_run.specs.Playing.{cut_behind}
-use Rattle.blk_headline.specs.Lines.{Cut, with_byte, with_bytes}
+use Rattle.spec_run.specs.Lines.{Cut, with_byte, with_bytes}
 
 -- these lines and this rest
 abbrev pub cut_as : List (List ℕ) → List ℕ → Cut

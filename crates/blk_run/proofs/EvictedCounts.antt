@@ -17,7 +17,7 @@ use Rattle.blk_model.specs.Step.{Outcome, outcome, reply, step}
 use Rattle.blk_model.proofs.Evicted.{state_without}
 use Rattle.blk_model.proofs.States.{Named, named_object}
 use Rattle.blk_model.proofs.Steps.{none_comes, room_for_is_loose}
-use Rattle.blk_kept.proofs.CommandEnding.{groups-turn}
+use Rattle.law_state.proofs.CommandEnding.{groups-turn}
 use Rattle.blk_items.specs.RoomLaws.{IsLessBy, IsLastUnpinned, group_for}
 use Rattle.blk_items.proofs.RoomCounts.{counted-less}
 use Rattle.blk_items.proofs.RoomGroups.{last-goes, last-next, loose-for, nothing-more, without-none}

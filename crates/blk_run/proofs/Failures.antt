@@ -1,7 +1,7 @@
 -- A check that fails is handed on.
 use Rattle.std.proofs.Common.{ℕ, inr, List, Option, Result, Ok, Err}
 use Rattle.std.specs.Option.{ForSome}
-use Rattle.blk_image.specs.Told.{Told}
+use Rattle.spec_image.specs.Told.{Told}
 use Rattle.blk_io.proofs.Carried.{untold_where}
 use Rattle.blk_disk.specs.declared.tables.BlockFiles.{BlockFiles}
 use Rattle.blk_object.specs.FailedChecks.{IsFailedCheck}

@@ -3,15 +3,15 @@ use Rattle.std.proofs.Common.{ℕ, ◌+◌, ◌<◌, ◌≤◌, ◌≡◌, Bool,
 use Rattle.std.specs.Option.{option_map, ForSome}
 use Rattle.std.specs.Prelude.{IsErrAnd}
 use Rattle.std.proofs.lemmas.List.{append-nil, drop_all, length-append}
-use Rattle.blk_image.specs.Image.{Image}
-use Rattle.blk_image.specs.Told.{Told}
+use Rattle.spec_image.specs.Image.{Image}
+use Rattle.spec_image.specs.Told.{Told}
 use Rattle.blk_io.specs.Streams.{Readings, reading_of, later_of}
 use Rattle.blk_model.specs.declared.Answer.{Answer}
 use Rattle.blk_model.specs.declared.Command.{Command}
 use Rattle.blk_model.specs.Request.{Request, request_of}
 use Rattle.blk_model.specs.State.{State}
-use Rattle.blk_headline.specs.Script.{Script, ended, until_refused, is_refused}
-use Rattle.blk_headline.specs.Run.{Stamped, Turn, clock_after, commands_of, outcome_in, stamped_by, state_after, turns}
+use Rattle.spec_run.specs.Script.{Script, ended, until_refused, is_refused}
+use Rattle.spec_run.specs.Run.{Stamped, Turn, clock_after, commands_of, outcome_in, stamped_by, state_after, turns}
 use Rattle.blk_cache.specs.declared.fault.StepFault.{StepFault}
 use Rattle.blk_cache.specs.declared.fault.StepFault.TheVariants as fault
 use Rattle.blk_run.specs.Fixed.{GoOn, PlaysUpTo}
@@ -19,8 +19,8 @@ use Rattle.blk_run.specs.Playing.{SoFar, StandsAt, Around, AreMade, Asks, Plays,
 use Rattle.blk_run.proofs.Asking.{around}
 use Rattle.blk_run.proofs.Parts.{made_then, made_then_to, made_then_stopped, made_to_only, stopped_only, stands_none}
 use Rattle.blk_run.proofs.RunLaws.{or_none}
-use Rattle.blk_headline.proofs.CommandStates.{state_after-append}
-use Rattle.blk_headline.proofs.Turns.{clock_after-more, commands_of-append}
+use Rattle.spec_run.proofs.CommandStates.{state_after-append}
+use Rattle.spec_run.proofs.Turns.{clock_after-more, commands_of-append}
 use Rattle.blk_run.proofs.Printed.{printed_none}
 
 -- no turn was made

@@ -2,12 +2,12 @@
 use Rattle.std.proofs.Common.{◌≡◌, ℕ, suc, ◌+◌, ◌-◌, ◌*◌, ◌<◌, ◌≤◌, Bool, List, ◌++◌, length, Option, Result, Ok, Err, OnOk, sym, ap, subst, ◌∙◌, arith}
 use Rattle.std.specs.Option.{option_map}
 use Rattle.std.specs.Prelude.{IsErrAnd}
-use Rattle.blk_image.specs.Image.{Image}
-use Rattle.blk_image.specs.Told.{Told}
+use Rattle.spec_image.specs.Image.{Image}
+use Rattle.spec_image.specs.Told.{Told}
 use Rattle.blk_io.specs.Streams.{Appends, Readings}
 use Rattle.blk_model.specs.State.{State}
-use Rattle.blk_headline.specs.Run.{Turn as Turned, clock_after, commands_of, turns}
-use Rattle.blk_headline.specs.Script.{Script, ended, says, totals_line}
+use Rattle.spec_run.specs.Run.{Turn as Turned, clock_after, commands_of, turns}
+use Rattle.spec_run.specs.Script.{Script, ended, says, totals_line}
 use Rattle.blk_gen.specs.declared.counting.Counts.{Counts}
 use Rattle.blk_gen.specs.declared.drawing.Turn.{Turn}
 use Rattle.blk_gen.specs.Counting.{counts_line, no_counts}

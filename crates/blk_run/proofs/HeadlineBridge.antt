@@ -5,27 +5,27 @@ use Rattle.std.specs.List.{position}
 use Rattle.std.specs.Str.{bytes_eq}
 use Rattle.std.proofs.lemmas.Bool.{eqb-true}
 use Rattle.std.proofs.lemmas.List.Elements.{All-head, All-tail}
-use Rattle.blk_image.specs.Bytes.{word_bytes}
-use Rattle.blk_image.specs.Image.{Image, Index, same_file}
-use Rattle.blk_image.specs.Steps.{TrailStep, Word, SetLength, Delete, Note, word_step}
-use Rattle.blk_image.specs.Told.{Along, Told}
-use Rattle.blk_image.proofs.Runs.{until_weaker2}
+use Rattle.spec_image.specs.Bytes.{word_bytes}
+use Rattle.spec_image.specs.Image.{Image, Index, same_file}
+use Rattle.spec_image.specs.Steps.{TrailStep, Word, SetLength, Delete, Note, word_step}
+use Rattle.spec_image.specs.Told.{Along, Told}
+use Rattle.spec_image.proofs.Runs.{until_weaker2}
 use Rattle.blk_model.proofs.Same.{same_bytes}
 use Rattle.blk_model.specs.Holding.{open_state}
 use Rattle.blk_model.specs.State.{Bounds, State, named_by}
-use Rattle.blk_volume.specs.Found.{found}
-use Rattle.blk_volume.specs.Layout.{Layout}
-use Rattle.blk_volume.specs.StandsFor.{StandsFor}
-use Rattle.blk_kept.proofs.Keeping.{kept-stands}
+use Rattle.spec_folder.specs.Found.{found}
+use Rattle.spec_folder.specs.Layout.{Layout}
+use Rattle.spec_folder.specs.StandsFor.{StandsFor}
+use Rattle.law_state.proofs.Keeping.{kept-stands}
 use Rattle.blk_handles.specs.Bindings.{Binding, binding_of}
 use Rattle.blk_repair.specs.Counters.{is_in_crash_word, writes_crash_word}
 use Rattle.blk_cache.specs.declared.cache.Cache.{Cache}
 use Rattle.blk_cache.specs.CacheKeeping.{IsBoundAs, KeepsState}
 use Rattle.blk_cache.specs.Opening as opening
-use Rattle.blk_headline.specs.Opening.{FailsToOpen, HoldsStill, Opens, has_opened, marks_open, open_mark}
-use Rattle.blk_headline.specs.Run.{bound_names}
-use Rattle.blk_headline.specs.Laws.{IsLeastBound}
-use Rattle.blk_headline.proofs.Closing.{least_of_slots, none_closed, none_of_slots}
+use Rattle.spec_run.specs.Opening.{FailsToOpen, HoldsStill, Opens, has_opened, marks_open, open_mark}
+use Rattle.spec_run.specs.Run.{bound_names}
+use Rattle.spec_run.specs.Laws.{IsLeastBound}
+use Rattle.spec_run.proofs.Closing.{least_of_slots, none_closed, none_of_slots}
 
 -- The opening.
 

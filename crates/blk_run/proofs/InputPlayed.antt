@@ -3,11 +3,11 @@ use Rattle.std.proofs.Common.{ℕ, get_or, ◌+◌, ◌-◌, ◌<◌, ◌≤◌,
 use Rattle.std.specs.Option.{option_map, ForSome}
 use Rattle.std.specs.Prelude.{IsErrAnd}
 use Rattle.std.proofs.lemmas.List.{append-nil, length-append, length-take-le, take-append-drop, take-take, take_more}
-use Rattle.blk_image.specs.Image.{Image}
+use Rattle.spec_image.specs.Image.{Image}
 use Rattle.blk_model.specs.State.{State}
-use Rattle.blk_headline.specs.Lines.{Cut, cut, lines, nothing_cut, open_line, whole_lines, with_bytes}
-use Rattle.blk_headline.specs.Script.{session_script}
-use Rattle.blk_headline.specs.Run.{Turn, turns}
+use Rattle.spec_run.specs.Lines.{Cut, cut, lines, nothing_cut, open_line, whole_lines, with_bytes}
+use Rattle.spec_run.specs.Script.{session_script}
+use Rattle.spec_run.specs.Run.{Turn, turns}
 use Rattle.blk_cache.specs.declared.fault.StepFault.{StepFault}
 use Rattle.blk_cache.specs.declared.fault.StepFault.TheVariants as fault
 use Rattle.blk_run.specs.declared.input.InputEnd.{InputEnd}

@@ -5,8 +5,8 @@ use Rattle.blk_script.specs.Line.{by_fields}
 use Rattle.blk_script.specs.Fields.{line_fields}
 use Rattle.std.specs.Option.{option_map, ForSome}
 use Rattle.std.proofs.lemmas.List.{append-nil}
-use Rattle.blk_image.specs.Image.{Image}
-use Rattle.blk_image.specs.Told.{Told}
+use Rattle.spec_image.specs.Image.{Image}
+use Rattle.spec_image.specs.Told.{Told}
 use Rattle.blk_io.specs.Streams.{Appends, Readings, reading_of}
 use Rattle.blk_model.specs.declared.Answer.{Answer}
 use Rattle.blk_model.specs.Request.{Request}
@@ -15,8 +15,8 @@ use Rattle.blk_script.specs.declared.fault.LineFault.{LineFault}
 use Rattle.blk_script.specs.declared.fault.LineFault.TheVariants as line_fault
 use Rattle.blk_script.specs.Line.{read_text}
 use Rattle.blk_script.specs.Reply.{line_fault_text}
-use Rattle.blk_headline.specs.Script.{ended, line_script, session_script}
-use Rattle.blk_headline.specs.Run.{Turn, error_turn, turns, clock_after}
+use Rattle.spec_run.specs.Script.{ended, line_script, session_script}
+use Rattle.spec_run.specs.Run.{Turn, error_turn, turns, clock_after}
 use Rattle.blk_cache.specs.declared.fault.StepFault.{StepFault}
 use Rattle.blk_cache.specs.declared.fault.StepFault.TheVariants as fault
 use Rattle.blk_run.specs.Errors.{IsOnlySink}

@@ -5,18 +5,18 @@ use Rattle.std.proofs.lemmas.Result.{err_from_is_err_and}
 use Rattle.std.specs.Option.{option_map, ForSome}
 use Rattle.std.proofs.Math.Seq.{take-append-add}
 use Rattle.std.proofs.lemmas.List.{append-nil, length-append, take-append-le}
-use Rattle.blk_image.specs.Image.{Image}
-use Rattle.blk_image.specs.Told.{Told}
+use Rattle.spec_image.specs.Image.{Image}
+use Rattle.spec_image.specs.Told.{Told}
 use Rattle.blk_io.specs.Streams.{Appends, Readings}
 use Rattle.blk_model.specs.State.{State}
-use Rattle.blk_headline.specs.Run.{Stamped, Turn, commands_of, text_of, refuse, state_after, clock_after}
-use Rattle.blk_headline.specs.Progress.{Stops}
+use Rattle.spec_run.specs.Run.{Stamped, Turn, commands_of, text_of, refuse, state_after, clock_after}
+use Rattle.spec_run.specs.Progress.{Stops}
 use Rattle.blk_cache.specs.declared.fault.StepFault.{StepFault}
 use Rattle.blk_cache.specs.declared.fault.StepFault.TheVariants as fault
 use Rattle.blk_run.specs.Playing.{SoFar, StandsAt, Around, AreMade, AreMadeTo, AreStopped, Plays, PlaysPart, state_now, with_more}
 use Rattle.blk_run.proofs.Printed.{then_more, then_part, part_of, printed_none}
-use Rattle.blk_headline.proofs.CommandStates.{state_after-append}
-use Rattle.blk_headline.proofs.Turns.{commands_of-append, refuse-append, text_of-append}
+use Rattle.spec_run.proofs.CommandStates.{state_after-append}
+use Rattle.spec_run.proofs.Turns.{commands_of-append, refuse-append, text_of-append}
 use Rattle.blk_run.proofs.RunLaws.{or_assoc, or_none, read_twice}
 
 -- a run stands so far, whatever list of the same commands is given

@@ -2,13 +2,13 @@
 use Rattle.std.proofs.Common.{ℕ, ◌+◌, ◌<◌, ◌≤◌, ◌≡◌, inr, inl, List, [], ◌∷◌, ◌++◌, length, take, Option, Result, Ok, refl, sym, ◌∙◌, ap, subst, arith, append_assoc}
 use Rattle.std.specs.Option.{ForSome}
 use Rattle.std.proofs.lemmas.List.{append-nil, length-append, length-take}
-use Rattle.blk_image.specs.Checks.{Damage}
-use Rattle.blk_image.specs.Image.{Image}
-use Rattle.blk_image.specs.Told.{Rises}
+use Rattle.spec_image.specs.Checks.{Damage}
+use Rattle.spec_image.specs.Image.{Image}
+use Rattle.spec_image.specs.Told.{Rises}
 use Rattle.blk_io.specs.Streams.{Readings}
 use Rattle.blk_model.specs.State.{Bounds}
-use Rattle.blk_headline.specs.Opening.{IsUsable}
-use Rattle.blk_headline.specs.Script.{Script}
+use Rattle.spec_run.specs.Opening.{IsUsable}
+use Rattle.spec_run.specs.Script.{Script}
 use Rattle.blk_run.specs.declared.ending.Status.{Status}
 use Rattle.blk_run.specs.declared.ending.Status.TheVariants as status
 use Rattle.blk_run.specs.Failing.{IsDamagedRun}

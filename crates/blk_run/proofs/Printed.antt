@@ -8,7 +8,7 @@ use Rattle.std.specs.Option.{option_map}
 use Rattle.std.proofs.lemmas.Grind.{flat_map-append}
 use Rattle.std.proofs.lemmas.List.{take_all, take_more, append-nil, length-drop}
 use Rattle.hex.specs.Hex.{encode_lower}
-use Rattle.blk_image.specs.Told.{Rises}
+use Rattle.spec_image.specs.Told.{Rises}
 use Rattle.blk_io.specs.Streams.{Appends}
 use Rattle.blk_io.specs.declared.folder.FileId.{FileId}
 use Rattle.blk_io.specs.declared.folder.FileId.TheVariants as names

@@ -3,8 +3,8 @@ use Rattle.std.proofs.Common.{ℕ, ◌≡◌, Bool, ◌||◌, true, false, not, 
 use Rattle.std.specs.Option.{option_map, ForSome}
 use Rattle.std.specs.Prelude.{IsErrAnd}
 use Rattle.std.proofs.lemmas.List.{append-nil}
-use Rattle.blk_image.specs.Image.{Image}
-use Rattle.blk_image.specs.Told.{Told}
+use Rattle.spec_image.specs.Image.{Image}
+use Rattle.spec_image.specs.Told.{Told}
 use Rattle.blk_io.specs.Streams.{Appends, Readings, reading_of, later_of}
 use Rattle.blk_model.specs.declared.Answer.{Answer}
 use Rattle.blk_model.specs.declared.Refusal.{Refusal}
@@ -14,8 +14,8 @@ use Rattle.blk_model.specs.Request.{Request, to_close, to_create, to_open, to_wr
 use Rattle.blk_model.specs.State.{State}
 use Rattle.blk_model.specs.Step.{Outcome, outcome, reply, step}
 use Rattle.blk_script.specs.Reply.{reply_text}
-use Rattle.blk_headline.specs.Script.{Script, ended, is_missing, is_missing_refusal, is_refused, outcome_text, put_after, put_script, refusal_of, until_refused}
-use Rattle.blk_headline.specs.Run.{Stamped, Turn, clock_after, command_turn, commands_of, outcome_in, refuse, state_after, text_of, turns}
+use Rattle.spec_run.specs.Script.{Script, ended, is_missing, is_missing_refusal, is_refused, outcome_text, put_after, put_script, refusal_of, until_refused}
+use Rattle.spec_run.specs.Run.{Stamped, Turn, clock_after, command_turn, commands_of, outcome_in, refuse, state_after, text_of, turns}
 use Rattle.blk_cache.specs.declared.fault.StepFault.{StepFault}
 use Rattle.blk_cache.specs.declared.fault.StepFault.TheVariants as fault
 use Rattle.blk_run.specs.Fixed.{GoOn, PlaysUpTo, opened_answer}
@@ -25,7 +25,7 @@ use Rattle.blk_run.specs.Playing.{SoFar, AreMade, AreMadeTo, Asks, Plays, PlaysP
 use Rattle.blk_run.proofs.Asking.{around}
 use Rattle.blk_run.proofs.FixedTurns.{fault_is, first_fault, no_more}
 use Rattle.blk_run.proofs.RunLaws.{or_none}
-use Rattle.blk_headline.proofs.CommandStates.{state_after-append}
+use Rattle.spec_run.proofs.CommandStates.{state_after-append}
 use Rattle.blk_run.proofs.Printed.{printed_none}
 
 -- What an Open prints.

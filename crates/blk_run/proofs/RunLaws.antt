@@ -3,9 +3,9 @@ use Rattle.std.proofs.Common.{ℕ, ◌+◌, ◌≡◌, Bool, ◌||◌, true, fal
 use Rattle.std.specs.Option.{option_map}
 use Rattle.blk_model.specs.State.{State}
 use Rattle.blk_io.specs.Streams.{Readings}
-use Rattle.blk_headline.specs.Script.{session_script}
-use Rattle.blk_headline.specs.Run.{commands_of, state_after, clock_after, turns}
-use Rattle.blk_headline.proofs.Turns.{clock_after-more, more_turns}
+use Rattle.spec_run.specs.Script.{session_script}
+use Rattle.spec_run.specs.Run.{commands_of, state_after, clock_after, turns}
+use Rattle.spec_run.proofs.Turns.{clock_after-more, more_turns}
 
 pub or_assoc : (a b c : Bool) → ((a || b) || c) ≡ (a || (b || c))
 or_assoc true b c = refl

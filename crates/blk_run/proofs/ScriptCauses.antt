@@ -1,11 +1,11 @@
 -- The cause of how a fixed script ended, and that a folder that tells its files gives no damage.
 use Rattle.std.proofs.Common.{ℕ, ◌≤◌, ◌≡◌, ◌≢◌, ◌⊎◌, inl, inr, Bool, true, false, List, Result, Ok, Err, sym, ◌∙◌, subst, arith}
 use Rattle.std.specs.Prelude.{if◌then◌else◌}
-use Rattle.blk_image.specs.Image.{Image}
-use Rattle.blk_image.specs.Told.{Rises}
+use Rattle.spec_image.specs.Image.{Image}
+use Rattle.spec_image.specs.Told.{Rises}
 use Rattle.blk_io.specs.Streams.{Readings}
 use Rattle.blk_model.specs.State.{State}
-use Rattle.blk_headline.specs.Run.{Turn}
+use Rattle.spec_run.specs.Run.{Turn}
 use Rattle.blk_cache.specs.declared.fault.StepFault.{StepFault}
 use Rattle.blk_cache.specs.declared.fault.StepFault.TheVariants as step_fault
 use Rattle.blk_cache.specs.Stepping.{IfDone, IfSink, IfStepDamaged, IfStepDevice}

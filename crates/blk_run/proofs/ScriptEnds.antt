@@ -2,15 +2,15 @@
 use Rattle.std.proofs.Common.{ℕ, ◌*◌, ◌≡◌, inl, Bool, true, false, Option, Some, Result, Ok, Err, refl}
 use Rattle.std.specs.Prelude.{if◌then◌else◌}
 use Rattle.std.specs.Option.{option_map}
-use Rattle.blk_image.specs.Image.{Image}
-use Rattle.blk_image.specs.Told.{Told}
+use Rattle.spec_image.specs.Image.{Image}
+use Rattle.spec_image.specs.Told.{Told}
 use Rattle.blk_io.specs.declared.fault.Fault.{Fault}
 use Rattle.blk_io.specs.declared.fault.Fault.TheVariants as fault
 use Rattle.blk_io.specs.Streams.{Readings, later_of}
 use Rattle.blk_model.specs.Sizes.{handle_names}
 use Rattle.blk_model.specs.State.{Bounds, State}
-use Rattle.blk_headline.specs.Run.{turns}
-use Rattle.blk_headline.specs.Script.{Script}
+use Rattle.spec_run.specs.Run.{turns}
+use Rattle.spec_run.specs.Script.{Script}
 use Rattle.blk_cache.specs.declared.fault.StepFault.{StepFault}
 use Rattle.blk_cache.specs.declared.fault.StepFault.TheVariants as step_fault
 use Rattle.blk_run.specs.declared.ending.Status.{Status}

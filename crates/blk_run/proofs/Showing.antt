@@ -1,14 +1,14 @@
 -- A text of what a folder holds is shown, by what an inspection says.
 use Rattle.std.proofs.Common.{ℕ, ◌≤◌, ◌≡◌, inl, inr, List, ◌++◌, Option, None, Some, Result, Ok, Err, refl, sym, ◌∙◌, ap, subst}
 use Rattle.std.specs.Option.{ForSome, option_map}
-use Rattle.blk_image.specs.Checks as checks
-use Rattle.blk_image.specs.Image.{Image}
-use Rattle.blk_image.specs.Told.{Rises, Stays, Told}
+use Rattle.spec_image.specs.Checks as checks
+use Rattle.spec_image.specs.Image.{Image}
+use Rattle.spec_image.specs.Told.{Rises, Stays, Told}
 use Rattle.blk_io.specs.declared.fault.Damage.{Damage}
 use Rattle.blk_io.specs.Faults.{damage_of}
 use Rattle.blk_io.specs.Streams.{Appends, Readings}
 use Rattle.blk_model.specs.State.{Bounds}
-use Rattle.blk_headline.specs.Opening.{IsUsable}
+use Rattle.spec_run.specs.Opening.{IsUsable}
 use Rattle.blk_inspect.specs.declared.fault.InspectFault.{InspectFault}
 use Rattle.blk_inspect.specs.declared.fault.InspectFault.TheVariants as fault
 use Rattle.blk_inspect.specs.Inspecting.{AnswersFor, IfInspectDamaged, IfInspectDevice, IfInspectSink, IsDamagedFirst, IsInspectDamage, PrintsAt, UnlessSink}

@@ -1,8 +1,8 @@
 -- A run that finds no memory for its words does nothing.
 use Rattle.std.proofs.Common.{◌≡◌, ℕ, List, [], Option, Some, option_map, inl, inr, refl, sym, ◌∙◌, ap, subst, arith}
-use Rattle.blk_image.specs.Image.{Image}
-use Rattle.blk_image.specs.Told.{Told}
-use Rattle.blk_image.proofs.Runs.{passes_none}
+use Rattle.spec_image.specs.Image.{Image}
+use Rattle.spec_image.specs.Told.{Told}
+use Rattle.spec_image.proofs.Runs.{passes_none}
 use Rattle.blk_io.specs.Streams.{later_of}
 use Rattle.blk_model.specs.State.{Bounds}
 use Rattle.blk_cache.specs.Opening.{HoldsStill}

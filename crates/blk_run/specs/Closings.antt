@@ -2,14 +2,14 @@
 use Rattle.std.specs.Prelude.{ℕ, ◌≡◌, List, ◌++◌, length, Result, Ok, Err}
 use Rattle.std.specs.Option.{option_map, ForSome}
 use Rattle.std.specs.declared.option.Option.{Option}
-use Rattle.blk_image.specs.Image.{Image}
-use Rattle.blk_image.specs.Told.{Told}
+use Rattle.spec_image.specs.Image.{Image}
+use Rattle.spec_image.specs.Told.{Told}
 use Rattle.blk_io.specs.Streams.{Readings}
 use Rattle.blk_io.specs.declared.fault.Fault.{Fault}
 use Rattle.blk_io.specs.declared.fault.Fault.TheVariants as fault
 use Rattle.blk_model.specs.State.{State}
-use Rattle.blk_headline.specs.Run.{Stamped, bound_names, clock_after, closings}
-use Rattle.blk_headline.specs.Progress.{Stops}
+use Rattle.spec_run.specs.Run.{Stamped, bound_names, clock_after, closings}
+use Rattle.spec_run.specs.Progress.{Stops}
 use Rattle.blk_run.specs.Playing.{SoFar, StandsAt, state_now, with_more}
 
 -- commands were done behind those of a run, each at the next reading

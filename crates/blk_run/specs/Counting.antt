@@ -1,9 +1,9 @@
 -- The word `count`, whole.
 use Rattle.std.specs.Prelude.{◌≡◌, ◌≢◌, ◌⊎◌, ℕ, None}
 use Rattle.std.specs.Option.{ForSome, option_map}
-use Rattle.blk_image.specs.Told.{Passes, Stays}
+use Rattle.spec_image.specs.Told.{Passes, Stays}
 use Rattle.blk_model.specs.State.{Bounds}
-use Rattle.blk_format.specs.Headers.{IsUnfinished}
+use Rattle.spec_format.specs.Headers.{IsUnfinished}
 use Rattle.blk_io.specs.Streams.{later_of}
 use Rattle.blk_cache.specs.Opening.{HoldsStill}
 use Rattle.blk_run.specs.declared.ending.Status.{Status}

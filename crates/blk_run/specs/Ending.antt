@@ -2,14 +2,14 @@
 use Rattle.std.specs.Prelude.{◌≡◌, List, ◌++◌, length, Result, Ok, Err}
 use Rattle.std.specs.Option.{option_map, ForSome}
 use Rattle.std.specs.declared.option.Option.{Option}
-use Rattle.blk_image.specs.Told.{Told}
+use Rattle.spec_image.specs.Told.{Told}
 use Rattle.blk_io.specs.Streams.{Readings}
 use Rattle.blk_io.specs.declared.fault.Fault.{Fault}
 use Rattle.blk_io.specs.declared.fault.Fault.TheVariants as fault
 use Rattle.blk_model.specs.Holding.{rest}
-use Rattle.blk_volume.specs.Found.{found}
-use Rattle.blk_headline.specs.Run.{Stamped, bound_names, clock_after, closings, state_after}
-use Rattle.blk_headline.specs.Progress.{IsWholeRun, Stops}
+use Rattle.spec_folder.specs.Found.{found}
+use Rattle.spec_run.specs.Run.{Stamped, bound_names, clock_after, closings, state_after}
+use Rattle.spec_run.specs.Progress.{IsWholeRun, Stops}
 use Rattle.blk_cache.specs.Opening.{EndsSession}
 use Rattle.blk_run.specs.Playing.{SoFar, state_now}
 

@@ -3,7 +3,7 @@ use Rattle.std.specs.Prelude.{ℕ, ◌≡◌, ◌⊎◌, List}
 use Rattle.std.specs.Option.{ForSome}
 use Rattle.std.specs.declared.option.Option.{Option}
 use Rattle.std.specs.declared.option.Option.TheVariants.{None}
-use Rattle.blk_image.specs.Told.{Told}
+use Rattle.spec_image.specs.Told.{Told}
 use Rattle.blk_io.specs.declared.fault.Damage.{Damage}
 use Rattle.blk_io.specs.Faults.{damage_of}
 use Rattle.blk_disk.specs.declared.tables.BlockFiles.{BlockFiles}

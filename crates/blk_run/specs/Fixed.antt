@@ -1,12 +1,12 @@
 -- A script that is played command by command.
 use Rattle.std.specs.Prelude.{ℕ, ◌≡◌, List, ◌++◌, length}
 use Rattle.std.specs.Option.{ForSome}
-use Rattle.blk_image.specs.Image.{Image}
+use Rattle.spec_image.specs.Image.{Image}
 use Rattle.blk_io.specs.Streams.{Readings}
 use Rattle.blk_model.specs.declared.Answer.{Answer}
 use Rattle.blk_model.specs.declared.Answer.TheVariants as answer
 use Rattle.blk_model.specs.State.{State}
-use Rattle.blk_headline.specs.Run.{Turn, clock_after, commands_of}
+use Rattle.spec_run.specs.Run.{Turn, clock_after, commands_of}
 use Rattle.blk_run.specs.Playing.{Around, AreMade, SoFar, state_now, with_more}
 
 -- the turns of a script are these, and then those of what is left of it

@@ -2,16 +2,16 @@
 use Rattle.std.specs.Prelude.{ℕ, ◌≡◌, ◌≤◌, ◌<◌, ◌+◌, ◌-◌, ◌*◌, ◌^◌, Bool, false, if◌then◌else◌, List, [], ◌∷◌, Result, Ok, Err, IfOk, OnOk}
 use Rattle.std.specs.Option.{ForSome}
 use Rattle.std.specs.declared.option.Option.{Option}
-use Rattle.blk_image.specs.Image.{Image}
-use Rattle.blk_image.specs.Told.{Told}
+use Rattle.spec_image.specs.Image.{Image}
+use Rattle.spec_image.specs.Told.{Told}
 use Rattle.blk_io.specs.Streams.{Readings, reading_of}
 use Rattle.blk_model.specs.declared.Answer.{Answer}
 use Rattle.blk_model.specs.Reply.{answer_of}
 use Rattle.blk_model.specs.Request.{Request, to_close, to_create, to_open, to_read, to_write}
 use Rattle.blk_model.specs.Sizes.{most_items}
 use Rattle.blk_model.specs.State.{State}
-use Rattle.blk_headline.specs.Run.{Stamped, Turn, command_turn, outcome_in, turns}
-use Rattle.blk_headline.specs.Script.{Script, is_refusal, refusal_of}
+use Rattle.spec_run.specs.Run.{Stamped, Turn, command_turn, outcome_in, turns}
+use Rattle.spec_run.specs.Script.{Script, is_refusal, refusal_of}
 use Rattle.blk_gen.specs.declared.counting.Counts.{Counts}
 use Rattle.blk_gen.specs.Counting.{with_outcome}
 use Rattle.blk_cache.specs.declared.fault.StepFault.{StepFault}

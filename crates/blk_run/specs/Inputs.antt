@@ -3,11 +3,11 @@ use Rattle.std.specs.Prelude.{ℕ, ◌≡◌, ◌≤◌, List, [], ◌∷◌, �
 use Rattle.std.specs.Option.{ForSome}
 use Rattle.std.specs.declared.option.Option.{Option}
 use Rattle.std.specs.declared.option.Option.TheVariants.{Some}
-use Rattle.blk_image.specs.Image.{Image}
+use Rattle.spec_image.specs.Image.{Image}
 use Rattle.blk_model.specs.State.{State}
-use Rattle.blk_headline.specs.Lines.{lines, whole_lines}
-use Rattle.blk_headline.specs.Script.{session_script}
-use Rattle.blk_headline.specs.Run.{turns}
+use Rattle.spec_run.specs.Lines.{lines, whole_lines}
+use Rattle.spec_run.specs.Script.{session_script}
+use Rattle.spec_run.specs.Run.{turns}
 use Rattle.blk_cache.specs.declared.fault.StepFault.{StepFault}
 use Rattle.blk_run.specs.declared.input.InputEnd.{InputEnd}
 use Rattle.blk_run.specs.declared.input.InputEnd.TheVariants as end

@@ -3,17 +3,17 @@ use Rattle.std.specs.Prelude.{ℕ, ◌≡◌, ◌+◌, ◌*◌, ◌<◌, ◌^◌
 use Rattle.std.specs.Option.{option_map, ForSome}
 use Rattle.std.specs.declared.option.Option.{Option}
 use Rattle.std.specs.declared.option.Option.TheVariants.{Some}
-use Rattle.blk_image.specs.Image.{Image}
-use Rattle.blk_image.specs.Told.{Told}
+use Rattle.spec_image.specs.Image.{Image}
+use Rattle.spec_image.specs.Told.{Told}
 use Rattle.blk_io.specs.Streams.{Appends, Readings, reading_of}
 use Rattle.blk_model.specs.declared.Answer.{Answer}
 use Rattle.blk_model.specs.Reply.{answer_of}
 use Rattle.blk_model.specs.Request.{Request}
-use Rattle.blk_headline.specs.Script.{is_refusal, refusal_of}
+use Rattle.spec_run.specs.Script.{is_refusal, refusal_of}
 use Rattle.blk_model.specs.State.{State}
-use Rattle.blk_headline.specs.Run.{Stamped, Turn, command_turn, outcome_in, commands_of, text_of, refuse, state_after, clock_after}
-use Rattle.blk_headline.specs.Lines.{Cut, with_bytes}
-use Rattle.blk_headline.specs.Progress.{Progress, Stops}
+use Rattle.spec_run.specs.Run.{Stamped, Turn, command_turn, outcome_in, commands_of, text_of, refuse, state_after, clock_after}
+use Rattle.spec_run.specs.Lines.{Cut, with_bytes}
+use Rattle.spec_run.specs.Progress.{Progress, Stops}
 use Rattle.blk_cache.specs.declared.fault.StepFault.{StepFault}
 use Rattle.blk_cache.specs.declared.fault.StepFault.TheVariants as fault
 

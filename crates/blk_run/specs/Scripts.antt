@@ -1,7 +1,7 @@
 -- Scripts that aren't read from the input, as the program has them.
 use Rattle.std.specs.Prelude.{ℕ, ◌*◌, Bool, true, false, if◌then◌else◌, length, map, Result, Ok, Err}
 use Rattle.blk_model.specs.Request.{request_of}
-use Rattle.blk_headline.specs.Script.{Script, put_script, until_refused}
+use Rattle.spec_run.specs.Script.{Script, put_script, until_refused}
 use Rattle.blk_gen.specs.Generator.{gen_script}
 use Rattle.blk_cache.specs.declared.fault.StepFault.{StepFault}
 use Rattle.blk_cache.specs.declared.fault.StepFault.TheVariants as fault

@@ -3,19 +3,19 @@ use Rattle.std.specs.Prelude.{ℕ, ◌≡◌, ◌⊎◌, ◌+◌, ◌<◌, true,
 use Rattle.std.specs.Option.{option_map, ForSome}
 use Rattle.std.specs.declared.option.Option.{Option}
 use Rattle.std.specs.declared.option.Option.TheVariants.{Some}
-use Rattle.blk_image.specs.Checks.{Damage}
-use Rattle.blk_image.specs.Image.{Image}
-use Rattle.blk_image.specs.Told.{Told, Stays}
-use Rattle.blk_format.specs.BlockFiles.{first_damage}
-use Rattle.blk_format.specs.Headers.{IsUnfinished}
+use Rattle.spec_image.specs.Checks.{Damage}
+use Rattle.spec_image.specs.Image.{Image}
+use Rattle.spec_image.specs.Told.{Told, Stays}
+use Rattle.spec_format.specs.BlockFiles.{first_damage}
+use Rattle.spec_format.specs.Headers.{IsUnfinished}
 use Rattle.blk_model.specs.Holding.{open_state, rest}
 use Rattle.blk_model.specs.State.{Bounds}
-use Rattle.blk_volume.specs.Found.{found}
+use Rattle.spec_folder.specs.Found.{found}
 use Rattle.blk_io.specs.Streams.{Appends, Readings, later_of}
-use Rattle.blk_headline.specs.Lines.{lines, whole_lines}
-use Rattle.blk_headline.specs.Progress.{IsWholeRun, Stops}
-use Rattle.blk_headline.specs.Run.{Run, Stamped, clock_after, commands, cut_after, last_state, refuse, run_of, text_of}
-use Rattle.blk_headline.specs.Script.{Script, session_script}
+use Rattle.spec_run.specs.Lines.{lines, whole_lines}
+use Rattle.spec_run.specs.Progress.{IsWholeRun, Stops}
+use Rattle.spec_run.specs.Run.{Run, Stamped, clock_after, commands, cut_after, last_state, refuse, run_of, text_of}
+use Rattle.spec_run.specs.Script.{Script, session_script}
 use Rattle.blk_cache.specs.Opening.{EndsSession}
 use Rattle.blk_run.specs.declared.ending.Status.{Status}
 use Rattle.blk_run.specs.declared.ending.Status.TheVariants as status

@@ -2,7 +2,7 @@
 use Rattle.std.specs.Prelude.{ℕ, ◌≡◌, List, ◌++◌, Result, Ok, Err}
 use Rattle.std.specs.Option.{option_map}
 use Rattle.std.specs.declared.option.Option.{Option}
-use Rattle.blk_image.specs.Told.{Stays}
+use Rattle.spec_image.specs.Told.{Stays}
 use Rattle.blk_io.specs.Faults.{damage_of}
 use Rattle.blk_io.specs.Streams.{Appends}
 use Rattle.blk_inspect.specs.declared.fault.InspectFault.{InspectFault}

@@ -1,8 +1,8 @@
 -- The lines that are printed.
 use Rattle.std.specs.Prelude.{ℕ, ◌≡◌, List, ◌++◌, codes, Option}
 use Rattle.std.specs.Option.{option_map}
-use Rattle.blk_image.specs.Checks.{Damage}
-use Rattle.blk_image.specs.Told.{Rises}
+use Rattle.spec_image.specs.Checks.{Damage}
+use Rattle.spec_image.specs.Told.{Rises}
 use Rattle.blk_io.specs.Streams.{Appends}
 use Rattle.blk_io.specs.Texts.{damage_text}
 

@@ -3,17 +3,17 @@ use Rattle.std.specs.Prelude.{ℕ, ◌≡◌, ◌+◌, ◌<◌, ◌≤◌, ◌^�
 use Rattle.std.specs.Option.{ForSome}
 use Rattle.std.specs.declared.option.Option.{Option}
 use Rattle.std.specs.declared.option.Option.TheVariants.{None, Some}
-use Rattle.blk_image.specs.Checks.{Damage}
-use Rattle.blk_image.specs.Image.{Image}
-use Rattle.blk_image.specs.Told.{Rises}
+use Rattle.spec_image.specs.Checks.{Damage}
+use Rattle.spec_image.specs.Image.{Image}
+use Rattle.spec_image.specs.Told.{Rises}
 use Rattle.blk_io.specs.Streams.{Readings}
 use Rattle.blk_model.specs.State.{Bounds}
-use Rattle.blk_headline.specs.Opening.{IsUsable}
-use Rattle.blk_headline.specs.Script.{Script, count_script, doom_script, get_script, list_script, put_script, trim_script}
+use Rattle.spec_run.specs.Opening.{IsUsable}
+use Rattle.spec_run.specs.Script.{Script, count_script, doom_script, get_script, list_script, put_script, trim_script}
 use Rattle.blk_gen.specs.Generator.{gen_script}
 use Rattle.blk_inspect.specs.Texts.{inspect_text, verify_text}
-use Rattle.blk_words.specs.Tasks.{Task, do_count, do_doom, do_generate, do_get, do_inspect, do_list, do_put, do_session, do_trim, do_verify}
-use Rattle.blk_words.specs.Words.{Invocation}
+use Rattle.blk_args.specs.Tasks.{Task, do_count, do_doom, do_generate, do_get, do_inspect, do_list, do_put, do_session, do_trim, do_verify}
+use Rattle.blk_args.specs.Words.{Invocation}
 use Rattle.blk_run.specs.declared.ending.Status.{Status}
 use Rattle.blk_run.specs.declared.ending.Status.TheVariants as status
 use Rattle.blk_run.specs.Failing.{IsDamagedRun, IsFailedInReading}

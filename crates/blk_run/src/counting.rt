@@ -1,19 +1,19 @@
 // The totals are counted.
 ghost use Rattle.std.specs.Prelude.{◌≡◌, ◌≢◌, ◌⊎◌, ◌≤◌, ◌*◌, ◌++◌, List, [], ℕ, None, OnOk, Option, Some};
 ghost use Rattle.std.specs.Option.{ForSome, option_map};
-ghost use Rattle.blk_image.specs.Image.{Image, Index as index, byte};
-ghost use Rattle.blk_image.specs.Checks.{Damage as check_damage};
-ghost use Rattle.blk_image.specs.Told.{Passes, Rises, Stays, Told};
-ghost use Rattle.blk_format.specs.Headers.{IsUnfinished, create_time_of, this_id_of};
+ghost use Rattle.spec_image.specs.Image.{Image, Index as index, byte};
+ghost use Rattle.spec_image.specs.Checks.{Damage as check_damage};
+ghost use Rattle.spec_image.specs.Told.{Passes, Rises, Stays, Told};
+ghost use Rattle.spec_format.specs.Headers.{IsUnfinished, create_time_of, this_id_of};
 ghost use Rattle.blk_io.specs.Streams.{Appends, Readings, later_of};
 ghost use Rattle.blk_model.specs.Bounds.{bounds_of};
 ghost use Rattle.blk_model.specs.Holding.{open_state};
 ghost use Rattle.blk_model.specs.Sizes.{handle_names};
 ghost use Rattle.blk_model.specs.State.{Bounds, State};
-ghost use Rattle.blk_volume.specs.Found.{found};
+ghost use Rattle.spec_folder.specs.Found.{found};
 ghost use Rattle.blk_disk.specs.Open.{IsOpen};
-ghost use Rattle.blk_headline.specs.Opening.{IsUsable};
-ghost use Rattle.blk_headline.specs.Script.{count_script, totals_line};
+ghost use Rattle.spec_run.specs.Opening.{IsUsable};
+ghost use Rattle.spec_run.specs.Script.{count_script, totals_line};
 ghost use Rattle.blk_cache.specs.BoundNames.{AreAllFree};
 ghost use Rattle.blk_cache.specs.CacheKeeping.{KeepsState};
 ghost use Rattle.blk_cache.specs.Opening.{EndsSession, HoldsStill, WasMadeAt};

@@ -1,13 +1,13 @@
 // The fixed scripts: commands that are played up to the first that is refused.
 ghost use Rattle.std.specs.Prelude.{◌≡◌, ◌*◌, true, ◌≤◌, ◌+◌, ◌++◌, ℕ, length, map, OnOk};
 ghost use Rattle.std.specs.Option.{ForSome, option_map};
-ghost use Rattle.blk_image.specs.Told.{Rises};
+ghost use Rattle.spec_image.specs.Told.{Rises};
 ghost use Rattle.blk_io.specs.Streams.{Appends};
 ghost use Rattle.blk_model.specs.Reply.{answered};
 ghost use Rattle.blk_model.specs.Request.{request_of};
 ghost use Rattle.blk_script.specs.Reply.{reply_text};
-ghost use Rattle.blk_headline.specs.Script.{is_missing_refusal, put_script, refusal_of, until_refused};
-ghost use Rattle.blk_headline.specs.Run.{turns};
+ghost use Rattle.spec_run.specs.Script.{is_missing_refusal, put_script, refusal_of, until_refused};
+ghost use Rattle.spec_run.specs.Run.{turns};
 ghost use Rattle.blk_run.specs.Fixed.{opened_answer};
 ghost use Rattle.blk_object.specs.FailedChecks.{IsFailedCheck};
 ghost use Rattle.blk_cache.specs.Stepping.{IfDone, IfSink, IfStepDamaged, IfStepDevice};

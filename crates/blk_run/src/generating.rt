@@ -1,11 +1,11 @@
 // The turns of a generator are played.
 ghost use Rattle.std.specs.Prelude.{◌≡◌, ◌≤◌, ◌<◌, ◌+◌, ◌*◌, ◌^◌, ◌++◌, Bool, List, Option, ℕ, length, OnOk};
 ghost use Rattle.std.specs.Option.{ForSome, option_map};
-ghost use Rattle.blk_image.specs.Told.{Rises};
+ghost use Rattle.spec_image.specs.Told.{Rises};
 ghost use Rattle.blk_io.specs.Streams.{Appends};
 ghost use Rattle.blk_model.specs.Request.{request_of};
-ghost use Rattle.blk_headline.specs.Run.{turns};
-ghost use Rattle.blk_headline.specs.Script.{totals_line};
+ghost use Rattle.spec_run.specs.Run.{turns};
+ghost use Rattle.spec_run.specs.Script.{totals_line};
 ghost use Rattle.blk_gen.specs.Counting.{counts_line};
 ghost use Rattle.blk_gen.specs.Draws.{generated_bytes};
 ghost use Rattle.blk_gen.specs.Generator.{created_turn, gen_script, turn_script, used_turn};

@@ -1,6 +1,6 @@
 // The words that print what a folder holds, and leave it as it is.
 ghost use Rattle.std.specs.Prelude.{◌≡◌, ◌≤◌, List, Option, ℕ};
-ghost use Rattle.blk_image.specs.Told.{Rises, Stays};
+ghost use Rattle.spec_image.specs.Told.{Rises, Stays};
 ghost use Rattle.blk_io.specs.Streams.{Readings};
 ghost use Rattle.blk_model.specs.State.{Bounds};
 ghost use Rattle.blk_inspect.specs.Texts.{inspect_text, verify_text};

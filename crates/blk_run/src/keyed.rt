@@ -1,10 +1,10 @@
 // The words that name an entry by its key.
 ghost use Rattle.std.specs.Prelude.{◌≡◌, ◌≤◌, ℕ, List, Option, IfOk, Ok, length};
 ghost use Rattle.percent_encoding.specs.Percent.{percent_decode};
-ghost use Rattle.blk_image.specs.Told.{Rises};
+ghost use Rattle.spec_image.specs.Told.{Rises};
 ghost use Rattle.blk_model.specs.Bounds.{bounds_of};
 ghost use Rattle.blk_script.specs.Fields.{key_field};
-ghost use Rattle.blk_headline.specs.Script.{doom_script, get_script, put_script};
+ghost use Rattle.spec_run.specs.Script.{doom_script, get_script, put_script};
 ghost use Rattle.blk_run.specs.Work.{Performs, no_input, whole_input};
 
 use crate::ending::Status;

@@ -2,12 +2,12 @@
 ghost use Rattle.std.specs.Prelude.{drop, ◌==◌, ◌≡◌, ◌-◌, true, false, ◌≤◌, ◌<◌, ◌+◌, ◌^◌, ◌++◌, ℕ, List, [], ◌∷◌, length, OnErr, OnOk};
 ghost use Rattle.std.specs.Option.{ForSome, option_map};
 ghost use Rattle.std.specs.List.{position};
-ghost use Rattle.blk_image.specs.Told.{Rises};
+ghost use Rattle.spec_image.specs.Told.{Rises};
 ghost use Rattle.blk_io.specs.Streams.{Appends};
 ghost use Rattle.blk_model.specs.Request.{request_of};
 ghost use Rattle.blk_script.specs.Reply.{line_fault_text};
-ghost use Rattle.blk_headline.specs.Script.{ended, line_script, session_script};
-ghost use Rattle.blk_headline.specs.Run.{turns};
+ghost use Rattle.spec_run.specs.Script.{ended, line_script, session_script};
+ghost use Rattle.spec_run.specs.Run.{turns};
 ghost use Rattle.blk_run.specs.Playing.{cut_behind};
 ghost use Rattle.blk_object.specs.FailedChecks.{IsFailedCheck};
 ghost use Rattle.blk_cache.specs.Stepping.{IfDone, IfSink, IfStepDamaged, IfStepDevice};

@@ -2,11 +2,11 @@
 ghost use Rattle.std.specs.Prelude.{◌≡◌, ◌++◌, ◌≤◌, OnOk, OnErr, drop, length};
 ghost use Rattle.std.specs.List.{flat_map};
 ghost use Rattle.std.specs.Option.{option_map};
-ghost use Rattle.blk_image.specs.Told.{Rises};
+ghost use Rattle.spec_image.specs.Told.{Rises};
 ghost use Rattle.blk_io.specs.Streams.{Appends};
 ghost use Rattle.blk_io.specs.Faults.{damage_of};
 ghost use Rattle.blk_io.specs.Texts.{hex_text};
-ghost use Rattle.blk_headline.specs.Script.{totals_line};
+ghost use Rattle.spec_run.specs.Script.{totals_line};
 ghost use Rattle.blk_run.specs.Texts.{damage_line, usage_text};
 
 use blk_io::{Damage, Failed, FileId, Sink};

@@ -1,18 +1,18 @@
 // A session: the lines of an input are played on a folder.
 ghost use Rattle.std.specs.Prelude.{◌≡◌, ◌≢◌, ◌≤◌, ◌<◌, ◌+◌, ◌*◌, List, [], ℕ, length, IfOk, OnOk, None, Option, Some};
 ghost use Rattle.std.specs.Option.{ForSome, option_map};
-ghost use Rattle.blk_image.specs.Image.{Image};
-ghost use Rattle.blk_image.specs.Checks.{Damage as check_damage};
-ghost use Rattle.blk_image.specs.Told.{Rises, Told};
+ghost use Rattle.spec_image.specs.Image.{Image};
+ghost use Rattle.spec_image.specs.Checks.{Damage as check_damage};
+ghost use Rattle.spec_image.specs.Told.{Rises, Told};
 ghost use Rattle.blk_io.specs.Faults.{IfDamaged, IfDevice};
 ghost use Rattle.blk_io.specs.Streams.{Readings, later_of};
 ghost use Rattle.blk_model.specs.Bounds.{bounds_of};
 ghost use Rattle.blk_model.specs.Holding.{open_state};
 ghost use Rattle.blk_model.specs.Sizes.{handle_names};
 ghost use Rattle.blk_model.specs.State.{Bounds};
-ghost use Rattle.blk_volume.specs.Found.{found};
+ghost use Rattle.spec_folder.specs.Found.{found};
 ghost use Rattle.blk_disk.specs.Open.{IsOpen};
-ghost use Rattle.blk_headline.specs.Opening.{IsUsable};
+ghost use Rattle.spec_run.specs.Opening.{IsUsable};
 ghost use Rattle.blk_cache.specs.CacheKeeping.{KeepsState};
 ghost use Rattle.blk_run.specs.Ending.{EndsRun};
 ghost use Rattle.blk_run.specs.Failing.{IsCommandDamage, IsDamagedRun, IsFailedSomewhere};

@@ -1,7 +1,7 @@
 // Commands whose replies aren't shown.
 ghost use Rattle.std.specs.Prelude.{◌≡◌, false, ◌≤◌, ◌+◌, ℕ, None};
 ghost use Rattle.std.specs.Option.{ForSome};
-ghost use Rattle.blk_image.specs.Told.{Rises};
+ghost use Rattle.spec_image.specs.Told.{Rises};
 ghost use Rattle.blk_model.specs.Request.{request_of};
 ghost use Rattle.blk_object.specs.FailedChecks.{IsFailedCheck};
 ghost use Rattle.blk_cache.specs.Stepping.{IfDone, IfSink, IfStepDamaged, IfStepDevice};

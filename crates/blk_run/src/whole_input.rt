@@ -1,6 +1,6 @@
 // The whole input is read.
 ghost use Rattle.std.specs.Prelude.{◌≡◌, ◌≤◌, length};
-ghost use Rattle.blk_image.specs.Told.{Rises};
+ghost use Rattle.spec_image.specs.Told.{Rises};
 ghost use Rattle.blk_run.specs.WholeInputs.{IfSource, Reads};
 
 use blk_io::Source;

@@ -7,25 +7,25 @@ use Rattle.std.proofs.lemmas.Bool.Decides.{eqb_tells}
 use Rattle.std.proofs.Math.Bool.{and-true}
 use Rattle.std.proofs.Math.Dec.{eqb}
 use Rattle.std.proofs.lemmas.List.Elements.{All-append, All-filter, All-weaker, Contains-append_left, Contains-append_right, filter_passes}
-use Rattle.blk_image.specs.Image.{AreBytes, Image}
-use Rattle.blk_format.specs.Address.{blocks_256, kind_of, rankings}
-use Rattle.blk_format.specs.BlockFiles.{is_among, stands_in}
-use Rattle.blk_format.specs.Records.{entry_checks, node_checks}
-use Rattle.blk_volume.specs.Audit.{is_kept, kept_nodes}
-use Rattle.blk_volume.specs.Completion.{completed_list}
-use Rattle.blk_volume.specs.Found.{kept}
-use Rattle.blk_volume.specs.ListImages.{completed_walk}
-use Rattle.blk_volume.specs.Loads as shown
-use Rattle.blk_volume.specs.Loads.{held_rule}
-use Rattle.blk_volume.specs.View.{RecordFields, checks_at, entry_at, fields_at, fields_of, list_of, node_at, stands_as, store_of}
-use Rattle.blk_laws.proofs.lists.Walked.{walk-once, walks-distinct}
-use Rattle.blk_laws.proofs.walks.Kept.{kept-nodes}
-use Rattle.blk_laws.proofs.walks.Loads.{load-then}
-use Rattle.blk_laws.proofs.walks.Shown.{is_among-filter}
-use Rattle.blk_repair_laws.specs.ChainRepair.{is_kept_record}
-use Rattle.blk_repair_laws.specs.KeptSeals.{IsOfKept}
-use Rattle.blk_repair_laws.specs.RecordSeals.{IsSealedAt}
-use Rattle.blk_repair_laws.proofs.KeptRecords.{checks-completed}
+use Rattle.spec_image.specs.Image.{AreBytes, Image}
+use Rattle.spec_format.specs.Address.{blocks_256, kind_of, rankings}
+use Rattle.spec_format.specs.BlockFiles.{is_among, stands_in}
+use Rattle.spec_format.specs.Records.{entry_checks, node_checks}
+use Rattle.spec_folder.specs.Audit.{is_kept, kept_nodes}
+use Rattle.spec_folder.specs.Completion.{completed_list}
+use Rattle.spec_folder.specs.Found.{kept}
+use Rattle.spec_folder.specs.ListImages.{completed_walk}
+use Rattle.spec_folder.specs.Loads as shown
+use Rattle.spec_folder.specs.Loads.{held_rule}
+use Rattle.spec_folder.specs.View.{RecordFields, checks_at, entry_at, fields_at, fields_of, list_of, node_at, stands_as, store_of}
+use Rattle.law_folder.proofs.lists.Walked.{walk-once, walks-distinct}
+use Rattle.law_folder.proofs.walks.Kept.{kept-nodes}
+use Rattle.law_folder.proofs.walks.Loads.{load-then}
+use Rattle.law_folder.proofs.walks.Shown.{is_among-filter}
+use Rattle.law_recovery.specs.ChainRepair.{is_kept_record}
+use Rattle.law_recovery.specs.KeptSeals.{IsOfKept}
+use Rattle.law_recovery.specs.RecordSeals.{IsSealedAt}
+use Rattle.law_recovery.proofs.KeptRecords.{checks-completed}
 use Rattle.blk_disk.specs.declared.tables.BlockFiles.{BlockFiles}
 use Rattle.blk_disk.specs.Tables.{Agrees, is_record_among}
 use Rattle.blk_audit.proofs.Shown.{names_stand}

@@ -2,12 +2,12 @@
 use Rattle.std.proofs.Common.{◌≡◌, ◌++◌, ◌%◌, ◌^◌, ◌==◌, Option, None, Some, Result, Ok, Err, refl, subst, sym, ◌∙◌}
 use Rattle.std.specs.Option.{ForSome}
 use Rattle.std.proofs.lemmas.Bool.{eqb-true}
-use Rattle.blk_image.specs.Checks.{Damage}
-use Rattle.blk_image.specs.Image.{Image, Index, byte, length_of}
-use Rattle.blk_image.proofs.FirstChecks.{all_none, append_none, append_some, passed}
-use Rattle.blk_format.specs.BlockFiles.{block_checks, first_block_damage, first_damage, IsWellFormed}
-use Rattle.blk_format.specs.Headers.{HasWholeIndex, IsUnfinished, first_index_damage, head_checks, list_checks}
-use Rattle.blk_image.specs.Told.{Told}
+use Rattle.spec_image.specs.Checks.{Damage}
+use Rattle.spec_image.specs.Image.{Image, Index, byte, length_of}
+use Rattle.spec_image.proofs.FirstChecks.{all_none, append_none, append_some, passed}
+use Rattle.spec_format.specs.BlockFiles.{block_checks, first_block_damage, first_damage, IsWellFormed}
+use Rattle.spec_format.specs.Headers.{HasWholeIndex, IsUnfinished, first_index_damage, head_checks, list_checks}
+use Rattle.spec_image.specs.Told.{Told}
 use Rattle.blk_io.specs.declared.fault.Damage.{Damage as Met}
 use Rattle.blk_io.specs.declared.fault.Fault.{Fault}
 use Rattle.blk_io.specs.declared.fault.Fault.TheVariants as fault

@@ -1,9 +1,9 @@
 -- A folder is scanned by the block files that it has.
 use Rattle.std.proofs.Common.{◌≡◌, inr, Some, Result, Ok, Err, subst, ◌∙◌}
 use Rattle.std.specs.Option.{ForSome}
-use Rattle.blk_image.specs.Told.{Told}
-use Rattle.blk_format.specs.BlockFiles.{first_block_damage}
-use Rattle.blk_format.specs.Headers.{HasWholeIndex}
+use Rattle.spec_image.specs.Told.{Told}
+use Rattle.spec_format.specs.BlockFiles.{first_block_damage}
+use Rattle.spec_format.specs.Headers.{HasWholeIndex}
 use Rattle.blk_io.specs.declared.fault.Damage.{Damage}
 use Rattle.blk_io.specs.declared.fault.Fault.{Fault}
 use Rattle.blk_io.specs.declared.fault.Fault.TheVariants as fault

@@ -2,12 +2,12 @@
 use Rattle.std.proofs.Common.{◌≡◌, ◌+◌, ℕ, Bool, List, [], ◌∷◌, map, Option, None, Some, Result, Ok, Err, refl, sym, ap, ap₂, subst, ◌∙◌}
 use Rattle.std.specs.List.{AllZip, cons_option, filter_map, sum_by}
 use Rattle.std.proofs.lemmas.List.Sums.{sum_by-cons}
-use Rattle.blk_image.specs.Image.{Image}
-use Rattle.blk_volume.specs.Audit.{dropped_of, kept_of}
-use Rattle.blk_volume.specs.Found.{charge_of}
-use Rattle.blk_volume.specs.Loads as shown
-use Rattle.blk_volume.specs.Loads.{is_part}
-use Rattle.blk_volume.specs.Reasons as reasons
+use Rattle.spec_image.specs.Image.{Image}
+use Rattle.spec_folder.specs.Audit.{dropped_of, kept_of}
+use Rattle.spec_folder.specs.Found.{charge_of}
+use Rattle.spec_folder.specs.Loads as shown
+use Rattle.spec_folder.specs.Loads.{is_part}
+use Rattle.spec_folder.specs.Reasons as reasons
 use Rattle.blk_verdict.specs.Charges.{charge_said}
 use Rattle.blk_verdict.specs.Kept.{AreShown, IsLoadedFrom, is_part_said}
 use Rattle.blk_verdict.specs.declared.loading.Loaded.{Loaded}

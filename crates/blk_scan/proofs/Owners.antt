@@ -9,26 +9,26 @@ use Rattle.std.proofs.lemmas.List.{append-nil, append_assoc}
 use Rattle.std.proofs.lemmas.List.Filters.{sum_by-filter_both}
 use Rattle.std.proofs.lemmas.List.Folds.{list_any-append}
 use Rattle.std.proofs.lemmas.List.Sums.{sum_by-append, sum_by-cons}
-use Rattle.blk_image.specs.Image.{Image}
-use Rattle.blk_format.specs.BlockFiles.{is_among}
-use Rattle.blk_format.specs.Claims.{Claim, claims_of, claims_of_all, has_claim, is_in_file, repeats}
+use Rattle.spec_image.specs.Image.{Image}
+use Rattle.spec_format.specs.BlockFiles.{is_among}
+use Rattle.spec_format.specs.Claims.{Claim, claims_of, claims_of_all, has_claim, is_in_file, repeats}
 use Rattle.blk_addr.specs.Claims.{IsClaimsOf}
 use Rattle.blk_addr.specs.declared.claim_set.Claims.{Claims}
 use Rattle.blk_addr.proofs.ClaimLemmas.{has_claim-append}
-use Rattle.blk_volume.specs.Audit.{is_child, judged, kept_of, tried, verdict, verdict_on, verdicts, with_verdict}
-use Rattle.blk_volume.specs.Completion.{completed_list}
-use Rattle.blk_volume.specs.Found.{kept}
-use Rattle.blk_volume.specs.ListImages.{completed_walk}
-use Rattle.blk_volume.specs.ListView.{Distinct}
-use Rattle.blk_volume.specs.Loads as shown
-use Rattle.blk_volume.specs.Loads.{Rule, held_rule}
-use Rattle.blk_volume.specs.Reasons as reasons
-use Rattle.blk_volume.specs.Sound.{words_of}
-use Rattle.blk_volume.specs.View.{StoreView, list_of, store_of}
-use Rattle.blk_laws.proofs.lists.Walked.{walk-once}
-use Rattle.blk_laws.proofs.walks.Kept.{tried-once}
-use Rattle.blk_repair_laws.proofs.MendedParts.{words-claim}
-use Rattle.blk_repair_laws.proofs.OneOwner.{kept-claim_once}
+use Rattle.spec_folder.specs.Audit.{is_child, judged, kept_of, tried, verdict, verdict_on, verdicts, with_verdict}
+use Rattle.spec_folder.specs.Completion.{completed_list}
+use Rattle.spec_folder.specs.Found.{kept}
+use Rattle.spec_folder.specs.ListImages.{completed_walk}
+use Rattle.spec_folder.specs.ListView.{Distinct}
+use Rattle.spec_folder.specs.Loads as shown
+use Rattle.spec_folder.specs.Loads.{Rule, held_rule}
+use Rattle.spec_folder.specs.Reasons as reasons
+use Rattle.spec_folder.specs.Sound.{words_of}
+use Rattle.spec_folder.specs.View.{StoreView, list_of, store_of}
+use Rattle.law_folder.proofs.lists.Walked.{walk-once}
+use Rattle.law_folder.proofs.walks.Kept.{tried-once}
+use Rattle.law_recovery.proofs.MendedParts.{words-claim}
+use Rattle.law_recovery.proofs.OneOwner.{kept-claim_once}
 use Rattle.blk_verdict.specs.Kept.{AreShown, addresses_of_all}
 use Rattle.blk_verdict.specs.Passes.{kept_after}
 use Rattle.blk_verdict.specs.declared.loading.Loaded.{Loaded}

@@ -7,19 +7,19 @@ use Rattle.std.proofs.lemmas.Bool.Decides.{eqb_tells}
 use Rattle.std.proofs.Math.Dec.{eqb}
 use Rattle.std.proofs.lemmas.List.{drop-append-le, drop-take, drop_at, get_or_append_left, get_or_push, length-append, length-drop, length-take, length_push, take-append-drop, take-append-le, take-take, take_all}
 use Rattle.std.proofs.lemmas.List.Elements.{All-filter, All-take, filter-append, filter_agree}
-use Rattle.blk_image.specs.Image.{Image}
-use Rattle.blk_format.specs.BlockFiles.{is_among}
-use Rattle.blk_volume.specs.Chains.{Chain, IsChain, chain}
-use Rattle.blk_volume.specs.Found.{kept}
-use Rattle.blk_volume.specs.Loads as shown
-use Rattle.blk_volume.specs.View.{store_of}
-use Rattle.blk_laws.proofs.chains.ChainEnds.{chain-back}
-use Rattle.blk_laws.proofs.chains.Chains.{chain-is}
-use Rattle.blk_laws.proofs.states.Bare.{no-record}
+use Rattle.spec_image.specs.Image.{Image}
+use Rattle.spec_format.specs.BlockFiles.{is_among}
+use Rattle.spec_folder.specs.Chains.{Chain, IsChain, chain}
+use Rattle.spec_folder.specs.Found.{kept}
+use Rattle.spec_folder.specs.Loads as shown
+use Rattle.spec_folder.specs.View.{store_of}
+use Rattle.law_folder.proofs.chains.ChainEnds.{chain-back}
+use Rattle.law_folder.proofs.chains.Chains.{chain-is}
+use Rattle.law_folder.proofs.states.Bare.{no-record}
 use Rattle.blk_audit.specs.BucketEnds.{AreEnds, begin_of, records_of}
 use Rattle.blk_audit.specs.Chaining.{AreBucketsOf}
 use Rattle.blk_audit.specs.declared.reaching.Reached.{Reached}
-use Rattle.blk_repair_laws.specs.ChainRepair.{is_kept_record, kept_records}
+use Rattle.law_recovery.specs.ChainRepair.{is_kept_record, kept_records}
 use Rattle.blk_verdict.specs.Kept.{AreShown}
 use Rattle.blk_verdict.specs.declared.loading.Loaded.{Loaded}
 use Rattle.blk_scan.specs.Packing.{ArePacked}

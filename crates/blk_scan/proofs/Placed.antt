@@ -7,19 +7,19 @@ use Rattle.std.proofs.lemmas.Bool.Decides.{eqb_tells}
 use Rattle.std.proofs.Math.Dec.{eqb}
 use Rattle.std.proofs.lemmas.List.{append_assoc, append-nil, length-append, length-replicate, length-set, get_or-set_same, get_or-set_other}
 use Rattle.std.proofs.lemmas.Option.{slice_get_within}
-use Rattle.blk_image.specs.Image.{Image}
-use Rattle.blk_format.specs.BlockFiles.{is_among}
-use Rattle.blk_volume.specs.ListView.{Distinct}
-use Rattle.blk_volume.specs.Audit as audit
-use Rattle.blk_volume.specs.Audit.{judged, verdict, verdict_on, verdicts, with_verdict}
-use Rattle.blk_volume.specs.Completion.{completed_list}
-use Rattle.blk_volume.specs.ListImages.{completed_walk}
-use Rattle.blk_volume.specs.Loads as shown
-use Rattle.blk_volume.specs.Loads.{Rule, held_rule}
-use Rattle.blk_volume.specs.Reasons as reasons
-use Rattle.blk_volume.specs.View.{StoreView, list_of, store_of}
-use Rattle.blk_laws.proofs.lists.Walked.{walk-once}
-use Rattle.blk_laws.proofs.walks.Kept.{tried-among, tried-once}
+use Rattle.spec_image.specs.Image.{Image}
+use Rattle.spec_format.specs.BlockFiles.{is_among}
+use Rattle.spec_folder.specs.ListView.{Distinct}
+use Rattle.spec_folder.specs.Audit as audit
+use Rattle.spec_folder.specs.Audit.{judged, verdict, verdict_on, verdicts, with_verdict}
+use Rattle.spec_folder.specs.Completion.{completed_list}
+use Rattle.spec_folder.specs.ListImages.{completed_walk}
+use Rattle.spec_folder.specs.Loads as shown
+use Rattle.spec_folder.specs.Loads.{Rule, held_rule}
+use Rattle.spec_folder.specs.Reasons as reasons
+use Rattle.spec_folder.specs.View.{StoreView, list_of, store_of}
+use Rattle.law_folder.proofs.lists.Walked.{walk-once}
+use Rattle.law_folder.proofs.walks.Kept.{tried-among, tried-once}
 use Rattle.blk_verdict.specs.Kept.{AreShown, IsLoadedFrom, IsSameAnswer}
 use Rattle.blk_verdict.specs.Passes.{AreTried, IsTried, kept_after}
 use Rattle.blk_verdict.specs.declared.loading.Loaded.{Loaded}

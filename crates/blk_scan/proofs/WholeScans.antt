@@ -2,16 +2,16 @@
 use Rattle.std.proofs.Common.{◌≡◌, ℕ, List, [], ◌∷◌, ◌++◌, Option, None, Result, map, take, length, replicate, refl, sym, ap, ap₂, subst, ◌∙◌}
 use Rattle.std.specs.List.{AllZip, filter_map, flat_map, sum_by}
 use Rattle.std.proofs.lemmas.List.{map-append}
-use Rattle.blk_image.specs.Image.{Image}
-use Rattle.blk_volume.specs.Audit as audit
-use Rattle.blk_volume.specs.Audit.{dropped_among, dropped_of, judged, kept_among, kept_of, verdict_on}
-use Rattle.blk_volume.specs.Found.{completed, dropped, kept}
-use Rattle.blk_volume.specs.ListImages.{completed_walk}
-use Rattle.blk_volume.specs.Loads as shown
-use Rattle.blk_volume.specs.Loads.{held_rule}
-use Rattle.blk_volume.specs.Reasons as reasons
-use Rattle.blk_volume.specs.Sound.{words_of}
-use Rattle.blk_volume.specs.View.{store_of, view_of}
+use Rattle.spec_image.specs.Image.{Image}
+use Rattle.spec_folder.specs.Audit as audit
+use Rattle.spec_folder.specs.Audit.{dropped_among, dropped_of, judged, kept_among, kept_of, verdict_on}
+use Rattle.spec_folder.specs.Found.{completed, dropped, kept}
+use Rattle.spec_folder.specs.ListImages.{completed_walk}
+use Rattle.spec_folder.specs.Loads as shown
+use Rattle.spec_folder.specs.Loads.{held_rule}
+use Rattle.spec_folder.specs.Reasons as reasons
+use Rattle.spec_folder.specs.Sound.{words_of}
+use Rattle.spec_folder.specs.View.{store_of, view_of}
 use Rattle.blk_addr.specs.Claims.{IsClaimsOf}
 use Rattle.blk_addr.specs.declared.claim_set.Claims.{Claims}
 use Rattle.blk_audit.specs.ReadLists.{AreListsOf}

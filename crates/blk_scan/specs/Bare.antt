@@ -1,9 +1,9 @@
 -- Nodes and records that have no seal.
 use Rattle.std.specs.Prelude.{ℕ, Bool, List, map, ◌++◌, ◌&&◌, ◌==◌}
 use Rattle.std.specs.List.{filter}
-use Rattle.blk_image.specs.Image.{Image}
-use Rattle.blk_volume.specs.Found.{kept}
-use Rattle.blk_volume.specs.View.{entry_at, node_at}
+use Rattle.spec_image.specs.Image.{Image}
+use Rattle.spec_folder.specs.Found.{kept}
+use Rattle.spec_folder.specs.View.{entry_at, node_at}
 
 -- the seal of a node is 0
 abbrev pub is_bare_node : Image → ℕ → Bool

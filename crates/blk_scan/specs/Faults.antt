@@ -1,7 +1,7 @@
 -- What is told of a damage that a scan meets.
 use Rattle.std.specs.Prelude.{◌⊎◌}
 use Rattle.std.specs.Option.{ForSome}
-use Rattle.blk_image.specs.Told.{Told}
+use Rattle.spec_image.specs.Told.{Told}
 use Rattle.blk_io.specs.declared.fault.Damage.{Damage}
 use Rattle.blk_index.specs.Start.{IsLookDamage}
 use Rattle.blk_disk.specs.declared.tables.BlockFiles.{BlockFiles}

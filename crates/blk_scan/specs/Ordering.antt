@@ -1,14 +1,14 @@
 -- What came of the walked nodes, in the order of the walk.
 use Rattle.std.specs.Prelude.{ℕ, ◌≡◌, List, map}
-use Rattle.blk_image.specs.Image.{Image}
+use Rattle.spec_image.specs.Image.{Image}
 use Rattle.blk_addr.specs.Claims.{IsClaimsOf}
-use Rattle.blk_volume.specs.Audit as audit
-use Rattle.blk_volume.specs.Audit.{dropped_among, tried}
-use Rattle.blk_volume.specs.Found.{completed, kept}
-use Rattle.blk_volume.specs.ListImages.{completed_walk}
-use Rattle.blk_volume.specs.Loads.{held_rule}
-use Rattle.blk_volume.specs.Reasons as reason
-use Rattle.blk_volume.specs.View.{store_of, view_of}
+use Rattle.spec_folder.specs.Audit as audit
+use Rattle.spec_folder.specs.Audit.{dropped_among, tried}
+use Rattle.spec_folder.specs.Found.{completed, kept}
+use Rattle.spec_folder.specs.ListImages.{completed_walk}
+use Rattle.spec_folder.specs.Loads.{held_rule}
+use Rattle.spec_folder.specs.Reasons as reason
+use Rattle.spec_folder.specs.View.{store_of, view_of}
 use Rattle.blk_audit.specs.ReadLists.{AreListsOf}
 use Rattle.blk_audit.specs.declared.scanning.Lists.{Lists}
 use Rattle.blk_verdict.specs.Kept.{AreShown, addresses_of_all, claims_kept, records_kept}

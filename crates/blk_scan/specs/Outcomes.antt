@@ -5,9 +5,9 @@ use Rattle.std.specs.declared.option.Option.{Option}
 use Rattle.std.specs.declared.option.Option.TheVariants.{None, Some}
 use Rattle.std.specs.declared.result.Result.{Result}
 use Rattle.std.specs.declared.result.Result.TheVariants.{Ok, Err}
-use Rattle.blk_image.specs.Image.{Image}
-use Rattle.blk_volume.specs.Loads as shown
-use Rattle.blk_volume.specs.Reasons as reasons
+use Rattle.spec_image.specs.Image.{Image}
+use Rattle.spec_folder.specs.Loads as shown
+use Rattle.spec_folder.specs.Reasons as reasons
 use Rattle.blk_verdict.specs.Kept.{IsLoadedFrom, is_part_said}
 use Rattle.blk_verdict.specs.Reasons.{reason_of}
 use Rattle.blk_verdict.specs.declared.loading.Loaded.{Loaded}

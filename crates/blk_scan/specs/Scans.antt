@@ -3,23 +3,23 @@ use Rattle.std.specs.Prelude.{ℕ, ◌≡◌, ◌<◌, Bool, true, false, List, 
 use Rattle.std.specs.List.{flat_map, sum_by}
 use Rattle.std.specs.declared.option.Option.{Option}
 use Rattle.std.specs.declared.option.Option.TheVariants.{None, Some}
-use Rattle.blk_image.specs.Image.{Image}
-use Rattle.blk_format.specs.Headers.{table_length}
-use Rattle.blk_volume.specs.Chains.{IsChain}
-use Rattle.blk_volume.specs.Found.{charge_of, dropped, kept}
-use Rattle.blk_volume.specs.ListImages.{completed_walk}
-use Rattle.blk_volume.specs.Loads as shown
-use Rattle.blk_volume.specs.Loads.{is_part}
-use Rattle.blk_volume.specs.Reasons as reasons
-use Rattle.blk_volume.specs.Sound.{words_of}
-use Rattle.blk_volume.specs.View.{store_of}
+use Rattle.spec_image.specs.Image.{Image}
+use Rattle.spec_format.specs.Headers.{table_length}
+use Rattle.spec_folder.specs.Chains.{IsChain}
+use Rattle.spec_folder.specs.Found.{charge_of, dropped, kept}
+use Rattle.spec_folder.specs.ListImages.{completed_walk}
+use Rattle.spec_folder.specs.Loads as shown
+use Rattle.spec_folder.specs.Loads.{is_part}
+use Rattle.spec_folder.specs.Reasons as reasons
+use Rattle.spec_folder.specs.Sound.{words_of}
+use Rattle.spec_folder.specs.View.{store_of}
 use Rattle.blk_addr.specs.Claims.{IsClaimsOf}
 use Rattle.blk_disk.specs.declared.tables.BlockFiles.{BlockFiles}
 use Rattle.blk_disk.specs.Tables.{is_node_among, is_record_among}
 use Rattle.blk_audit.specs.Sealable.{CanBeSealed}
 use Rattle.blk_audit.specs.BucketEnds.{AreEnds, records_of}
-use Rattle.blk_repair_laws.specs.ChainRepair.{kept_records}
-use Rattle.blk_repair_laws.specs.KeptSeals.{AreOthersSealed, IsOfKept}
+use Rattle.law_recovery.specs.ChainRepair.{kept_records}
+use Rattle.law_recovery.specs.KeptSeals.{AreOthersSealed, IsOfKept}
 use Rattle.blk_verdict.specs.Reasons.{reason_of}
 use Rattle.blk_verdict.specs.declared.reason.Reason.TheVariants.{Unlisted}
 use Rattle.blk_scan.specs.Bare.{bare_of_kept}

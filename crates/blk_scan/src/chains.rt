@@ -3,10 +3,10 @@ ghost use Rattle.std.specs.Prelude.{◌≡◌, ◌++◌, ◌+◌, ◌<◌, ◌^�
 ghost use Rattle.std.specs.BTreeSet.{contains};
 ghost use Rattle.std.specs.List.{filter, list_all};
 ghost use Rattle.std.specs.Ordering.{nat_cmp};
-ghost use Rattle.blk_image.specs.Image.{Image};
-ghost use Rattle.blk_format.specs.Headers.{table_length};
-ghost use Rattle.blk_volume.specs.Found as found;
-ghost use Rattle.blk_volume.specs.View.{store_of};
+ghost use Rattle.spec_image.specs.Image.{Image};
+ghost use Rattle.spec_format.specs.Headers.{table_length};
+ghost use Rattle.spec_folder.specs.Found as found;
+ghost use Rattle.spec_folder.specs.View.{store_of};
 ghost use Rattle.blk_disk.specs.declared.tables.BlockFiles.{BlockFiles};
 ghost use Rattle.blk_audit.specs.BucketEnds.{AreEnds};
 ghost use Rattle.blk_audit.specs.Chaining.{AreBucketsOf, HasBuckets, RecordsStand, words_reached};

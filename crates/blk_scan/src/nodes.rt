@@ -1,6 +1,6 @@
 // The nodes of a walk.
 ghost use Rattle.std.specs.Prelude.{◌≡◌, IfOk, take};
-ghost use Rattle.blk_volume.specs.ListView.{most_nodes};
+ghost use Rattle.spec_folder.specs.ListView.{most_nodes};
 ghost use Rattle.blk_audit.specs.Walking.{nodes_walked};
 
 use blk_addr::{Addr, NoMemory};

@@ -1,7 +1,7 @@
 // What came of the walked nodes, in the order of the walk.
 ghost use Rattle.std.specs.Prelude.{◌≡◌, ◌≤◌, IfOk, length, take};
-ghost use Rattle.blk_image.specs.Image.{Image};
-ghost use Rattle.blk_volume.specs.ListView.{most_nodes};
+ghost use Rattle.spec_image.specs.Image.{Image};
+ghost use Rattle.spec_folder.specs.ListView.{most_nodes};
 ghost use Rattle.blk_audit.specs.ReadLists.{AreListsOf};
 ghost use Rattle.blk_audit.specs.Walking.{nodes_walked};
 ghost use Rattle.blk_scan.specs.Ordering.{AreJudged, IsOrderOf};

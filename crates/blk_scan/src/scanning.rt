@@ -1,11 +1,11 @@
 // The audit of a folder.
 ghost use Rattle.std.specs.Prelude.{◌≡◌, ◌⊎◌, ◌≤◌, All, IfOk, None, Some, length};
 ghost use Rattle.std.specs.Option.{ForSome};
-ghost use Rattle.blk_image.specs.Image.{Image};
-ghost use Rattle.blk_image.specs.Told.{Rises, Stays};
-ghost use Rattle.blk_format.specs.BlockFiles.{first_block_damage, first_damage, IsWellFormed};
-ghost use Rattle.blk_format.specs.Headers.{HasWholeIndex, IsUnfinished};
-ghost use Rattle.blk_volume.specs.ListView.{most_nodes};
+ghost use Rattle.spec_image.specs.Image.{Image};
+ghost use Rattle.spec_image.specs.Told.{Rises, Stays};
+ghost use Rattle.spec_format.specs.BlockFiles.{first_block_damage, first_damage, IsWellFormed};
+ghost use Rattle.spec_format.specs.Headers.{HasWholeIndex, IsUnfinished};
+ghost use Rattle.spec_folder.specs.ListView.{most_nodes};
 ghost use Rattle.blk_io.specs.Faults.{damage_of};
 ghost use Rattle.blk_disk.specs.declared.tables.BlockFiles.{BlockFiles as Files};
 ghost use Rattle.blk_disk.specs.Open.{IsOpen};

@@ -2,7 +2,7 @@
 ghost use Rattle.std.specs.Prelude.{◌≡◌, ℕ, IfOk, map};
 ghost use Rattle.std.specs.BTreeSet.{contains};
 ghost use Rattle.std.specs.Ordering.{nat_cmp};
-ghost use Rattle.blk_format.specs.BlockFiles.{is_among};
+ghost use Rattle.spec_format.specs.BlockFiles.{is_among};
 
 use blk_addr::{Addr, NoMemory};
 use blk_verdict::Loaded;

@@ -2,31 +2,31 @@
 use Rattle.std.proofs.Common.{◌≡◌, ℕ, zero, suc, ◌+◌, ◌<◌, List, [], ◌∷◌, ◌++◌, refl, ap, sym, ◌∙◌, subst, arith, length, replicate, Bool, true, false, Option, Some, None, set}
 use Rattle.std.specs.Prelude.{◌-◌, ◌&&◌}
 use Rattle.std.specs.Option.{ForSome}
-use Rattle.blk_image.specs.Image.{Image, AreBytes}
-use Rattle.blk_image.specs.Told.{Passes, Told}
-use Rattle.blk_image.proofs.Runs.{passes_then}
+use Rattle.spec_image.specs.Image.{Image, AreBytes}
+use Rattle.spec_image.specs.Told.{Passes, Told}
+use Rattle.spec_image.proofs.Runs.{passes_then}
 use Rattle.blk_model.specs.Bytes.{overwritten_and_cut}
-use Rattle.blk_kept.specs.CommandEnds.{after_write}
+use Rattle.law_state.specs.CommandEnds.{after_write}
 use Rattle.blk_model.specs.Holding.{rest}
 use Rattle.blk_model.specs.Items.{IsBytes, Item, is_sparse, main, part, plain, sparse, Row, main_row, part_row}
 use Rattle.blk_model.specs.Sizes.{signatures}
 use Rattle.blk_model.specs.State.{IsObject, IsValidState, Object, State, has_item, is_named, object_at}
 use Rattle.blk_model.proofs.States.{if_some_is}
 use Rattle.blk_model.proofs.Written.{state_changed}
-use Rattle.blk_format.specs.SparseIndex.{read_parent_index}
-use Rattle.blk_volume.specs.Entries.{IsParent, stream, IsPlain, IsPart, Role}
-use Rattle.blk_volume.specs.Layout.{Layout, rule_of}
-use Rattle.blk_volume.specs.View.{entry_at}
-use Rattle.blk_laws.proofs.states.Changing.{at-itself}
-use Rattle.blk_laws.proofs.states.Settling.{main-listed}
+use Rattle.spec_format.specs.SparseIndex.{read_parent_index}
+use Rattle.spec_folder.specs.Entries.{IsParent, stream, IsPlain, IsPart, Role}
+use Rattle.spec_folder.specs.Layout.{Layout, rule_of}
+use Rattle.spec_folder.specs.View.{entry_at}
+use Rattle.law_folder.proofs.states.Changing.{at-itself}
+use Rattle.law_folder.proofs.states.Settling.{main-listed}
 use Rattle.blk_stream.specs.Loading.{stored_streams_with}
 use Rattle.blk_stream.proofs.Joined.{IsTold, told_then}
-use Rattle.blk_kept.specs.Changes.{Finds}
-use Rattle.blk_kept.specs.Keeping.{KeepsUncounted}
-use Rattle.blk_kept.specs.ObjectLaws.{layout_after}
-use Rattle.blk_kept.specs.PartStates.{with_object}
-use Rattle.blk_kept.proofs.Dirtying.{set-at, set-else}
-use Rattle.blk_kept.proofs.Keeping.{kept-found}
+use Rattle.law_state.specs.Changes.{Finds}
+use Rattle.law_state.specs.Keeping.{KeepsUncounted}
+use Rattle.law_state.specs.ObjectLaws.{layout_after}
+use Rattle.law_state.specs.PartStates.{with_object}
+use Rattle.law_state.proofs.Dirtying.{set-at, set-else}
+use Rattle.law_state.proofs.Keeping.{kept-found}
 use Rattle.blk_object.specs.Writing.{ForEachUnsettled, IsToBeWritten, IsWrittenUncounted, node_of_object, with_written}
 use Rattle.blk_object.proofs.GoingNext.{then-counters}
 use Rattle.blk_object.proofs.MakingTaken.{session-then}
@@ -34,11 +34,11 @@ use Rattle.blk_object.proofs.OwnedCharges.{record-key}
 use Rattle.blk_sparse.specs.Beginning.{CanGetIndex, ForEachWithIndex, HasIndex, IsParentMarked, as_sparse, HasParentLength}
 use Rattle.blk_sparse.specs.SparseObjects.{CanBecomeSparse, ForEachPlain, KeepsParentThen, OthersLieAsBefore, with_signature}
 use Rattle.blk_sparse.proofs.OthersLie.{changed-others, others-of, others-then}
-use Rattle.blk_volume.specs.Found.{row_with}
+use Rattle.spec_folder.specs.Found.{row_with}
 use Rattle.blk_object.specs.Owning.{LoadsWith}
 use Rattle.blk_object.proofs.OwnedPlaces.{loaded-checks}
 use Rattle.blk_object.proofs.WrittenObjects.{object-row}
-use Rattle.blk_volume.specs.ListView.{put}
+use Rattle.spec_folder.specs.ListView.{put}
 use Rattle.blk_model.specs.Effects.{stream_after, stream_of}
 use Rattle.std.specs.declared.result.Result.{Result}
 use Rattle.blk_io.specs.declared.fault.Fault.{Fault}

@@ -9,8 +9,8 @@ use Rattle.std.specs.Bool.{passes}
 use Rattle.std.proofs.lemmas.Bool.{and_from, and_parts, cases_Bool, eqb-true}
 use Rattle.std.proofs.lemmas.Bool.Decides.{nat_tests}
 use Rattle.std.proofs.lemmas.List.Sums.{sum_by-set}
-use Rattle.blk_image.specs.Image.{Image}
-use Rattle.blk_image.proofs.Runs.{some_inj, passes_then}
+use Rattle.spec_image.specs.Image.{Image}
+use Rattle.spec_image.proofs.Runs.{some_inj, passes_then}
 use Rattle.blk_model.specs.Bytes.{overwritten}
 use Rattle.blk_model.specs.Effects.{stream_after}
 use Rattle.blk_model.specs.Holding.{rest}
@@ -21,23 +21,23 @@ use Rattle.blk_model.specs.State.{IsValidState, Object, State, is_named, object_
 use Rattle.blk_model.proofs.ByteLists.{overwritten_are}
 use Rattle.blk_model.proofs.Each.{some_within}
 use Rattle.blk_model.proofs.PartValues.{length-overwritten, part_after_is}
-use Rattle.blk_format.specs.Names.{Name, read_name}
-use Rattle.blk_format.specs.SparseIndex.{PartIndex, read_part_index}
-use Rattle.blk_volume.specs.Entries.{IsPart, Role, is_covered, part_role, stream}
-use Rattle.blk_volume.specs.Found.{row_of_loaded, row_with}
-use Rattle.blk_volume.specs.Layout.{Layout, rule_of}
-use Rattle.blk_volume.specs.Loads.{Loaded}
-use Rattle.blk_laws.proofs.states.Changing.{at-elsewhere, at-itself, same-place}
-use Rattle.blk_laws.proofs.states.Settling.{main-listed}
-use Rattle.blk_laws.proofs.walks.Loads.{load-then}
+use Rattle.spec_format.specs.Names.{Name, read_name}
+use Rattle.spec_format.specs.SparseIndex.{PartIndex, read_part_index}
+use Rattle.spec_folder.specs.Entries.{IsPart, Role, is_covered, part_role, stream}
+use Rattle.spec_folder.specs.Found.{row_of_loaded, row_with}
+use Rattle.spec_folder.specs.Layout.{Layout, rule_of}
+use Rattle.spec_folder.specs.Loads.{Loaded}
+use Rattle.law_folder.proofs.states.Changing.{at-elsewhere, at-itself, same-place}
+use Rattle.law_folder.proofs.states.Settling.{main-listed}
+use Rattle.law_folder.proofs.walks.Loads.{load-then}
 use Rattle.blk_ranges.specs.PartMaps.{presence_in}
 use Rattle.blk_stream.specs.Loading.{stored_streams_with}
-use Rattle.blk_kept.specs.Changes.{Finds}
-use Rattle.blk_kept.specs.Keeping.{KeepsUncounted}
-use Rattle.blk_kept.specs.ObjectLaws.{layout_after}
-use Rattle.blk_kept.specs.PartStates.{with_object, with_value}
-use Rattle.blk_kept.proofs.Dirtying.{set-at, set-else}
-use Rattle.blk_kept.proofs.Keeping.{kept-found}
+use Rattle.law_state.specs.Changes.{Finds}
+use Rattle.law_state.specs.Keeping.{KeepsUncounted}
+use Rattle.law_state.specs.ObjectLaws.{layout_after}
+use Rattle.law_state.specs.PartStates.{with_object, with_value}
+use Rattle.law_state.proofs.Dirtying.{set-at, set-else}
+use Rattle.law_state.proofs.Keeping.{kept-found}
 use Rattle.blk_object.specs.Writing.{IsPartToBeWritten, IsPartWrittenUncounted, ForEachPartUnsettled}
 use Rattle.blk_object.proofs.GoingNext.{then-counters}
 use Rattle.blk_object.proofs.MakingTaken.{session-then}
@@ -50,8 +50,8 @@ use Rattle.blk_sparse.proofs.FoundParts.{row-of-part}
 use Rattle.blk_sparse.proofs.OthersLie.{changed-others, others-of, others-then}
 use Rattle.blk_sparse.proofs.PartRoles.{covered-from, covered-more}
 use Rattle.blk_sparse.proofs.PartValid.{its-value, value-here, value-twice, value-valid}
-use Rattle.blk_volume.specs.View.{store_of}
-use Rattle.blk_image.specs.Told.{Told, Passes}
+use Rattle.spec_folder.specs.View.{store_of}
+use Rattle.spec_image.specs.Told.{Told, Passes}
 use Rattle.blk_stream.proofs.Joined.{IsTold, told_then}
 use Rattle.blk_io.specs.declared.fault.Fault.{Fault}
 use Rattle.blk_io.specs.Faults.{IfDamaged}

@@ -1,9 +1,9 @@
 -- A part that got a piece is used.
 use Rattle.std.proofs.Common.{◌≡◌, inl, inr, ℕ, ◌+◌, List, [], length, refl, sym, ◌∙◌, subst, Option, Some, None, Result, ap}
 use Rattle.std.specs.Option.{ForSome}
-use Rattle.blk_image.specs.Image.{Image}
-use Rattle.blk_image.specs.Told.{Passes, Told}
-use Rattle.blk_image.proofs.Runs.{passes_then, passes_weaker}
+use Rattle.spec_image.specs.Image.{Image}
+use Rattle.spec_image.specs.Told.{Passes, Told}
+use Rattle.spec_image.proofs.Runs.{passes_then, passes_weaker}
 use Rattle.blk_io.specs.declared.fault.Fault.{Fault}
 use Rattle.blk_io.specs.Faults.{IfDamaged}
 use Rattle.blk_io.proofs.Carried.{if_damaged_weaker}
@@ -11,16 +11,16 @@ use Rattle.blk_model.specs.Effects.{used}
 use Rattle.blk_model.specs.Holding.{rest}
 use Rattle.blk_model.specs.Items.{Item, Row, part}
 use Rattle.blk_model.specs.State.{Object, State}
-use Rattle.blk_format.specs.Names.{Name}
-use Rattle.blk_format.specs.SparseIndex.{PartIndex, read_part_index}
-use Rattle.blk_volume.specs.Entries.{IsPart}
-use Rattle.blk_volume.specs.Layout.{IsPartAt, Layout}
-use Rattle.blk_volume.specs.Loads.{Loaded}
+use Rattle.spec_format.specs.Names.{Name}
+use Rattle.spec_format.specs.SparseIndex.{PartIndex, read_part_index}
+use Rattle.spec_folder.specs.Entries.{IsPart}
+use Rattle.spec_folder.specs.Layout.{IsPartAt, Layout}
+use Rattle.spec_folder.specs.Loads.{Loaded}
 use Rattle.blk_stream.proofs.Joined.{IsTold, told_then}
-use Rattle.blk_kept.specs.Changes.{Finds}
-use Rattle.blk_kept.specs.ListLaws.{with_used}
-use Rattle.blk_kept.specs.PartStates.{with_object}
-use Rattle.blk_kept.proofs.Keeping.{kept-found}
+use Rattle.law_state.specs.Changes.{Finds}
+use Rattle.law_state.specs.ListLaws.{with_used}
+use Rattle.law_state.specs.PartStates.{with_object}
+use Rattle.law_state.proofs.Keeping.{kept-found}
 use Rattle.blk_object.specs.Owning.{LoadsWith}
 use Rattle.blk_object.proofs.GoingNext.{then-counters}
 use Rattle.blk_object.proofs.MakingTaken.{session-then}

@@ -3,16 +3,16 @@ use Rattle.std.proofs.Common.{◌≡◌, ℕ, ◌≤◌, ◌-◌, List, length, 
 use Rattle.std.specs.Int.{cast_unsigned, w64}
 use Rattle.std.specs.Option.{ForSome}
 use Rattle.std.specs.Prelude.{min}
-use Rattle.blk_image.specs.Image.{Image}
-use Rattle.blk_image.proofs.Runs.{some_inj}
+use Rattle.spec_image.specs.Image.{Image}
+use Rattle.spec_image.proofs.Runs.{some_inj}
 use Rattle.blk_model.specs.Items.{Item, item_of, main}
 use Rattle.blk_model.specs.State.{IsObject, Object, State, object_at}
-use Rattle.blk_format.specs.SparseIndex.{ParentIndex}
-use Rattle.blk_volume.specs.Entries.{IsParent, Role}
-use Rattle.blk_volume.specs.Found.{row_of_loaded, row_with}
-use Rattle.blk_volume.specs.Layout.{IsPlacedAt, Layout}
-use Rattle.blk_volume.specs.Loads.{Loaded}
-use Rattle.blk_laws.proofs.states.Laid.{item-row}
+use Rattle.spec_format.specs.SparseIndex.{ParentIndex}
+use Rattle.spec_folder.specs.Entries.{IsParent, Role}
+use Rattle.spec_folder.specs.Found.{row_of_loaded, row_with}
+use Rattle.spec_folder.specs.Layout.{IsPlacedAt, Layout}
+use Rattle.spec_folder.specs.Loads.{Loaded}
+use Rattle.law_folder.proofs.states.Laid.{item-row}
 use Rattle.blk_entry.specs.Keys.{IsPiece, key_at}
 use Rattle.blk_object.proofs.PartNames.{key-there}
 use Rattle.blk_sparse.specs.Children.{HasParentKey, IsParentOut}

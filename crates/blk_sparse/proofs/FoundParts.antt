@@ -2,19 +2,19 @@
 use Rattle.std.proofs.Common.{◌≡◌, ℕ, List, refl, ap, sym, ◌∙◌, subst, true, false, Option, Some, None}
 use Rattle.std.specs.Prelude.{is_some}
 use Rattle.std.specs.Option.{option_and_then, option_map}
-use Rattle.blk_image.specs.Image.{Image}
-use Rattle.blk_image.proofs.Runs.{some_inj}
+use Rattle.spec_image.specs.Image.{Image}
+use Rattle.spec_image.proofs.Runs.{some_inj}
 use Rattle.blk_model.specs.Holding as model
 use Rattle.blk_model.specs.Items.{Item, PartValue, Row, part, part_row}
 use Rattle.blk_model.specs.State.{IsValidState, Object, State, object_at, part_at}
-use Rattle.blk_format.specs.Names.{child_name, read_name}
-use Rattle.blk_volume.specs.Found.{row_of_loaded}
-use Rattle.blk_volume.specs.Layout.{IsPlacedAt, Layout, is_listed}
-use Rattle.blk_laws.proofs.claims.Owner.{IsOwned, owned, same_owner}
-use Rattle.blk_laws.proofs.states.Settling.{main-owned}
+use Rattle.spec_format.specs.Names.{child_name, read_name}
+use Rattle.spec_folder.specs.Found.{row_of_loaded}
+use Rattle.spec_folder.specs.Layout.{IsPlacedAt, Layout, is_listed}
+use Rattle.law_folder.proofs.claims.Owner.{IsOwned, owned, same_owner}
+use Rattle.law_folder.proofs.states.Settling.{main-owned}
 use Rattle.blk_chain.specs.declared.found.Found.{Found}
 use Rattle.blk_chain.specs.Finding.{CanBeSearched, IsAnswer}
-use Rattle.blk_kept.proofs.PartlyOut.{kept-begin}
+use Rattle.law_state.proofs.PartlyOut.{kept-begin}
 use Rattle.blk_object.proofs.FoundLeft.{can-search, listed-found, named-listed}
 use Rattle.blk_object.proofs.PartsFound.{names-are-theirs}
 use Rattle.blk_object.proofs.WrittenParts.{part-listed}

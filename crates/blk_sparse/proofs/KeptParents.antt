@@ -1,16 +1,16 @@
 -- The parent of an object that a state keeps has the object's key.
 use Rattle.std.proofs.Common.{◌≡◌, ◌≤◌, ℕ, List, take, ap, sym, ◌∙◌, subst, true}
 use Rattle.std.proofs.lemmas.List.{take-take}
-use Rattle.blk_image.specs.Image.{Image}
-use Rattle.blk_image.proofs.Runs.{some_inj}
+use Rattle.spec_image.specs.Image.{Image}
+use Rattle.spec_image.proofs.Runs.{some_inj}
 use Rattle.blk_model.specs.Items.{item_of, main}
 use Rattle.blk_model.specs.State.{IsObject, Object, State, object_at}
-use Rattle.blk_volume.specs.Entries.{Role}
-use Rattle.blk_volume.specs.Found.{row_of_loaded, row_with}
-use Rattle.blk_volume.specs.Layout.{IsPlacedAt, Layout, rule_of}
-use Rattle.blk_volume.specs.Loads.{Loaded}
-use Rattle.blk_laws.proofs.states.Laid.{item-row}
-use Rattle.blk_laws.proofs.states.Settling.{main-listed}
+use Rattle.spec_folder.specs.Entries.{Role}
+use Rattle.spec_folder.specs.Found.{row_of_loaded, row_with}
+use Rattle.spec_folder.specs.Layout.{IsPlacedAt, Layout, rule_of}
+use Rattle.spec_folder.specs.Loads.{Loaded}
+use Rattle.law_folder.proofs.states.Laid.{item-row}
+use Rattle.law_folder.proofs.states.Settling.{main-listed}
 use Rattle.blk_sparse.specs.Children.{HasParentKey}
 use Rattle.blk_sparse.specs.SparseObjects.{KeepsParent}
 use Rattle.blk_sparse.proofs.ChildrenOut.{main-key}

@@ -3,16 +3,16 @@ use Rattle.std.proofs.Common.{◌≡◌, ℕ, List, map, length, take, refl, ap,
 use Rattle.std.specs.Prelude.{◌-◌, ◌==◌, ◌&&◌}
 use Rattle.std.specs.Option.{ForSome, option_map}
 use Rattle.std.proofs.lemmas.Bool.{eqb-true}
-use Rattle.blk_image.specs.Image.{Image}
+use Rattle.spec_image.specs.Image.{Image}
 use Rattle.blk_model.specs.Items.{part}
 use Rattle.blk_model.specs.State.{Object, State}
-use Rattle.blk_format.specs.Names.{Name}
-use Rattle.blk_format.specs.SparseIndex.{PartIndex, read_part_index, is_index_head, is_partial}
-use Rattle.blk_volume.specs.Entries.{IsPart, stream}
-use Rattle.blk_volume.specs.Layout.{IsPartAt, Layout, rule_of}
-use Rattle.blk_volume.specs.Loads.{Loaded}
-use Rattle.blk_volume.specs.View.{store_of}
-use Rattle.blk_laws.proofs.walks.Loads.{load-then}
+use Rattle.spec_format.specs.Names.{Name}
+use Rattle.spec_format.specs.SparseIndex.{PartIndex, read_part_index, is_index_head, is_partial}
+use Rattle.spec_folder.specs.Entries.{IsPart, stream}
+use Rattle.spec_folder.specs.Layout.{IsPartAt, Layout, rule_of}
+use Rattle.spec_folder.specs.Loads.{Loaded}
+use Rattle.spec_folder.specs.View.{store_of}
+use Rattle.law_folder.proofs.walks.Loads.{load-then}
 use Rattle.blk_ranges.specs.PartMaps.{index_of}
 use Rattle.blk_ranges.specs.declared.part_map.PartMap.{PartMap}
 use Rattle.blk_object.specs.Owning.{LoadsWith}
@@ -23,9 +23,9 @@ use Rattle.blk_sparse.specs.Reading.{IsPartRead}
 use Rattle.blk_sparse.specs.SparseObjects.{HasPartAt, KeepsParent}
 use Rattle.blk_sparse.proofs.ChangedParts.{IsPartRow, part-says}
 use Rattle.blk_sparse.proofs.PartValid.{its-value}
-use Rattle.blk_image.specs.Bytes.{content}
+use Rattle.spec_image.specs.Bytes.{content}
 use Rattle.blk_entry.specs.Keys.{IsPiece}
-use Rattle.blk_image.proofs.Runs.{some_inj}
+use Rattle.spec_image.proofs.Runs.{some_inj}
 use Rattle.std.proofs.lemmas.Option.{cond_some}
 use Rattle.blk_stream.specs.Streams.{streams_at}
 use Rattle.blk_sparse.proofs.ParentsRead.{streams-there}

@@ -4,24 +4,24 @@ use Rattle.std.proofs.Common.{◌≡◌, ℕ, ◌+◌, ◌-◌, ◌*◌, ◌/◌
 use Rattle.std.proofs.lemmas.List.{take-take}
 use Rattle.std.specs.Prelude.{IfSome, if◌then◌else◌, is_some, max, slice_index, sum_by, unwrap_or}
 use Rattle.std.specs.Option.{option_and_then, option_map, option_map_or}
-use Rattle.blk_image.specs.Image.{Image}
-use Rattle.blk_image.proofs.Runs.{some_inj}
+use Rattle.spec_image.specs.Image.{Image}
+use Rattle.spec_image.proofs.Runs.{some_inj}
 use Rattle.blk_model.specs.Charge.{part_charge, part_name}
 use Rattle.blk_model.specs.Items.{PartValue, Row, Shape, is_sparse, main, main_row, part, part_row, plain, signature_of, sparse}
 use Rattle.blk_model.specs.Sparse.{covered_parts, empty_part}
 use Rattle.blk_model.specs.State.{IsObject, Object, State, object_at, part_at}
 use Rattle.blk_model.specs.Totals.{row_charge, signature_for}
-use Rattle.blk_format.specs.Names.{Name, child_name}
-use Rattle.blk_format.specs.SparseIndex.{PartIndex}
-use Rattle.blk_volume.specs.Entries.{IsParent, IsPart, IsPlain, Role, stream}
-use Rattle.blk_volume.specs.Found.{charge_of, row_of_loaded, row_with}
-use Rattle.blk_volume.specs.Layout.{Layout, rule_of}
-use Rattle.blk_volume.specs.Loads.{Loaded}
-use Rattle.blk_volume.specs.View.{RecordFields, data_size_of, entry_at, fields_of, store_of, view_of}
-use Rattle.blk_laws.proofs.chains.ChainWords.{shown-fields}
-use Rattle.blk_laws.proofs.states.Charges.{items-charged, part-names}
-use Rattle.blk_laws.proofs.states.Settling.{main-owned}
-use Rattle.blk_laws.proofs.walks.Loads.{load-then}
+use Rattle.spec_format.specs.Names.{Name, child_name}
+use Rattle.spec_format.specs.SparseIndex.{PartIndex}
+use Rattle.spec_folder.specs.Entries.{IsParent, IsPart, IsPlain, Role, stream}
+use Rattle.spec_folder.specs.Found.{charge_of, row_of_loaded, row_with}
+use Rattle.spec_folder.specs.Layout.{Layout, rule_of}
+use Rattle.spec_folder.specs.Loads.{Loaded}
+use Rattle.spec_folder.specs.View.{RecordFields, data_size_of, entry_at, fields_of, store_of, view_of}
+use Rattle.law_folder.proofs.chains.ChainWords.{shown-fields}
+use Rattle.law_folder.proofs.states.Charges.{items-charged, part-names}
+use Rattle.law_folder.proofs.states.Settling.{main-owned}
+use Rattle.law_folder.proofs.walks.Loads.{load-then}
 use Rattle.blk_entry.specs.declared.keys.Head.{Head}
 use Rattle.blk_entry.specs.Keys.{IsRecordHead}
 use Rattle.blk_object.specs.Owning.{LoadsWith}

@@ -3,17 +3,17 @@ use Rattle.std.proofs.Common.{◌≡◌, ℕ, ◌+◌, ◌<◌, List, length, se
 use Rattle.std.specs.Prelude.{if◌then◌else◌}
 use Rattle.std.specs.List.{count_by, sum_by}
 use Rattle.std.proofs.lemmas.List.Sums.{sum_by-set}
-use Rattle.blk_image.specs.Image.{Image}
+use Rattle.spec_image.specs.Image.{Image}
 use Rattle.blk_model.specs.Room.{items, total}
 use Rattle.blk_model.specs.State.{Object, State, object_at}
 use Rattle.blk_model.specs.Totals.{doomed_charge, is_doomed_slot}
 use Rattle.blk_model.proofs.Each.{some_within}
 use Rattle.blk_model.proofs.Sums.{totals_are_sums}
-use Rattle.blk_volume.specs.Found.{charge_of}
-use Rattle.blk_volume.specs.Layout.{Layout}
-use Rattle.blk_laws.proofs.states.Charges.{listed-totals}
-use Rattle.blk_laws.proofs.states.Standing.{kept-at}
-use Rattle.blk_kept.specs.Keeping.{KeepsUncounted}
+use Rattle.spec_folder.specs.Found.{charge_of}
+use Rattle.spec_folder.specs.Layout.{Layout}
+use Rattle.law_folder.proofs.states.Charges.{listed-totals}
+use Rattle.law_folder.proofs.states.Standing.{kept-at}
+use Rattle.law_state.specs.Keeping.{KeepsUncounted}
 use Rattle.blk_object.specs.Counters.{AreMoreItems, charges}
 use Rattle.blk_object.proofs.MakingRoom.{rows-long}
 

@@ -5,26 +5,26 @@ use Rattle.std.specs.Option.{option_and_then}
 use Rattle.std.proofs.lemmas.Bool.{and_parts, cases_Bool, eqb-true}
 use Rattle.std.proofs.lemmas.Bool.Decides.{nat_tests}
 use Rattle.std.proofs.lemmas.Option.{cond_some, option_and_then_some}
-use Rattle.blk_image.specs.Bytes.{content, long_at, word_at}
-use Rattle.blk_image.specs.Footprint.{SameOutside}
-use Rattle.blk_image.specs.Image.{Image, byte}
-use Rattle.blk_image.proofs.Runs.{some_inj}
-use Rattle.blk_image.proofs.Words.{content-range}
+use Rattle.spec_image.specs.Bytes.{content, long_at, word_at}
+use Rattle.spec_image.specs.Footprint.{SameOutside}
+use Rattle.spec_image.specs.Image.{Image, byte}
+use Rattle.spec_image.proofs.Runs.{some_inj}
+use Rattle.spec_image.proofs.Words.{content-range}
 use Rattle.blk_model.specs.Bytes.{overwritten}
 use Rattle.blk_model.specs.Effects.{stream_after}
-use Rattle.blk_format.specs.Address.{blocks_256, external, kind_of}
-use Rattle.blk_format.specs.Claims.{claims_of, has_claim, repeats}
-use Rattle.blk_format.specs.Records.{entry_checks}
-use Rattle.blk_format.specs.Sealed.{RecordChecks}
-use Rattle.blk_format.specs.SparseIndex.{ParentIndex, is_index_head, last_block_len_of, map_bit, minus_one, parent_key_len_of, read_parent_index}
-use Rattle.blk_volume.specs.Entries.{IsParent, IsPart, IsPlain, Role, parent_role, part_role, role_of, stored_stream, stored_streams, stream}
-use Rattle.blk_volume.specs.Footprint.{SameStore}
-use Rattle.blk_volume.specs.Layout.{Layout, rule_of}
-use Rattle.blk_volume.specs.Loads.{Loaded, all_claims, load}
-use Rattle.blk_volume.specs.View.{RecordFields, entry_at, fields_of, store_of, stored_at}
-use Rattle.blk_laws.proofs.chains.ChainWords.{shown-fields}
-use Rattle.blk_laws.proofs.updates.StillShown.{standing-parts}
-use Rattle.blk_laws.proofs.walks.Loads.{load-then}
+use Rattle.spec_format.specs.Address.{blocks_256, external, kind_of}
+use Rattle.spec_format.specs.Claims.{claims_of, has_claim, repeats}
+use Rattle.spec_format.specs.Records.{entry_checks}
+use Rattle.spec_format.specs.Sealed.{RecordChecks}
+use Rattle.spec_format.specs.SparseIndex.{ParentIndex, is_index_head, last_block_len_of, map_bit, minus_one, parent_key_len_of, read_parent_index}
+use Rattle.spec_folder.specs.Entries.{IsParent, IsPart, IsPlain, Role, parent_role, part_role, role_of, stored_stream, stored_streams, stream}
+use Rattle.spec_folder.specs.Footprint.{SameStore}
+use Rattle.spec_folder.specs.Layout.{Layout, rule_of}
+use Rattle.spec_folder.specs.Loads.{Loaded, all_claims, load}
+use Rattle.spec_folder.specs.View.{RecordFields, entry_at, fields_of, store_of, stored_at}
+use Rattle.law_folder.proofs.chains.ChainWords.{shown-fields}
+use Rattle.law_folder.proofs.updates.StillShown.{standing-parts}
+use Rattle.law_folder.proofs.walks.Loads.{load-then}
 use Rattle.blk_ranges.specs.ParentMaps.{has_part_bit, with_part, with_part_bit}
 use Rattle.blk_ranges.proofs.ParentIndexes.{adds-a-part}
 use Rattle.blk_disk.specs.declared.tables.BlockFiles.{BlockFiles}
@@ -37,7 +37,7 @@ use Rattle.blk_stream.proofs.InsideData.{moved_data}
 use Rattle.blk_stream.proofs.Naming.{apart_place}
 use Rattle.blk_stream.proofs.StreamLists.{stored_there}
 use Rattle.blk_stream.proofs.StreamPlaces.{IsStream, may_parts, stream_facts}
-use Rattle.blk_kept.proofs.Free.{standing-loaded}
+use Rattle.law_state.proofs.Free.{standing-loaded}
 use Rattle.blk_object.proofs.WrittenRoles.{part-of}
 use Rattle.blk_sparse.specs.NewParts.{HasBitNow, HasIndexPlace, IsBitNoted, index_with_bit, place_of_bit, with_noted}
 use Rattle.blk_sparse.proofs.NewSeen.{load-noted}

@@ -5,20 +5,20 @@ use Rattle.std.specs.Int.{cast_signed, cast_unsigned, w64}
 use Rattle.std.proofs.lemmas.Int.{of_z-to_z}
 use Rattle.std.proofs.lemmas.List.Elements.{All-cons, All-nil}
 use Rattle.std.specs.Option.{ForSome, option_map}
-use Rattle.blk_image.specs.Bytes.{content, range_at}
-use Rattle.blk_image.specs.Footprint.{SameOutside}
-use Rattle.blk_image.specs.Image.{Image, length_of}
-use Rattle.blk_image.specs.Steps.{after}
-use Rattle.blk_image.specs.Told.{Applies, Passes, Told}
-use Rattle.blk_image.proofs.Runs.{passes_end, passes_none, passes_weaker, some_inj}
+use Rattle.spec_image.specs.Bytes.{content, range_at}
+use Rattle.spec_image.specs.Footprint.{SameOutside}
+use Rattle.spec_image.specs.Image.{Image, length_of}
+use Rattle.spec_image.specs.Steps.{after}
+use Rattle.spec_image.specs.Told.{Applies, Passes, Told}
+use Rattle.spec_image.proofs.Runs.{passes_end, passes_none, passes_weaker, some_inj}
 use Rattle.blk_model.specs.Items.{Presence}
 use Rattle.blk_model.specs.Sizes.{signatures}
 use Rattle.blk_model.specs.Sparse.{empty_part, presence_after}
-use Rattle.blk_format.specs.Address.{blocks_256, kind_of}
-use Rattle.blk_format.specs.Sealed.{AreChanges, IsUpdated, seal_place}
-use Rattle.blk_format.specs.SparseIndex.{read_part_index}
-use Rattle.blk_laws.proofs.lists.WordTurns.{each}
-use Rattle.blk_laws.proofs.updates.Updates.{entry-seal}
+use Rattle.spec_format.specs.Address.{blocks_256, kind_of}
+use Rattle.spec_format.specs.Sealed.{AreChanges, IsUpdated, seal_place}
+use Rattle.spec_format.specs.SparseIndex.{read_part_index}
+use Rattle.law_folder.proofs.lists.WordTurns.{each}
+use Rattle.law_folder.proofs.updates.Updates.{entry-seal}
 use Rattle.blk_disk.specs.declared.tables.BlockFiles.{BlockFiles}
 use Rattle.blk_disk.specs.Open.{IsOpen}
 use Rattle.blk_disk.specs.Tables.{Agrees, stands_among}

@@ -3,53 +3,53 @@ use Rattle.std.proofs.Common.{◌≡◌, ◌≢◌, ◌⊎◌, inl, inr, ⊎_eli
 use Rattle.std.specs.Prelude.{◌==◌, ◌&&◌, ◌||◌, filter, not, slice_index}
 use Rattle.std.proofs.lemmas.Bool.{and_parts, cases_Bool, eq-eqb, eqb-true, or_left, or_right}
 use Rattle.std.proofs.lemmas.Bool.Decides.{nat_tests}
-use Rattle.blk_image.specs.Footprint.{Footprint, SameOutside, range}
-use Rattle.blk_image.specs.Image.{Block, Image, Index, byte, length_of}
-use Rattle.blk_image.proofs.Footprints.{outside-refl}
-use Rattle.blk_image.proofs.Runs.{some_inj}
+use Rattle.spec_image.specs.Footprint.{Footprint, SameOutside, range}
+use Rattle.spec_image.specs.Image.{Block, Image, Index, byte, length_of}
+use Rattle.spec_image.proofs.Footprints.{outside-refl}
+use Rattle.spec_image.proofs.Runs.{some_inj}
 use Rattle.blk_model.specs.Holding.{rest}
 use Rattle.blk_model.specs.Items.{Row, main, part}
 use Rattle.blk_model.specs.State.{Object, State}
-use Rattle.blk_format.specs.Address.{byte_size, external, file_selector, is_address, kind_of, place}
-use Rattle.blk_format.specs.BlockFiles.{is_among, stands_in, stands_in_blocks}
-use Rattle.blk_format.specs.Claims.{Claim, claims_of, has_claim, repeats}
-use Rattle.blk_format.specs.Hash.{hash}
-use Rattle.blk_format.specs.Headers.{table_length}
-use Rattle.blk_format.specs.Records.{entry_is_sealed, entry_normal, node_is_sealed}
-use Rattle.blk_format.specs.SparseIndex.{ParentIndex}
-use Rattle.blk_format.specs.Standing.{stands}
-use Rattle.blk_format.specs.Storage.{is_storage, kind_for}
-use Rattle.blk_volume.specs.Chains.{bucket_of_hash}
-use Rattle.blk_volume.specs.Creation.{with_first}
-use Rattle.blk_volume.specs.Entries.{IsParent}
-use Rattle.blk_volume.specs.Footprint.{IsClear, SameBut}
-use Rattle.blk_volume.specs.Layout.{IsLayoutOf, IsListedRecord, IsPlacedAt, Layout, order, rule_of}
-use Rattle.blk_volume.specs.ListImages.{HasListAtRest}
-use Rattle.blk_volume.specs.ListView.{put}
-use Rattle.blk_volume.specs.Loads.{Loaded, all_claims, load, record_claims}
-use Rattle.blk_volume.specs.Sound.{AreSealed, words_of}
-use Rattle.blk_volume.specs.View.{entry_at, list_of, node_at, store_of, view_of}
-use Rattle.blk_laws.proofs.claims.BlockBytes.{storage_inside}
-use Rattle.blk_laws.proofs.claims.ByteChanges.{agreeing-views, entry-same, node-same}
-use Rattle.blk_laws.proofs.claims.ClaimLists.{claim-append}
-use Rattle.blk_laws.proofs.claims.Outside.{index-claims, list-outside}
-use Rattle.blk_laws.proofs.states.Changing.{at-elsewhere, at-itself}
-use Rattle.blk_laws.proofs.states.Laid.{IsNodeOf, node-of}
-use Rattle.blk_laws.proofs.walks.Shown.{node-is}
+use Rattle.spec_format.specs.Address.{byte_size, external, file_selector, is_address, kind_of, place}
+use Rattle.spec_format.specs.BlockFiles.{is_among, stands_in, stands_in_blocks}
+use Rattle.spec_format.specs.Claims.{Claim, claims_of, has_claim, repeats}
+use Rattle.spec_format.specs.Hash.{hash}
+use Rattle.spec_format.specs.Headers.{table_length}
+use Rattle.spec_format.specs.Records.{entry_is_sealed, entry_normal, node_is_sealed}
+use Rattle.spec_format.specs.SparseIndex.{ParentIndex}
+use Rattle.spec_format.specs.Standing.{stands}
+use Rattle.spec_format.specs.Storage.{is_storage, kind_for}
+use Rattle.spec_folder.specs.Chains.{bucket_of_hash}
+use Rattle.spec_folder.specs.Creation.{with_first}
+use Rattle.spec_folder.specs.Entries.{IsParent}
+use Rattle.spec_folder.specs.Footprint.{IsClear, SameBut}
+use Rattle.spec_folder.specs.Layout.{IsLayoutOf, IsListedRecord, IsPlacedAt, Layout, order, rule_of}
+use Rattle.spec_folder.specs.ListImages.{HasListAtRest}
+use Rattle.spec_folder.specs.ListView.{put}
+use Rattle.spec_folder.specs.Loads.{Loaded, all_claims, load, record_claims}
+use Rattle.spec_folder.specs.Sound.{AreSealed, words_of}
+use Rattle.spec_folder.specs.View.{entry_at, list_of, node_at, store_of, view_of}
+use Rattle.law_folder.proofs.claims.BlockBytes.{storage_inside}
+use Rattle.law_folder.proofs.claims.ByteChanges.{agreeing-views, entry-same, node-same}
+use Rattle.law_folder.proofs.claims.ClaimLists.{claim-append}
+use Rattle.law_folder.proofs.claims.Outside.{index-claims, list-outside}
+use Rattle.law_folder.proofs.states.Changing.{at-elsewhere, at-itself}
+use Rattle.law_folder.proofs.states.Laid.{IsNodeOf, node-of}
+use Rattle.law_folder.proofs.walks.Shown.{node-is}
 use Rattle.blk_disk.specs.declared.tables.BlockFiles.{BlockFiles}
 use Rattle.blk_disk.specs.Tables.{Agrees, stands_among}
 use Rattle.blk_disk.proofs.Ranges.{stands_agree}
 use Rattle.blk_entry.specs.Keys.{data_file, data_range, data_start, stores}
 use Rattle.blk_stream.specs.Streams.{address_word}
-use Rattle.blk_kept.specs.Changes.{ChangesOnly, Finds, SameCounters, SameSession}
-use Rattle.blk_kept.specs.Keeping.{KeepsUncounted}
-use Rattle.blk_kept.specs.NewPartLaws.{IsOfParent, with_new_part}
-use Rattle.blk_kept.specs.NewPartsKept.{IsMakingPart, IsPartMade, KeepsUnsettled}
-use Rattle.blk_kept.proofs.Free.{standing-loaded}
-use Rattle.blk_kept.proofs.Leaving.{leaves-then}
-use Rattle.blk_kept.proofs.NewParts as parts
-use Rattle.blk_kept.proofs.NewPartsKept.{making-finds, parts-kept}
-use Rattle.blk_kept.proofs.Writes.{block-writes}
+use Rattle.law_state.specs.Changes.{ChangesOnly, Finds, SameCounters, SameSession}
+use Rattle.law_state.specs.Keeping.{KeepsUncounted}
+use Rattle.law_state.specs.NewPartLaws.{IsOfParent, with_new_part}
+use Rattle.law_state.specs.NewPartsKept.{IsMakingPart, IsPartMade, KeepsUnsettled}
+use Rattle.law_state.proofs.Free.{standing-loaded}
+use Rattle.law_state.proofs.Leaving.{leaves-then}
+use Rattle.law_state.proofs.NewParts as parts
+use Rattle.law_state.proofs.NewPartsKept.{making-finds, parts-kept}
+use Rattle.law_state.proofs.Writes.{block-writes}
 use Rattle.blk_object.proofs.MakingStored.{counters-then, index-counters}
 use Rattle.blk_object.proofs.MakingTaken.{session-then}
 use Rattle.blk_ranges.specs.ParentMaps.{has_part_bit}

@@ -4,62 +4,62 @@ use Rattle.std.specs.Prelude.{◌==◌, if◌then◌else◌, nat_lt}
 use Rattle.std.specs.Option.{ForSome, option_map}
 use Rattle.std.proofs.lemmas.Bool.{eqb-true}
 use Rattle.std.proofs.lemmas.Nat.{mod_below}
-use Rattle.blk_image.specs.Footprint.{SameOutside}
-use Rattle.blk_image.specs.Image.{Image}
-use Rattle.blk_image.specs.Steps.{after}
-use Rattle.blk_image.specs.Told.{Applies, Commits, Passes, TellsBytes, Told}
-use Rattle.blk_image.proofs.Footprints.{outside_wider, within_left}
-use Rattle.blk_image.proofs.Runs.{passes_end, passes_then, passes_weaker, some_inj}
+use Rattle.spec_image.specs.Footprint.{SameOutside}
+use Rattle.spec_image.specs.Image.{Image}
+use Rattle.spec_image.specs.Steps.{after}
+use Rattle.spec_image.specs.Told.{Applies, Commits, Passes, TellsBytes, Told}
+use Rattle.spec_image.proofs.Footprints.{outside_wider, within_left}
+use Rattle.spec_image.proofs.Runs.{passes_end, passes_then, passes_weaker, some_inj}
 use Rattle.blk_model.specs.Holding.{rest}
 use Rattle.blk_model.specs.Items.{Row, item_of, main, part}
 use Rattle.blk_model.specs.State.{Object, State}
-use Rattle.blk_format.specs.BlockFiles.{is_among}
-use Rattle.blk_format.specs.Hash.{hash}
-use Rattle.blk_format.specs.Names.{Name, read_name}
-use Rattle.blk_format.specs.Records.{child, entry_in, entry_is_sealed, entry_normal}
-use Rattle.blk_format.specs.Address.{blocks_256, place}
-use Rattle.blk_format.specs.Sealed.{record_range}
-use Rattle.blk_format.specs.SparseIndex.{PartIndex}
-use Rattle.blk_volume.specs.Chains.{bucket_at, bucket_of_hash, chain}
-use Rattle.blk_volume.specs.Completion.{insert}
-use Rattle.blk_volume.specs.Creation.{linked_front, with_first}
-use Rattle.blk_volume.specs.Entries.{IsParent, IsPart, IsPlain, Role, stored_key}
-use Rattle.blk_volume.specs.Footprint.{SameBut, SameStore}
-use Rattle.blk_volume.specs.Found.{row_of_loaded, row_with}
-use Rattle.blk_volume.specs.Layout.{IsPartAt, IsPlacedAt, Layout, Represents, is_listed, order, rule_of}
-use Rattle.blk_volume.specs.ListImages.{CanBeMade, HasListAtRest, operation_steps, walked}
-use Rattle.blk_volume.specs.ListPlans.{writes_of}
-use Rattle.blk_volume.specs.ListSteps.{IsPartly, touched_by_writes}
-use Rattle.blk_volume.specs.ListView.{CanBeInserted, IsList, ListView, ListWrite, put}
-use Rattle.blk_volume.specs.Loads.{Loaded, is_part_role, load, unchained_rule}
-use Rattle.blk_volume.specs.Searches.{HasKey, IsWholeChain, bucket_of_key}
-use Rattle.blk_volume.specs.ShownChanges.{ShowsTheSame}
-use Rattle.blk_volume.specs.Sound.{AreSealed, words_of}
-use Rattle.blk_volume.specs.View.{RecordFields, StoreView, View, list_of, stands_as, store_of, view_of}
-use Rattle.blk_laws.proofs.chains.ChainWords.{shown-fields}
-use Rattle.blk_laws.proofs.chains.Searches.{IsRecordAt, in-chain, searchable}
-use Rattle.blk_laws.proofs.claims.Outside.{load-outside, represents-outside}
-use Rattle.blk_laws.proofs.lists.WordTurns.{inserts-can}
-use Rattle.blk_laws.proofs.lists.WriteSteps.{checked-kind}
-use Rattle.blk_laws.proofs.states.Central.{walk-order}
-use Rattle.blk_laws.proofs.states.Laid.{IsNodeOf, item-row, node-of}
-use Rattle.blk_laws.proofs.states.Tidying.{counter-same, record-bytes, sealed-still, touch_range, touch_sizes, touch_spares}
-use Rattle.blk_laws.proofs.updates.StillShown.{core-standing}
-use Rattle.blk_laws.proofs.walks.Loads.{load-then}
-use Rattle.blk_laws.proofs.walks.Shown.{role-name, role-part}
+use Rattle.spec_format.specs.BlockFiles.{is_among}
+use Rattle.spec_format.specs.Hash.{hash}
+use Rattle.spec_format.specs.Names.{Name, read_name}
+use Rattle.spec_format.specs.Records.{child, entry_in, entry_is_sealed, entry_normal}
+use Rattle.spec_format.specs.Address.{blocks_256, place}
+use Rattle.spec_format.specs.Sealed.{record_range}
+use Rattle.spec_format.specs.SparseIndex.{PartIndex}
+use Rattle.spec_folder.specs.Chains.{bucket_at, bucket_of_hash, chain}
+use Rattle.spec_folder.specs.Completion.{insert}
+use Rattle.spec_folder.specs.Creation.{linked_front, with_first}
+use Rattle.spec_folder.specs.Entries.{IsParent, IsPart, IsPlain, Role, stored_key}
+use Rattle.spec_folder.specs.Footprint.{SameBut, SameStore}
+use Rattle.spec_folder.specs.Found.{row_of_loaded, row_with}
+use Rattle.spec_folder.specs.Layout.{IsPartAt, IsPlacedAt, Layout, Represents, is_listed, order, rule_of}
+use Rattle.spec_folder.specs.ListImages.{CanBeMade, HasListAtRest, operation_steps, walked}
+use Rattle.spec_folder.specs.ListPlans.{writes_of}
+use Rattle.spec_folder.specs.ListSteps.{IsPartly, touched_by_writes}
+use Rattle.spec_folder.specs.ListView.{CanBeInserted, IsList, ListView, ListWrite, put}
+use Rattle.spec_folder.specs.Loads.{Loaded, is_part_role, load, unchained_rule}
+use Rattle.spec_folder.specs.Searches.{HasKey, IsWholeChain, bucket_of_key}
+use Rattle.spec_folder.specs.ShownChanges.{ShowsTheSame}
+use Rattle.spec_folder.specs.Sound.{AreSealed, words_of}
+use Rattle.spec_folder.specs.View.{RecordFields, StoreView, View, list_of, stands_as, store_of, view_of}
+use Rattle.law_folder.proofs.chains.ChainWords.{shown-fields}
+use Rattle.law_folder.proofs.chains.Searches.{IsRecordAt, in-chain, searchable}
+use Rattle.law_folder.proofs.claims.Outside.{load-outside, represents-outside}
+use Rattle.law_folder.proofs.lists.WordTurns.{inserts-can}
+use Rattle.law_folder.proofs.lists.WriteSteps.{checked-kind}
+use Rattle.law_folder.proofs.states.Central.{walk-order}
+use Rattle.law_folder.proofs.states.Laid.{IsNodeOf, item-row, node-of}
+use Rattle.law_folder.proofs.states.Tidying.{counter-same, record-bytes, sealed-still, touch_range, touch_sizes, touch_spares}
+use Rattle.law_folder.proofs.updates.StillShown.{core-standing}
+use Rattle.law_folder.proofs.walks.Loads.{load-then}
+use Rattle.law_folder.proofs.walks.Shown.{role-name, role-part}
 use Rattle.blk_disk.specs.declared.tables.BlockFiles.{BlockFiles}
 use Rattle.blk_disk.specs.Open.{IsOpen}
 use Rattle.blk_lru.specs.Moments.{IsMidOperation}
 use Rattle.blk_chain.specs.Linking.{CanBeLinked, IsLinkedInFront}
-use Rattle.blk_kept.specs.Arranging.{LeavesFiles}
-use Rattle.blk_kept.specs.Changes.{Finds, SameCounters}
-use Rattle.blk_kept.specs.NewEntryLaws.{HasRecordInFront, IsInsertDone}
-use Rattle.blk_kept.specs.NewPartLaws.{IsMidPart, with_bit, with_new_part}
-use Rattle.blk_kept.specs.NewPartsKept.{IsMakingPart}
-use Rattle.blk_kept.proofs.Leaving.{leaves-files, leaves-then}
-use Rattle.blk_kept.proofs.NewEntries.{table-leaves, table-seals, table-word}
-use Rattle.blk_kept.proofs.NewParts as parts
-use Rattle.blk_kept.proofs.NewPartsKept.{making-finds, part-inserts-find}
+use Rattle.law_state.specs.Arranging.{LeavesFiles}
+use Rattle.law_state.specs.Changes.{Finds, SameCounters}
+use Rattle.law_state.specs.NewEntryLaws.{HasRecordInFront, IsInsertDone}
+use Rattle.law_state.specs.NewPartLaws.{IsMidPart, with_bit, with_new_part}
+use Rattle.law_state.specs.NewPartsKept.{IsMakingPart}
+use Rattle.law_state.proofs.Leaving.{leaves-files, leaves-then}
+use Rattle.law_state.proofs.NewEntries.{table-leaves, table-seals, table-word}
+use Rattle.law_state.proofs.NewParts as parts
+use Rattle.law_state.proofs.NewPartsKept.{making-finds, part-inserts-find}
 use Rattle.blk_object.proofs.KeptLists.{inserts-done}
 use Rattle.blk_object.proofs.KeptMarks.{come-in-front, in-front}
 use Rattle.blk_object.proofs.MakingListed.{told-at}

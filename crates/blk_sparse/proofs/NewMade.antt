@@ -10,7 +10,7 @@ use Rattle.std.proofs.lemmas.Bool.Decides.{nat_tests}
 use Rattle.std.proofs.lemmas.List.{length-map}
 use Rattle.std.proofs.lemmas.Nat.{mod_below}
 use Rattle.std.proofs.lemmas.Slice.Eq.{bytes_eq-Decides}
-use Rattle.blk_image.specs.Image.{Image}
+use Rattle.spec_image.specs.Image.{Image}
 use Rattle.blk_model.specs.Effects.{used}
 use Rattle.blk_model.specs.Holding.{rest}
 use Rattle.blk_model.specs.Items.{IsBytes, IsPartValue, Item, LiesInside, PartValue, Presence, Row, Shape, is_sparse, main, main_row, part, part_row, plain, same_item, sparse, times}
@@ -22,33 +22,33 @@ use Rattle.blk_model.proofs.PartValues.{empty_part_is, part_after_is}
 use Rattle.blk_model.proofs.Same.{same_item_self}
 use Rattle.blk_model.proofs.States.{if_some_is}
 use Rattle.blk_model.proofs.Times.{times-cons}
-use Rattle.blk_format.specs.Claims.{Claim, claims_of, claims_of_all, has_claim, repeats}
-use Rattle.blk_format.specs.Hash.{hash}
-use Rattle.blk_format.specs.Names.{Name, read_name}
-use Rattle.blk_format.specs.SparseIndex.{ParentIndex}
-use Rattle.blk_format.proofs.NameLemmas.{reads_names}
-use Rattle.blk_volume.specs.Chains.{bucket_of_hash}
-use Rattle.blk_volume.specs.Creation.{with_first}
-use Rattle.blk_volume.specs.Entries.{IsParent, IsPart, Role, part_role, stream}
-use Rattle.blk_volume.specs.Found.{row_of_loaded, row_with}
-use Rattle.blk_volume.specs.Audit.{is_parent_of}
-use Rattle.blk_volume.specs.Layout.{IsPartAt, Layout, OneChanged, is_in, is_listed}
-use Rattle.blk_volume.specs.Loads.{Loaded, all_claims}
-use Rattle.blk_volume.specs.Sound.{words_of}
-use Rattle.blk_volume.specs.View.{view_of}
-use Rattle.blk_laws.proofs.claims.Allocations.{flat_map-append, repeats-head, words-claims}
-use Rattle.blk_laws.proofs.claims.ClaimLists.{claim-append}
-use Rattle.blk_laws.proofs.states.Changing.{at-elsewhere, at-itself}
-use Rattle.blk_laws.proofs.states.Settling.{main-listed}
+use Rattle.spec_format.specs.Claims.{Claim, claims_of, claims_of_all, has_claim, repeats}
+use Rattle.spec_format.specs.Hash.{hash}
+use Rattle.spec_format.specs.Names.{Name, read_name}
+use Rattle.spec_format.specs.SparseIndex.{ParentIndex}
+use Rattle.spec_format.proofs.NameLemmas.{reads_names}
+use Rattle.spec_folder.specs.Chains.{bucket_of_hash}
+use Rattle.spec_folder.specs.Creation.{with_first}
+use Rattle.spec_folder.specs.Entries.{IsParent, IsPart, Role, part_role, stream}
+use Rattle.spec_folder.specs.Found.{row_of_loaded, row_with}
+use Rattle.spec_folder.specs.Audit.{is_parent_of}
+use Rattle.spec_folder.specs.Layout.{IsPartAt, Layout, OneChanged, is_in, is_listed}
+use Rattle.spec_folder.specs.Loads.{Loaded, all_claims}
+use Rattle.spec_folder.specs.Sound.{words_of}
+use Rattle.spec_folder.specs.View.{view_of}
+use Rattle.law_folder.proofs.claims.Allocations.{flat_map-append, repeats-head, words-claims}
+use Rattle.law_folder.proofs.claims.ClaimLists.{claim-append}
+use Rattle.law_folder.proofs.states.Changing.{at-elsewhere, at-itself}
+use Rattle.law_folder.proofs.states.Settling.{main-listed}
 use Rattle.blk_ranges.specs.declared.names.ChildName.{ChildName}
 use Rattle.blk_ranges.specs.PartMaps.{presence_in}
-use Rattle.blk_kept.specs.CommandStates.{IsUnsettled, amidst}
-use Rattle.blk_kept.specs.Keeping.{KeepsUncounted}
-use Rattle.blk_kept.specs.NewPartLaws.{IsPartWritten, with_bit}
-use Rattle.blk_kept.specs.PartStates.{with_object, with_value}
-use Rattle.blk_kept.proofs.NewParts.{noted-changes}
-use Rattle.blk_kept.proofs.NotAtRest.{own-uses, unsettled-rest}
-use Rattle.blk_kept.proofs.PartChanges.{new-parts-keep-valid, parts-change-alone}
+use Rattle.law_state.specs.CommandStates.{IsUnsettled, amidst}
+use Rattle.law_state.specs.Keeping.{KeepsUncounted}
+use Rattle.law_state.specs.NewPartLaws.{IsPartWritten, with_bit}
+use Rattle.law_state.specs.PartStates.{with_object, with_value}
+use Rattle.law_state.proofs.NewParts.{noted-changes}
+use Rattle.law_state.proofs.NotAtRest.{own-uses, unsettled-rest}
+use Rattle.law_state.proofs.PartChanges.{new-parts-keep-valid, parts-change-alone}
 use Rattle.blk_object.proofs.WrittenObjects.{IsRowOf, object-row}
 use Rattle.blk_stream.specs.Loading.{stored_streams_with}
 use Rattle.blk_sparse.specs.NewParts.{CanHavePart, IsFirstIndex, IsPartToBeListed, KeepsPart, index_with_bit, new_part, with_noted, words_of_part}

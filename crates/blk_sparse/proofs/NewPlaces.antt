@@ -4,22 +4,22 @@ use Rattle.std.specs.Prelude.{replicate, ◌==◌}
 use Rattle.std.specs.Option.{ForSome}
 use Rattle.std.proofs.lemmas.List.{length-replicate}
 use Rattle.std.proofs.lemmas.Bool.{eq-eqb, or_left, or_right}
-use Rattle.blk_image.specs.Image.{Image}
-use Rattle.blk_image.specs.Told.{Passes, Told}
-use Rattle.blk_image.proofs.Runs.{passes_then, passes_weaker}
+use Rattle.spec_image.specs.Image.{Image}
+use Rattle.spec_image.specs.Told.{Passes, Told}
+use Rattle.spec_image.proofs.Runs.{passes_then, passes_weaker}
 use Rattle.blk_model.specs.Bytes.{overwritten}
-use Rattle.blk_format.specs.BlockFiles.{is_among}
-use Rattle.blk_format.specs.Headers.{HasWholeIndex}
-use Rattle.blk_format.specs.Storage.{kind_for}
-use Rattle.blk_format.proofs.Among.{is_among-append}
-use Rattle.blk_format.proofs.Finished.{whole_index}
+use Rattle.spec_format.specs.BlockFiles.{is_among}
+use Rattle.spec_format.specs.Headers.{HasWholeIndex}
+use Rattle.spec_format.specs.Storage.{kind_for}
+use Rattle.spec_format.proofs.Among.{is_among-append}
+use Rattle.spec_format.proofs.Finished.{whole_index}
 use Rattle.blk_disk.specs.declared.tables.BlockFiles.{BlockFiles}
 use Rattle.blk_disk.specs.Open.{IsOpen}
 use Rattle.blk_stream.specs.Placing.{CanBePlaced}
 use Rattle.blk_stream.specs.Stages.{FillsByStage, IsFilled}
 use Rattle.blk_stream.proofs.Placed.{blocks_are}
-use Rattle.blk_kept.specs.Changes.{StillFinds}
-use Rattle.blk_kept.specs.Keeping.{KeepsUncounted}
+use Rattle.law_state.specs.Changes.{StillFinds}
+use Rattle.law_state.specs.Keeping.{KeepsUncounted}
 use Rattle.blk_object.specs.Making.{LeavesRoom, Takes}
 use Rattle.blk_object.proofs.MakingRoom.{counted-with-room, free-with-room}
 use Rattle.blk_object.proofs.MakingStored.{counters-then, stored-then}

@@ -1,18 +1,18 @@
 -- The record and the node of a new part are written at its places, whose words are unlinked.
 use Rattle.std.proofs.Common.{◌≡◌, ℕ, List, ◌++◌, length, Result, Ok, Err, OnOk, sym, subst}
 use Rattle.std.specs.Option.{ForSome}
-use Rattle.blk_image.specs.Image.{Image, Index}
-use Rattle.blk_image.specs.Told.{Passes, Told}
-use Rattle.blk_image.proofs.Runs.{passes_end, passes_weaker}
+use Rattle.spec_image.specs.Image.{Image, Index}
+use Rattle.spec_image.specs.Told.{Passes, Told}
+use Rattle.spec_image.proofs.Runs.{passes_end, passes_weaker}
 use Rattle.blk_disk.specs.declared.tables.BlockFiles.{BlockFiles}
 use Rattle.blk_disk.specs.Tables.{Agrees}
-use Rattle.blk_volume.specs.Searches.{bucket_of_key}
-use Rattle.blk_volume.specs.Sound.{words_of}
-use Rattle.blk_volume.specs.View.{store_of}
+use Rattle.spec_folder.specs.Searches.{bucket_of_key}
+use Rattle.spec_folder.specs.Sound.{words_of}
+use Rattle.spec_folder.specs.View.{store_of}
 use Rattle.blk_entry.specs.Writing.{AreWords, FitsKey, IsShownNew, IsWritten, WritesEntryInProgress, loaded_new}
-use Rattle.blk_kept.specs.Changes.{KeepsWith, StillFinds}
-use Rattle.blk_kept.proofs.Free.{then-found}
-use Rattle.blk_kept.specs.Keeping.{KeepsUncounted}
+use Rattle.law_state.specs.Changes.{KeepsWith, StillFinds}
+use Rattle.law_state.proofs.Free.{then-found}
+use Rattle.law_state.specs.Keeping.{KeepsUncounted}
 use Rattle.blk_object.proofs.KeptEntries.{change-own, places-spare, writing-keeps}
 use Rattle.blk_object.proofs.KeptNewEntries.{fresh, nobody}
 use Rattle.blk_object.specs.Making.{words_of_places}

@@ -9,10 +9,10 @@ use Rattle.std.proofs.lemmas.Bool.Decides.{nat_tests}
 use Rattle.blk_model.specs.Items.{LiesInside, Presence, part_row}
 use Rattle.blk_model.specs.Sizes.{part_size}
 use Rattle.blk_model.specs.Sparse.{empty_part, part_after, presence_after}
-use Rattle.blk_format.specs.Names.{Name, read_name}
-use Rattle.blk_format.specs.SparseIndex.{PartIndex, read_part_index}
-use Rattle.blk_volume.specs.Entries.{IsPart, is_covered, part_role}
-use Rattle.blk_volume.specs.Found.{row_with}
+use Rattle.spec_format.specs.Names.{Name, read_name}
+use Rattle.spec_format.specs.SparseIndex.{PartIndex, read_part_index}
+use Rattle.spec_folder.specs.Entries.{IsPart, is_covered, part_role}
+use Rattle.spec_folder.specs.Found.{row_with}
 use Rattle.blk_ranges.specs.PartMaps.{presence_in}
 
 -- ---- ranges

@@ -4,16 +4,16 @@ use Rattle.std.specs.Prelude.{◌==◌, ◌&&◌, nat_le, not, slice_index, if�
 use Rattle.std.specs.List.{flat_map}
 use Rattle.std.specs.Option.{option_and_then, option_map}
 use Rattle.std.proofs.lemmas.Bool.{cases_Bool, or_left}
-use Rattle.blk_image.specs.Image.{Image}
-use Rattle.blk_format.specs.BlockFiles.{is_among}
-use Rattle.blk_format.specs.Claims.{claims_of, has_claim, repeats}
-use Rattle.blk_volume.specs.Chains.{bucket_of_hash, chain}
-use Rattle.blk_volume.specs.Entries.{Role, most_stream_bytes, role_of, stored_key, stored_stream, stored_streams, stream}
-use Rattle.blk_volume.specs.Footprint.{IsClear, SameStore}
-use Rattle.blk_volume.specs.Loads.{Loaded, Rule, all_claims, load, record_claims}
-use Rattle.blk_volume.specs.View.{RecordFields, StoreView, address_of, data_size_of, store_of}
-use Rattle.blk_laws.proofs.walks.Loading.{load-from}
-use Rattle.blk_laws.proofs.walks.Loads.{load-then}
+use Rattle.spec_image.specs.Image.{Image}
+use Rattle.spec_format.specs.BlockFiles.{is_among}
+use Rattle.spec_format.specs.Claims.{claims_of, has_claim, repeats}
+use Rattle.spec_folder.specs.Chains.{bucket_of_hash, chain}
+use Rattle.spec_folder.specs.Entries.{Role, most_stream_bytes, role_of, stored_key, stored_stream, stored_streams, stream}
+use Rattle.spec_folder.specs.Footprint.{IsClear, SameStore}
+use Rattle.spec_folder.specs.Loads.{Loaded, Rule, all_claims, load, record_claims}
+use Rattle.spec_folder.specs.View.{RecordFields, StoreView, address_of, data_size_of, store_of}
+use Rattle.law_folder.proofs.walks.Loading.{load-from}
+use Rattle.law_folder.proofs.walks.Loads.{load-then}
 use Rattle.blk_stream.specs.Loading.{stored_streams_with}
 use Rattle.blk_stream.proofs.StreamPlaces.{streams_parts}
 use Rattle.blk_object.proofs.WrittenItems.{both-claimed}

@@ -3,23 +3,23 @@ use Rattle.std.proofs.Common.{◌≡◌, Result, ℕ, ◌+◌, ◌<◌, ◌≤�
 use Rattle.std.specs.Prelude.{is_some, unwrap_or}
 use Rattle.std.specs.Int.{cast_unsigned, w64}
 use Rattle.std.specs.Option.{ForSome}
-use Rattle.blk_image.specs.Image.{AreBytes, Image}
-use Rattle.blk_image.specs.Told.{Passes, Told}
-use Rattle.blk_image.proofs.Runs.{passes_then, passes_weaker, some_inj}
+use Rattle.spec_image.specs.Image.{AreBytes, Image}
+use Rattle.spec_image.specs.Told.{Passes, Told}
+use Rattle.spec_image.proofs.Runs.{passes_then, passes_weaker, some_inj}
 use Rattle.blk_model.specs.Bytes.{overwritten}
 use Rattle.blk_model.specs.Holding.{rest}
 use Rattle.blk_model.specs.Items.{IsBytes, PartValue, main}
 use Rattle.blk_model.specs.Sizes.{part_count, part_size, signatures}
 use Rattle.blk_model.specs.Sparse.{empty_part, part_after}
 use Rattle.blk_model.specs.State.{Object, State, object_at, part_at}
-use Rattle.blk_format.specs.SparseIndex.{part_index_length}
-use Rattle.blk_volume.specs.Entries.{Role}
-use Rattle.blk_volume.specs.Layout.{Layout}
-use Rattle.blk_volume.specs.ListView.{put}
-use Rattle.blk_volume.specs.Loads.{Loaded}
-use Rattle.blk_volume.specs.View.{view_of}
-use Rattle.blk_laws.proofs.chains.ChainWords.{record_checks}
-use Rattle.blk_laws.proofs.states.Changing.{at-elsewhere, at-itself}
+use Rattle.spec_format.specs.SparseIndex.{part_index_length}
+use Rattle.spec_folder.specs.Entries.{Role}
+use Rattle.spec_folder.specs.Layout.{Layout}
+use Rattle.spec_folder.specs.ListView.{put}
+use Rattle.spec_folder.specs.Loads.{Loaded}
+use Rattle.spec_folder.specs.View.{view_of}
+use Rattle.law_folder.proofs.chains.ChainWords.{record_checks}
+use Rattle.law_folder.proofs.states.Changing.{at-elsewhere, at-itself}
 use Rattle.blk_ranges.specs.declared.names.ChildName.{ChildName}
 use Rattle.blk_ranges.specs.ParentMaps.{with_part}
 use Rattle.blk_disk.specs.declared.tables.BlockFiles.{BlockFiles}
@@ -28,13 +28,13 @@ use Rattle.blk_io.specs.declared.fault.Fault.{Fault}
 use Rattle.blk_io.specs.Faults.{IfDamaged}
 use Rattle.blk_io.proofs.Carried.{if_damaged_weaker}
 use Rattle.blk_object.proofs.MakingListed.{told-at}
-use Rattle.blk_kept.specs.Changes.{Finds, StillFinds}
-use Rattle.blk_kept.specs.Keeping.{KeepsUncounted}
-use Rattle.blk_kept.specs.NewPartLaws.{with_new_part}
-use Rattle.blk_kept.specs.PartStates.{with_value}
-use Rattle.blk_kept.proofs.Dirtying.{set-at, set-else}
-use Rattle.blk_kept.proofs.NewParts as parts
-use Rattle.blk_kept.proofs.NewPartsKept.{values-keep}
+use Rattle.law_state.specs.Changes.{Finds, StillFinds}
+use Rattle.law_state.specs.Keeping.{KeepsUncounted}
+use Rattle.law_state.specs.NewPartLaws.{with_new_part}
+use Rattle.law_state.specs.PartStates.{with_value}
+use Rattle.law_state.proofs.Dirtying.{set-at, set-else}
+use Rattle.law_state.proofs.NewParts as parts
+use Rattle.law_state.proofs.NewPartsKept.{values-keep}
 use Rattle.blk_object.specs.Making.{LeavesRoom}
 use Rattle.blk_object.proofs.MakingRoom.{uses-few}
 use Rattle.blk_object.proofs.MakingStored.{counters-then}

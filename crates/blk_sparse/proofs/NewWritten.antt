@@ -2,29 +2,29 @@
 use Rattle.std.proofs.Common.{◌≡◌, inr, ⊎_elim, ℕ, ◌<◌, ◌≤◌, ◌^◌, List, [], ◌∷◌, ◌++◌, length, None, Option, Some, Ok, refl, ap, sym, ◌∙◌, subst, arith, true, false, append_assoc}
 use Rattle.std.specs.Prelude.{◌==◌, filter, not, unwrap_or}
 use Rattle.std.proofs.lemmas.Bool.{cases_Bool, eq-eqb, or_left, or_right}
-use Rattle.blk_image.specs.Footprint.{SameOutside}
-use Rattle.blk_image.specs.Image.{AreBytes, Image, Index, byte}
+use Rattle.spec_image.specs.Footprint.{SameOutside}
+use Rattle.spec_image.specs.Image.{AreBytes, Image, Index, byte}
 use Rattle.blk_model.specs.State.{State}
-use Rattle.blk_format.specs.Address.{is_address, kind_of, rankings}
-use Rattle.blk_format.specs.BlockFiles.{is_among, stands_in}
-use Rattle.blk_format.specs.Claims.{Claim, claims_of, claims_of_all, has_claim, repeats}
-use Rattle.blk_format.specs.Headers.{crash_of, this_id_of}
-use Rattle.blk_format.specs.Records.{entry_normal, node_is_sealed}
-use Rattle.blk_format.specs.Sealed.{record_range}
-use Rattle.blk_format.proofs.SealedRecords.{whole_update}
-use Rattle.blk_volume.specs.Entries.{Role}
-use Rattle.blk_volume.specs.Footprint.{IsClear}
-use Rattle.blk_volume.specs.Layout.{Layout}
-use Rattle.blk_volume.specs.Loads.{all_claims, load, unchained_rule}
-use Rattle.blk_volume.specs.Searches.{bucket_of_key}
-use Rattle.blk_volume.specs.ListView.{ListView}
-use Rattle.blk_volume.specs.ShownChanges.{OnlyRecordFieldsChange}
-use Rattle.blk_volume.specs.Sound.{AreSealed, words_of}
-use Rattle.blk_volume.specs.View.{fields_of, node_at, stands_as, store_of}
-use Rattle.blk_laws.proofs.claims.Allocations.{flat_map-append, words-claims}
-use Rattle.blk_laws.proofs.claims.ByteChanges.{agreeing-views, node-same}
-use Rattle.blk_laws.proofs.lists.WordTurns.{each}
-use Rattle.blk_laws.proofs.updates.Records.{fields-written}
+use Rattle.spec_format.specs.Address.{is_address, kind_of, rankings}
+use Rattle.spec_format.specs.BlockFiles.{is_among, stands_in}
+use Rattle.spec_format.specs.Claims.{Claim, claims_of, claims_of_all, has_claim, repeats}
+use Rattle.spec_format.specs.Headers.{crash_of, this_id_of}
+use Rattle.spec_format.specs.Records.{entry_normal, node_is_sealed}
+use Rattle.spec_format.specs.Sealed.{record_range}
+use Rattle.spec_format.proofs.SealedRecords.{whole_update}
+use Rattle.spec_folder.specs.Entries.{Role}
+use Rattle.spec_folder.specs.Footprint.{IsClear}
+use Rattle.spec_folder.specs.Layout.{Layout}
+use Rattle.spec_folder.specs.Loads.{all_claims, load, unchained_rule}
+use Rattle.spec_folder.specs.Searches.{bucket_of_key}
+use Rattle.spec_folder.specs.ListView.{ListView}
+use Rattle.spec_folder.specs.ShownChanges.{OnlyRecordFieldsChange}
+use Rattle.spec_folder.specs.Sound.{AreSealed, words_of}
+use Rattle.spec_folder.specs.View.{fields_of, node_at, stands_as, store_of}
+use Rattle.law_folder.proofs.claims.Allocations.{flat_map-append, words-claims}
+use Rattle.law_folder.proofs.claims.ByteChanges.{agreeing-views, node-same}
+use Rattle.law_folder.proofs.lists.WordTurns.{each}
+use Rattle.law_folder.proofs.updates.Records.{fields-written}
 use Rattle.blk_disk.specs.declared.tables.BlockFiles.{BlockFiles}
 use Rattle.blk_alloc.proofs.Lists.{once_parts}
 use Rattle.blk_entry.specs.declared.writing.NewEntry.{NewEntry}
@@ -33,11 +33,11 @@ use Rattle.blk_entry.specs.Writing.{FitsKey, IsLongPlace, LiesApart, loaded_new,
 use Rattle.blk_entry.proofs.NewShown.{record_is_good}
 use Rattle.blk_entry.proofs.Parts.{written-parts-load}
 use Rattle.blk_stream.proofs.RecordSeals.{updated_sealed}
-use Rattle.blk_kept.specs.Changes.{AreOfWords, ChangesOnly, StillFinds}
-use Rattle.blk_kept.specs.Keeping.{KeepsUncounted}
-use Rattle.blk_kept.proofs.AtNodes.{updates-change, updates-leave}
-use Rattle.blk_kept.proofs.Free.{unlinked-change}
-use Rattle.blk_kept.proofs.Keeping.{kept-found}
+use Rattle.law_state.specs.Changes.{AreOfWords, ChangesOnly, StillFinds}
+use Rattle.law_state.specs.Keeping.{KeepsUncounted}
+use Rattle.law_state.proofs.AtNodes.{updates-change, updates-leave}
+use Rattle.law_state.proofs.Free.{unlinked-change}
+use Rattle.law_state.proofs.Keeping.{kept-found}
 use Rattle.blk_object.proofs.KeptNewEntries.{new-node_sealed}
 use Rattle.blk_object.specs.Making.{long_word, words_of_places}
 use Rattle.blk_object.proofs.MakingStored.{changed-stored, counters-then, of-all}

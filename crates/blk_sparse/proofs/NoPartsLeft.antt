@@ -5,21 +5,21 @@ use Rattle.std.specs.List.{FoldsTo}
 use Rattle.std.specs.Option.{ForSome}
 use Rattle.std.specs.Str.{bytes_eq}
 use Rattle.std.proofs.lemmas.Bool.{and_parts, cases_Bool}
-use Rattle.blk_image.specs.Image.{Image}
-use Rattle.blk_image.specs.Told.{Passes, Told}
-use Rattle.blk_image.proofs.Runs.{some_inj}
+use Rattle.spec_image.specs.Image.{Image}
+use Rattle.spec_image.specs.Told.{Passes, Told}
+use Rattle.spec_image.proofs.Runs.{some_inj}
 use Rattle.blk_model.specs.Effects.{doomed}
 use Rattle.blk_model.specs.Holding.{rest}
 use Rattle.blk_model.specs.Items.{Item, main, part, same_item}
 use Rattle.blk_model.specs.Room.{parts_among}
 use Rattle.blk_model.specs.State.{Object, State}
 use Rattle.blk_model.proofs.Same.{same_bytes, same_item_self}
-use Rattle.blk_volume.specs.Audit.{is_parent_role}
-use Rattle.blk_volume.specs.Entries.{IsParent}
-use Rattle.blk_volume.specs.Layout.{IsPartAt, IsPlacedAt, Layout, is_in, is_listed}
-use Rattle.blk_volume.specs.Loads.{Loaded}
-use Rattle.blk_laws.proofs.commands.Removing.{in-filter}
-use Rattle.blk_kept.specs.Changes.{Finds, SameSession}
+use Rattle.spec_folder.specs.Audit.{is_parent_role}
+use Rattle.spec_folder.specs.Entries.{IsParent}
+use Rattle.spec_folder.specs.Layout.{IsPartAt, IsPlacedAt, Layout, is_in, is_listed}
+use Rattle.spec_folder.specs.Loads.{Loaded}
+use Rattle.law_folder.proofs.commands.Removing.{in-filter}
+use Rattle.law_state.specs.Changes.{Finds, SameSession}
 use Rattle.blk_object.specs.ListedParts.{HaveNoPart, is_part_of}
 use Rattle.blk_object.specs.UnlinkedLoads.{KeepsUnlinked}
 use Rattle.blk_object.proofs.PartsLeft.{none-left}

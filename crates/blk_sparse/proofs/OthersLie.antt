@@ -2,22 +2,22 @@
 use Rattle.std.proofs.Common.{◌≡◌, ◌≢◌, ℕ, List, Bool, true, false, Option, Some, None, refl, sym, ap, ◌∙◌}
 use Rattle.std.specs.Prelude.{◌==◌, if◌then◌else◌}
 use Rattle.std.proofs.lemmas.Bool.{eqb-true}
-use Rattle.blk_image.specs.Image.{Image}
-use Rattle.blk_image.proofs.Runs.{some_inj}
+use Rattle.spec_image.specs.Image.{Image}
+use Rattle.spec_image.proofs.Runs.{some_inj}
 use Rattle.blk_model.specs.Holding.{owner}
 use Rattle.blk_model.specs.Items.{Item, key_of, main, part}
 use Rattle.blk_model.specs.State.{Object, State, object_at}
-use Rattle.blk_format.specs.BlockFiles.{is_among}
-use Rattle.blk_volume.specs.Layout.{IsDoomedAt, IsPlacedAt, Layout, is_listed, order}
-use Rattle.blk_volume.specs.ListView.{put}
-use Rattle.blk_volume.specs.Loads.{Loaded}
-use Rattle.blk_volume.specs.View.{View}
-use Rattle.blk_laws.proofs.states.Changing.{at-elsewhere, same-place}
-use Rattle.blk_laws.proofs.states.Laid.{is_among-node}
-use Rattle.blk_laws.proofs.states.Settling.{main-listed, main-owned}
-use Rattle.blk_kept.specs.Keeping.{KeepsUncounted}
-use Rattle.blk_kept.specs.NewPartLaws.{IsPartWritten, with_new_part}
-use Rattle.blk_kept.specs.ObjectLaws.{layout_after}
+use Rattle.spec_format.specs.BlockFiles.{is_among}
+use Rattle.spec_folder.specs.Layout.{IsDoomedAt, IsPlacedAt, Layout, is_listed, order}
+use Rattle.spec_folder.specs.ListView.{put}
+use Rattle.spec_folder.specs.Loads.{Loaded}
+use Rattle.spec_folder.specs.View.{View}
+use Rattle.law_folder.proofs.states.Changing.{at-elsewhere, same-place}
+use Rattle.law_folder.proofs.states.Laid.{is_among-node}
+use Rattle.law_folder.proofs.states.Settling.{main-listed, main-owned}
+use Rattle.law_state.specs.Keeping.{KeepsUncounted}
+use Rattle.law_state.specs.NewPartLaws.{IsPartWritten, with_new_part}
+use Rattle.law_state.specs.ObjectLaws.{layout_after}
 use Rattle.blk_object.specs.Writing.{node_of_object}
 use Rattle.blk_sparse.specs.SparseObjects.{OthersLieAsBefore}
 

@@ -4,50 +4,50 @@ use Rattle.std.specs.Prelude.{◌⊎◌, ◌==◌, IfSome, nat_le, slice_index, 
 use Rattle.std.proofs.lemmas.Bool.{cases_Bool, eq-eqb}
 use Rattle.std.proofs.lemmas.List.Elements.{All-cons, All-nil}
 use Rattle.std.proofs.lemmas.List.Sorted.{IsPermutation-refl}
-use Rattle.blk_image.specs.Bytes.{content, word_at, words_at}
-use Rattle.blk_image.specs.Image.{AreBytes, Image}
-use Rattle.blk_image.specs.Steps.{with_word, with_words, after}
-use Rattle.blk_image.proofs.Runs.{some_inj, told_whole}
-use Rattle.blk_image.proofs.Words.{word-beside, word-there}
+use Rattle.spec_image.specs.Bytes.{content, word_at, words_at}
+use Rattle.spec_image.specs.Image.{AreBytes, Image}
+use Rattle.spec_image.specs.Steps.{with_word, with_words, after}
+use Rattle.spec_image.proofs.Runs.{some_inj, told_whole}
+use Rattle.spec_image.proofs.Words.{word-beside, word-there}
 use Rattle.blk_model.specs.Holding as model
 use Rattle.blk_model.specs.Items.{Row, main, main_row, part_row, plain, sparse, Shape, is_sparse, Streams}
 use Rattle.blk_model.specs.State.{Object, State, object_at}
 use Rattle.blk_model.proofs.States.{has_main}
-use Rattle.blk_format.specs.Address.{blocks_256, kind_of, rankings}
-use Rattle.blk_format.specs.Claims.{claims_of, has_claim, repeats}
-use Rattle.blk_format.specs.Records.{Node, entry_in, node_is_sealed, Entry}
-use Rattle.blk_format.specs.Sealed.{AreChanges, IsMidUpdate, RecordChecks, record_at, seal_place, sealed_steps}
-use Rattle.blk_format.specs.SparseIndex.{ParentIndex, read_parent_index}
-use Rattle.blk_volume.specs.Audit.{is_parent_of}
-use Rattle.blk_volume.specs.Entries.{IsParent, IsPart, IsPlain, Role, is_key_length, parent_role, part_role, role_of, stored_key, stored_stream, stored_streams, stream}
-use Rattle.blk_volume.specs.Footprint.{IsClear, IsInsideNode}
-use Rattle.blk_volume.specs.Found.{row_with}
-use Rattle.blk_volume.specs.Layout.{Layout, rule_of}
-use Rattle.blk_volume.specs.ListImages.{IsWritable}
-use Rattle.blk_volume.specs.Loads.{Loaded, all_claims, load}
-use Rattle.blk_volume.specs.ShownChanges.{OnlyRecordFieldsChange}
-use Rattle.blk_volume.specs.Sound.{AreSealed, words_of}
-use Rattle.blk_volume.specs.View.{RecordFields, address_of, data_size_of, entry_at, fields_of, store_of, view_of, stands_as, fields_at}
-use Rattle.blk_format.specs.BlockFiles.{stands_in}
-use Rattle.blk_laws.specs.RecordUpdates.{sealed_fields}
-use Rattle.blk_laws.proofs.chains.ChainWords.{record_checks}
-use Rattle.blk_laws.proofs.claims.ByteChanges.{node-same}
-use Rattle.blk_laws.proofs.states.OthersHold.{others-clear}
-use Rattle.blk_laws.proofs.states.Settling.{main-listed, main-owned}
-use Rattle.blk_laws.proofs.updates.Records.{fields-written}
-use Rattle.blk_laws.proofs.updates.StillShown.{core-standing, standing-parts}
-use Rattle.blk_laws.proofs.updates.Updates.{entry-seal, entry-here}
-use Rattle.blk_laws.proofs.walks.Loading.{load-from}
-use Rattle.blk_laws.proofs.walks.Loads.{load-then}
-use Rattle.blk_kept.specs.Changes.{Finds, ChangesOnly}
-use Rattle.blk_kept.specs.PartStates.{with_object}
-use Rattle.blk_kept.proofs.AtNodes.{updates-change, updates-leave}
-use Rattle.blk_kept.proofs.ChangedStates.{main-changed}
-use Rattle.blk_kept.proofs.Dirtying.{set-at}
-use Rattle.blk_kept.proofs.Free.{standing-loaded}
-use Rattle.blk_kept.proofs.Links.{updates-are-inside}
-use Rattle.blk_kept.proofs.Objects.{changed-items-kept, unsettled-find}
-use Rattle.blk_kept.proofs.RecordSteps.{long-record, rewritten, rewritten-fields, rewritten-only, rewritten-outside, rewritten-sealed, was-fields}
+use Rattle.spec_format.specs.Address.{blocks_256, kind_of, rankings}
+use Rattle.spec_format.specs.Claims.{claims_of, has_claim, repeats}
+use Rattle.spec_format.specs.Records.{Node, entry_in, node_is_sealed, Entry}
+use Rattle.spec_format.specs.Sealed.{AreChanges, IsMidUpdate, RecordChecks, record_at, seal_place, sealed_steps}
+use Rattle.spec_format.specs.SparseIndex.{ParentIndex, read_parent_index}
+use Rattle.spec_folder.specs.Audit.{is_parent_of}
+use Rattle.spec_folder.specs.Entries.{IsParent, IsPart, IsPlain, Role, is_key_length, parent_role, part_role, role_of, stored_key, stored_stream, stored_streams, stream}
+use Rattle.spec_folder.specs.Footprint.{IsClear, IsInsideNode}
+use Rattle.spec_folder.specs.Found.{row_with}
+use Rattle.spec_folder.specs.Layout.{Layout, rule_of}
+use Rattle.spec_folder.specs.ListImages.{IsWritable}
+use Rattle.spec_folder.specs.Loads.{Loaded, all_claims, load}
+use Rattle.spec_folder.specs.ShownChanges.{OnlyRecordFieldsChange}
+use Rattle.spec_folder.specs.Sound.{AreSealed, words_of}
+use Rattle.spec_folder.specs.View.{RecordFields, address_of, data_size_of, entry_at, fields_of, store_of, view_of, stands_as, fields_at}
+use Rattle.spec_format.specs.BlockFiles.{stands_in}
+use Rattle.law_folder.specs.RecordUpdates.{sealed_fields}
+use Rattle.law_folder.proofs.chains.ChainWords.{record_checks}
+use Rattle.law_folder.proofs.claims.ByteChanges.{node-same}
+use Rattle.law_folder.proofs.states.OthersHold.{others-clear}
+use Rattle.law_folder.proofs.states.Settling.{main-listed, main-owned}
+use Rattle.law_folder.proofs.updates.Records.{fields-written}
+use Rattle.law_folder.proofs.updates.StillShown.{core-standing, standing-parts}
+use Rattle.law_folder.proofs.updates.Updates.{entry-seal, entry-here}
+use Rattle.law_folder.proofs.walks.Loading.{load-from}
+use Rattle.law_folder.proofs.walks.Loads.{load-then}
+use Rattle.law_state.specs.Changes.{Finds, ChangesOnly}
+use Rattle.law_state.specs.PartStates.{with_object}
+use Rattle.law_state.proofs.AtNodes.{updates-change, updates-leave}
+use Rattle.law_state.proofs.ChangedStates.{main-changed}
+use Rattle.law_state.proofs.Dirtying.{set-at}
+use Rattle.law_state.proofs.Free.{standing-loaded}
+use Rattle.law_state.proofs.Links.{updates-are-inside}
+use Rattle.law_state.proofs.Objects.{changed-items-kept, unsettled-find}
+use Rattle.law_state.proofs.RecordSteps.{long-record, rewritten, rewritten-fields, rewritten-only, rewritten-outside, rewritten-sealed, was-fields}
 use Rattle.blk_sparse.specs.Beginning.{CanGetIndex, IsParentMarked, as_sparse, parent_change, ForEachWithIndex}
 use Rattle.blk_object.proofs.WrittenRoles.{parent-of, part-of}
 use Rattle.blk_object.proofs.WrittenObjects.{IsRowOf, object-row}
@@ -56,7 +56,7 @@ use Rattle.blk_object.specs.Writing.{node_of_object}
 use Rattle.blk_object.proofs.OwnedCharges.{key-length}
 use Rattle.blk_object.proofs.TakenParts.{node-clear}
 use Rattle.blk_disk.specs.declared.tables.BlockFiles.{BlockFiles}
-use Rattle.blk_image.specs.Told.{Told, Applies, TellsBytes}
+use Rattle.spec_image.specs.Told.{Told, Applies, TellsBytes}
 use Rattle.std.specs.Option.{ForSome}
 use Rattle.blk_disk.specs.Open.{IsOpen}
 use Rattle.blk_object.proofs.HeldDooms.{open-writable}

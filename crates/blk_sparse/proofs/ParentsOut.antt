@@ -5,7 +5,7 @@ use Rattle.std.specs.Int.{cast_unsigned, w64}
 use Rattle.std.specs.List.{cons_option, filter_map, sum_by}
 use Rattle.std.proofs.lemmas.Bool.{cases_Bool}
 use Rattle.std.proofs.lemmas.List.Sums.{sum_by-cons}
-use Rattle.blk_image.specs.Image.{Image}
+use Rattle.spec_image.specs.Image.{Image}
 use Rattle.blk_model.specs.Effects.{doomed}
 use Rattle.blk_model.specs.Holding.{rest}
 use Rattle.blk_model.specs.Items.{Item, main, part}
@@ -13,18 +13,18 @@ use Rattle.blk_model.specs.Room.{part_number, parts_among}
 use Rattle.blk_model.specs.State.{Object, State}
 use Rattle.blk_model.proofs.Doomed.{state_doomed}
 use Rattle.blk_model.proofs.Same.{bytes_eq_self}
-use Rattle.blk_volume.specs.Found.{charge_of}
-use Rattle.blk_volume.specs.Layout.{Layout, nodes_of}
-use Rattle.blk_volume.specs.Loads.{Loaded}
-use Rattle.blk_volume.specs.Removal.{is_of_another}
-use Rattle.blk_volume.specs.Sound.{words_of}
-use Rattle.blk_kept.specs.Changes.{Finds}
-use Rattle.blk_kept.specs.CountsOfParts.{charges_at}
-use Rattle.blk_kept.specs.GroupLaws.{gone_nodes, layout_less}
-use Rattle.blk_kept.specs.Keeping.{Keeps}
-use Rattle.blk_kept.specs.PartlyOut.{KeepsPartlyOut, chains_but, keeps_but}
-use Rattle.blk_kept.specs.PartlyOutStops.{LeavesOtherKeys}
-use Rattle.blk_kept.proofs.ChangedStates.{same-state, unheld-less}
+use Rattle.spec_folder.specs.Found.{charge_of}
+use Rattle.spec_folder.specs.Layout.{Layout, nodes_of}
+use Rattle.spec_folder.specs.Loads.{Loaded}
+use Rattle.spec_folder.specs.Removal.{is_of_another}
+use Rattle.spec_folder.specs.Sound.{words_of}
+use Rattle.law_state.specs.Changes.{Finds}
+use Rattle.law_state.specs.CountsOfParts.{charges_at}
+use Rattle.law_state.specs.GroupLaws.{gone_nodes, layout_less}
+use Rattle.law_state.specs.Keeping.{Keeps}
+use Rattle.law_state.specs.PartlyOut.{KeepsPartlyOut, chains_but, keeps_but}
+use Rattle.law_state.specs.PartlyOutStops.{LeavesOtherKeys}
+use Rattle.law_state.proofs.ChangedStates.{same-state, unheld-less}
 use Rattle.blk_object.specs.Freeing.{AreFreeable, AreGoing, Removes}
 use Rattle.blk_object.specs.NextItems.{IsMainOut}
 use Rattle.blk_object.specs.Owning.{LoadsWith}

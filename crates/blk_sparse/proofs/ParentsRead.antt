@@ -8,16 +8,16 @@ use Rattle.std.proofs.lemmas.Bool.{cases_Bool, cases_lt, eqb-true, le-leb, le-lt
 use Rattle.std.proofs.lemmas.List.{get_or-drop}
 use Rattle.std.proofs.lemmas.List.Folds.{list_any_at}
 use Rattle.std.proofs.lemmas.Nat.Bits.{bit_at-zero}
-use Rattle.blk_image.specs.Bytes.{content}
-use Rattle.blk_image.specs.Image.{Image}
-use Rattle.blk_image.proofs.Runs.{some_inj}
-use Rattle.blk_format.specs.Records.{child, parent}
-use Rattle.blk_format.specs.SparseIndex.{ParentIndex, map_bit, read_parent_index}
-use Rattle.blk_volume.specs.Entries.{IsParent, IsPlain, Role, parent_role, part_role, role_of, stored_streams, stream}
-use Rattle.blk_volume.specs.Loads.{Loaded}
-use Rattle.blk_volume.specs.View.{RecordFields, store_of}
-use Rattle.blk_laws.proofs.walks.Loads.{load-then}
-use Rattle.blk_laws.proofs.walks.Shown.{role-part}
+use Rattle.spec_image.specs.Bytes.{content}
+use Rattle.spec_image.specs.Image.{Image}
+use Rattle.spec_image.proofs.Runs.{some_inj}
+use Rattle.spec_format.specs.Records.{child, parent}
+use Rattle.spec_format.specs.SparseIndex.{ParentIndex, map_bit, read_parent_index}
+use Rattle.spec_folder.specs.Entries.{IsParent, IsPlain, Role, parent_role, part_role, role_of, stored_streams, stream}
+use Rattle.spec_folder.specs.Loads.{Loaded}
+use Rattle.spec_folder.specs.View.{RecordFields, store_of}
+use Rattle.law_folder.proofs.walks.Loads.{load-then}
+use Rattle.law_folder.proofs.walks.Shown.{role-part}
 use Rattle.blk_entry.specs.Keys.{IsPiece}
 use Rattle.blk_ranges.specs.ParentMaps.{head_fields, read_parent_head}
 use Rattle.blk_ranges.specs.declared.parent_map.ParentHead.{ParentHead}

@@ -5,8 +5,8 @@ use Rattle.std.specs.List.{list_all, range_with_len}
 use Rattle.std.specs.Option.{option_map_or}
 use Rattle.std.proofs.lemmas.Bool.{and_from, and_parts, le-leb, leb-true}
 use Rattle.blk_model.specs.Items.{LiesInside}
-use Rattle.blk_format.specs.SparseIndex.{PartIndex}
-use Rattle.blk_volume.specs.Entries.{is_covered}
+use Rattle.spec_format.specs.SparseIndex.{PartIndex}
+use Rattle.spec_folder.specs.Entries.{is_covered}
 use Rattle.blk_ranges.specs.PartMaps.{presence_in}
 use Rattle.std.proofs.lemmas.List.FromFn.{get_or-map-range_with_len}
 

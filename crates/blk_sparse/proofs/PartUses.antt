@@ -3,43 +3,43 @@ use Rattle.std.proofs.Common.{refl, ◌≡◌, inl, inr, ℕ, ◌+◌, ◌<◌, 
 use Rattle.std.specs.Prelude.{nat_lt, if◌then◌else◌, ◌==◌}
 use Rattle.std.specs.Option.{ForSome}
 use Rattle.std.proofs.lemmas.Bool.{eqb-true, eq-eqb}
-use Rattle.blk_image.specs.Bytes.{word_at}
-use Rattle.blk_image.specs.Image.{Image, Index, byte}
-use Rattle.blk_image.specs.Told.{Applies, Passes, TellsBytes, Told}
-use Rattle.blk_image.proofs.Runs.{passes_weaker, some_inj}
+use Rattle.spec_image.specs.Bytes.{word_at}
+use Rattle.spec_image.specs.Image.{Image, Index, byte}
+use Rattle.spec_image.specs.Told.{Applies, Passes, TellsBytes, Told}
+use Rattle.spec_image.proofs.Runs.{passes_weaker, some_inj}
 use Rattle.blk_model.specs.Holding.{rest}
 use Rattle.blk_model.specs.Items.{Item}
 use Rattle.blk_model.specs.State.{State}
-use Rattle.blk_format.specs.Address.{rankings, is_address, kind_of}
-use Rattle.blk_volume.specs.Layout.{Layout, order, rule_of}
-use Rattle.blk_volume.specs.ListImages.{HasListAtRest, steps_of_touch, walked}
-use Rattle.blk_volume.specs.ListPlans.{touch_writes}
-use Rattle.blk_volume.specs.ListSteps.{IsTouched}
-use Rattle.blk_volume.specs.ListView.{IsList}
-use Rattle.blk_volume.specs.Loads.{load}
-use Rattle.blk_volume.specs.View.{RecordFields, entry_at, list_of, stands_as, store_of, view_of}
-use Rattle.blk_format.specs.BlockFiles.{is_among}
-use Rattle.blk_laws.proofs.chains.ChainWords.{shown-fields}
-use Rattle.blk_laws.proofs.states.Central.{walk-order}
-use Rattle.blk_laws.proofs.states.Laid.{is_among-node}
-use Rattle.blk_laws.proofs.states.Tidying.{counter-same}
-use Rattle.blk_laws.proofs.walks.Loads.{load-then}
-use Rattle.blk_laws.proofs.walks.Shown.{node-is}
+use Rattle.spec_format.specs.Address.{rankings, is_address, kind_of}
+use Rattle.spec_folder.specs.Layout.{Layout, order, rule_of}
+use Rattle.spec_folder.specs.ListImages.{HasListAtRest, steps_of_touch, walked}
+use Rattle.spec_folder.specs.ListPlans.{touch_writes}
+use Rattle.spec_folder.specs.ListSteps.{IsTouched}
+use Rattle.spec_folder.specs.ListView.{IsList}
+use Rattle.spec_folder.specs.Loads.{load}
+use Rattle.spec_folder.specs.View.{RecordFields, entry_at, list_of, stands_as, store_of, view_of}
+use Rattle.spec_format.specs.BlockFiles.{is_among}
+use Rattle.law_folder.proofs.chains.ChainWords.{shown-fields}
+use Rattle.law_folder.proofs.states.Central.{walk-order}
+use Rattle.law_folder.proofs.states.Laid.{is_among-node}
+use Rattle.law_folder.proofs.states.Tidying.{counter-same}
+use Rattle.law_folder.proofs.walks.Loads.{load-then}
+use Rattle.law_folder.proofs.walks.Shown.{node-is}
 use Rattle.blk_disk.specs.declared.tables.BlockFiles.{BlockFiles}
 use Rattle.blk_disk.specs.Open.{IsOpen}
 use Rattle.blk_disk.specs.Tables.{Agrees, is_node_among, names_among, stands_among}
 use Rattle.blk_lru.specs.Lists.{IsListed}
 use Rattle.blk_lru.specs.Moments.{IsMidTouch}
 use Rattle.blk_lru.proofs.NodeWords.{names_node}
-use Rattle.blk_kept.specs.Changes.{Finds}
-use Rattle.blk_kept.specs.ListLaws.{IsTouchDone, with_used}
-use Rattle.blk_kept.proofs.Free.{standing-at}
-use Rattle.blk_kept.proofs.Touched.{leaves, touch-counts, touch-keeps}
-use Rattle.blk_kept.proofs.Touching.{touches-find}
+use Rattle.law_state.specs.Changes.{Finds}
+use Rattle.law_state.specs.ListLaws.{IsTouchDone, with_used}
+use Rattle.law_state.proofs.Free.{standing-at}
+use Rattle.law_state.proofs.Touched.{leaves, touch-counts, touch-keeps}
+use Rattle.law_state.proofs.Touching.{touches-find}
 use Rattle.blk_object.specs.KeptLists.{IsAmidList}
 use Rattle.blk_object.proofs.KeptLists.{listed-amid, touches-done, touches-partly}
 use Rattle.blk_sparse.specs.Parts.{FindsBeforeOrAfter, IsListedAt, IsUsed}
-use Rattle.blk_kept.proofs.Keeping.{kept-found}
+use Rattle.law_state.proofs.Keeping.{kept-found}
 
 module _ (state : State) (layout : Layout) (unlinked : List ℕ) (item : Item) (entry : ℕ) (from : Image) (l : IsListedAt state layout unlinked item entry from) where
   abbrev node : ℕ

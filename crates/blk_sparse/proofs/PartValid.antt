@@ -12,7 +12,7 @@ use Rattle.std.specs.Str.{bytes_eq}
 use Rattle.std.proofs.lemmas.Bool.{eq-eqb, eqb-true}
 use Rattle.std.proofs.lemmas.Bool.Decides.{nat_tests}
 use Rattle.std.proofs.lemmas.List.Elements.{All-head, All-tail}
-use Rattle.blk_image.proofs.Runs.{some_inj}
+use Rattle.spec_image.proofs.Runs.{some_inj}
 use Rattle.blk_model.specs.Effects.{used}
 use Rattle.blk_model.specs.Holding.{rest}
 use Rattle.blk_model.specs.Items.{IsPartValue, Item, PartValue, key_of, main, part}
@@ -20,9 +20,9 @@ use Rattle.blk_model.specs.Sizes.{part_count}
 use Rattle.blk_model.specs.State.{IsObject, IsValidState, Object, State, has_item, is_named, object_at, part_at}
 use Rattle.blk_model.proofs.SparseWritten.{All_put, IsPart, T_true}
 use Rattle.blk_model.proofs.Written.{state_changed}
-use Rattle.blk_kept.specs.CommandStates.{IsUnsettled, KeepsOtherKeys, amidst}
-use Rattle.blk_kept.specs.PartStates.{with_object, with_value}
-use Rattle.blk_kept.proofs.NotAtRest.{own-uses, unsettled-rest}
+use Rattle.law_state.specs.CommandStates.{IsUnsettled, KeepsOtherKeys, amidst}
+use Rattle.law_state.specs.PartStates.{with_object, with_value}
+use Rattle.law_state.proofs.NotAtRest.{own-uses, unsettled-rest}
 use Rattle.blk_sparse.proofs.Begun.{object-valid}
 
 -- ---- lists

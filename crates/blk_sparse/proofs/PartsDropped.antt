@@ -4,18 +4,18 @@ use Rattle.std.specs.Prelude.{filter}
 use Rattle.std.specs.List.{FoldsTo}
 use Rattle.std.specs.Option.{ForSome}
 use Rattle.std.proofs.lemmas.List.{length-map}
-use Rattle.blk_image.specs.Image.{Image}
-use Rattle.blk_image.specs.Told.{Passes, Told}
-use Rattle.blk_image.proofs.Runs.{passes_then, some_inj}
+use Rattle.spec_image.specs.Image.{Image}
+use Rattle.spec_image.specs.Told.{Passes, Told}
+use Rattle.spec_image.proofs.Runs.{passes_then, some_inj}
 use Rattle.blk_model.specs.Effects.{doomed}
 use Rattle.blk_model.specs.Holding.{rest}
 use Rattle.blk_model.specs.Items.{Item, part}
 use Rattle.blk_model.specs.Room.{parts_among}
 use Rattle.blk_model.specs.State.{Object, State}
-use Rattle.blk_volume.specs.Layout.{Layout}
+use Rattle.spec_folder.specs.Layout.{Layout}
 use Rattle.blk_stream.proofs.Joined.{told_then}
-use Rattle.blk_kept.specs.Changes.{Finds, SameSession}
-use Rattle.blk_kept.specs.PartlyOut.{keeps_but}
+use Rattle.law_state.specs.Changes.{Finds, SameSession}
+use Rattle.law_state.specs.PartlyOut.{keeps_but}
 use Rattle.blk_object.specs.ListedParts.{HaveNoPart}
 use Rattle.blk_object.specs.UnlinkedLoads.{KeepsUnlinked}
 use Rattle.blk_object.proofs.PartsLeft.{none-left}

@@ -2,17 +2,17 @@
 use Rattle.std.proofs.Common.{◌≡◌, ℕ, List, ◌∷◌, ◌++◌, append_assoc, refl, ap, sym, ◌∙◌, subst, Bool, true, false, Option, None, Some}
 use Rattle.std.specs.Prelude.{◌||◌, filter, IfSome}
 use Rattle.std.proofs.lemmas.Bool.{and_parts}
-use Rattle.blk_image.specs.Image.{Image}
+use Rattle.spec_image.specs.Image.{Image}
 use Rattle.blk_model.specs.Items.{Item, part}
 use Rattle.blk_model.specs.State.{Object, State}
 use Rattle.blk_model.proofs.Same.{same_item_self}
-use Rattle.blk_volume.specs.Found.{charge_of}
-use Rattle.blk_volume.specs.Layout.{Layout, is_in, is_listed, nodes_of}
-use Rattle.blk_volume.specs.ListImages.{HasListAtRest}
-use Rattle.blk_laws.proofs.commands.Opening.{in-append}
-use Rattle.blk_laws.proofs.commands.Removing.{in-filter}
+use Rattle.spec_folder.specs.Found.{charge_of}
+use Rattle.spec_folder.specs.Layout.{Layout, is_in, is_listed, nodes_of}
+use Rattle.spec_folder.specs.ListImages.{HasListAtRest}
+use Rattle.law_folder.proofs.commands.Opening.{in-append}
+use Rattle.law_folder.proofs.commands.Removing.{in-filter}
 use Rattle.blk_lru.specs.Lists.{IsListed, last_node_of}
-use Rattle.blk_kept.specs.Changes.{SameSession}
+use Rattle.law_state.specs.Changes.{SameSession}
 use Rattle.blk_object.specs.ListedParts.{ForEachSearch, HaveNoPart, IsFirstPart, IsFoundPart}
 use Rattle.blk_object.specs.declared.listed_parts.ListedPart.{ListedPart}
 use Rattle.blk_object.specs.UnlinkedLoads.{KeepsUnlinked}

@@ -5,20 +5,20 @@ use Rattle.std.specs.Prelude.{IfOk, if◌then◌else◌}
 use Rattle.std.specs.Str.{bytes_eq}
 use Rattle.blk_model.proofs.Same.{same_bytes}
 use Rattle.std.specs.declared.result.Result.{Result}
-use Rattle.blk_image.specs.Image.{Image}
-use Rattle.blk_image.specs.Told.{Passes, Told}
-use Rattle.blk_image.proofs.Runs.{passes_none, some_inj}
+use Rattle.spec_image.specs.Image.{Image}
+use Rattle.spec_image.specs.Told.{Passes, Told}
+use Rattle.spec_image.proofs.Runs.{passes_none, some_inj}
 use Rattle.blk_model.specs.Effects.{doomed}
 use Rattle.blk_model.specs.Holding.{rest}
 use Rattle.blk_model.specs.Items.{Item, part}
 use Rattle.blk_model.specs.State.{Object, State}
-use Rattle.blk_format.specs.Names.{Name, child_name, read_name}
-use Rattle.blk_volume.specs.Layout.{Layout}
-use Rattle.blk_volume.specs.Loads.{Loaded}
+use Rattle.spec_format.specs.Names.{Name, child_name, read_name}
+use Rattle.spec_folder.specs.Layout.{Layout}
+use Rattle.spec_folder.specs.Loads.{Loaded}
 use Rattle.blk_chain.specs.declared.found.Found.{Found}
 use Rattle.blk_chain.specs.Finding.{CanBeSearched, IsAnswer}
-use Rattle.blk_kept.specs.Changes.{Finds}
-use Rattle.blk_kept.proofs.PartlyOutStops.{partly-out-finds}
+use Rattle.law_state.specs.Changes.{Finds}
+use Rattle.law_state.proofs.PartlyOutStops.{partly-out-finds}
 use Rattle.blk_object.specs.FailedChecks.{IsOfSamePart}
 use Rattle.blk_object.specs.FindingOut.{IsFoundLeft}
 use Rattle.blk_object.specs.ListedParts.{number_said}
@@ -28,8 +28,8 @@ use Rattle.blk_object.proofs.FoundLeft.{can-search, left-found}
 use Rattle.blk_object.proofs.GoingNext.{part-leaves}
 use Rattle.blk_object.proofs.OwnedPlaces.{left-load}
 use Rattle.blk_object.proofs.PartsFound.{names-are-theirs}
-use Rattle.blk_kept.specs.PartlyOut.{chains_but}
-use Rattle.blk_kept.specs.PartlyOutStops.{LeavesOtherKeys}
+use Rattle.law_state.specs.PartlyOut.{chains_but}
+use Rattle.law_state.specs.PartlyOutStops.{LeavesOtherKeys}
 use Rattle.blk_sparse.specs.Dropping.{AreLeft, HasSignature, IsPartLeft, IsPartOut}
 
 pub none-some : {A : Type 0} {x : A} → ◌≡◌ {A = Option A} None (Some x) → ⊥

@@ -4,16 +4,16 @@ use Rattle.std.specs.Prelude.{◌-◌, ◌/◌, ◌%◌, ◌||◌, ◌==◌, IfS
 use Rattle.std.specs.Option.{ForSome, option_and_then}
 use Rattle.std.proofs.lemmas.Bool.{eqb-true, ltb-true}
 use Rattle.std.proofs.lemmas.List.{length-map}
-use Rattle.blk_image.specs.Image.{Image}
+use Rattle.spec_image.specs.Image.{Image}
 use Rattle.blk_model.specs.Bytes.{numbers_from}
 use Rattle.blk_model.specs.Items.{IsPartValue, PartValue, Presence, is_block_present, part}
 use Rattle.blk_model.specs.Sparse.{byte_in, first_run, is_present_in, piece_in, up_to_missing}
 use Rattle.blk_model.specs.State.{Object, part_at}
-use Rattle.blk_format.specs.SparseIndex.{PartIndex}
+use Rattle.spec_format.specs.SparseIndex.{PartIndex}
 use Rattle.blk_ranges.specs.PartMaps.{index_of, presence_in, presence_of}
 use Rattle.blk_ranges.specs.Runs.{run_between}
 use Rattle.blk_ranges.specs.declared.part_map.PartMap.{PartMap}
-use Rattle.blk_volume.specs.Entries.{stream}
+use Rattle.spec_folder.specs.Entries.{stream}
 use Rattle.blk_entry.specs.Keys.{IsPiece}
 use Rattle.blk_stream.specs.Streams.{streams_at}
 use Rattle.blk_sparse.specs.Reading.{IsPartRead, part_bytes, part_run}

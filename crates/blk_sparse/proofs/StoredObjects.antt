@@ -3,9 +3,9 @@ use Rattle.std.proofs.Common.{◌≡◌, inl, inr, ℕ, ◌+◌, ◌<◌, ◌≤
 use Rattle.std.specs.Prelude.{IfSome}
 use Rattle.std.specs.Option.{ForSome}
 use Rattle.std.proofs.lemmas.List.Sums.{sum_by-set}
-use Rattle.blk_image.specs.Image.{Image, Index, byte}
-use Rattle.blk_image.specs.Told.{Passes, Told}
-use Rattle.blk_image.proofs.Runs.{passes_end, passes_then, passes_weaker, some_inj}
+use Rattle.spec_image.specs.Image.{Image, Index, byte}
+use Rattle.spec_image.specs.Told.{Passes, Told}
+use Rattle.spec_image.proofs.Runs.{passes_end, passes_then, passes_weaker, some_inj}
 use Rattle.blk_io.specs.Faults.{IfDamaged}
 use Rattle.blk_io.specs.declared.fault.Fault.{Fault}
 use Rattle.blk_io.proofs.Carried.{if_damaged_weaker}
@@ -16,18 +16,18 @@ use Rattle.blk_model.specs.Room.{item_count, items, of_slot, total}
 use Rattle.blk_model.specs.Sparse.{covered_parts}
 use Rattle.blk_model.specs.State.{Object, State, object_at}
 use Rattle.blk_model.proofs.Each.{some_within}
-use Rattle.blk_format.specs.Headers.{crash_of, this_id_of}
-use Rattle.blk_volume.specs.Layout.{Layout}
-use Rattle.blk_volume.specs.Loads.{Loaded}
-use Rattle.blk_laws.proofs.states.Settling.{main-listed}
+use Rattle.spec_format.specs.Headers.{crash_of, this_id_of}
+use Rattle.spec_folder.specs.Layout.{Layout}
+use Rattle.spec_folder.specs.Loads.{Loaded}
+use Rattle.law_folder.proofs.states.Settling.{main-listed}
 use Rattle.blk_stream.proofs.Joined.{IsTold, told_then}
-use Rattle.blk_kept.specs.Changes.{Finds, KeepsWith, SameCounters, SameSession}
-use Rattle.blk_kept.specs.CommandStates.{amidst}
-use Rattle.blk_kept.specs.Keeping.{CountsItems, Keeps, KeepsUncounted}
-use Rattle.blk_kept.specs.ListLaws.{with_used}
-use Rattle.blk_kept.specs.PartStates.{with_object}
-use Rattle.blk_kept.proofs.Dirtying.{set-at, set-else}
-use Rattle.blk_kept.proofs.Keeping.{kept-found}
+use Rattle.law_state.specs.Changes.{Finds, KeepsWith, SameCounters, SameSession}
+use Rattle.law_state.specs.CommandStates.{amidst}
+use Rattle.law_state.specs.Keeping.{CountsItems, Keeps, KeepsUncounted}
+use Rattle.law_state.specs.ListLaws.{with_used}
+use Rattle.law_state.specs.PartStates.{with_object}
+use Rattle.law_state.proofs.Dirtying.{set-at, set-else}
+use Rattle.law_state.proofs.Keeping.{kept-found}
 use Rattle.blk_object.specs.Counters.{AreCountedMore, AreMoreItems}
 use Rattle.blk_object.proofs.CounterWords.{more-counted}
 use Rattle.blk_object.proofs.GoingNext.{then-counters}

@@ -1,13 +1,13 @@
 -- The main item of an object with parts is used, before its parts are.
 use Rattle.std.proofs.Common.{◌≡◌, ℕ, List, [], ◌∷◌, Some, true}
 use Rattle.std.specs.Option.{ForSome}
-use Rattle.blk_image.specs.Image.{Image}
-use Rattle.blk_image.specs.Told.{Passes, Told}
-use Rattle.blk_image.proofs.Runs.{passes_weaker}
+use Rattle.spec_image.specs.Image.{Image}
+use Rattle.spec_image.specs.Told.{Passes, Told}
+use Rattle.spec_image.proofs.Runs.{passes_weaker}
 use Rattle.blk_model.specs.Items.{Item, main}
 use Rattle.blk_model.specs.State.{Object, State}
-use Rattle.blk_volume.specs.Layout.{Layout}
-use Rattle.blk_laws.proofs.states.Settling.{main-listed}
+use Rattle.spec_folder.specs.Layout.{Layout}
+use Rattle.law_folder.proofs.states.Settling.{main-listed}
 use Rattle.blk_sparse.specs.Parts.{FindsBeforeOrAfter, IsListedAt, IsUsed}
 use Rattle.blk_sparse.specs.SparseObjects.{FindsUsed, KeepsParent, KeepsParentUsed}
 use Rattle.blk_sparse.proofs.UsedParts.{first-further, one-used, used-one}

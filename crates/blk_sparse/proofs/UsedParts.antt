@@ -3,21 +3,21 @@ use Rattle.std.proofs.Common.{◌≡◌, ◌≢◌, inl, inr, ℕ, zero, suc, �
 use Rattle.std.specs.Prelude.{◌-◌, ◌/◌, ◌==◌, filter, is_some, if◌then◌else◌}
 use Rattle.std.specs.Option.{ForSome}
 use Rattle.std.proofs.lemmas.Bool.{eq-eqb, eqb-true}
-use Rattle.blk_image.specs.Image.{Image}
-use Rattle.blk_image.specs.Told.{Passes, Told}
-use Rattle.blk_image.proofs.Runs.{passes_then, passes_weaker}
+use Rattle.spec_image.specs.Image.{Image}
+use Rattle.spec_image.specs.Told.{Passes, Told}
+use Rattle.spec_image.proofs.Runs.{passes_then, passes_weaker}
 use Rattle.blk_model.specs.Bytes.{numbers_from}
 use Rattle.blk_model.specs.Effects.{existing_parts, used, used_all}
 use Rattle.blk_model.specs.Holding.{rest}
 use Rattle.blk_model.specs.Items.{Item, PartValue, part}
 use Rattle.blk_model.specs.Sparse.{covered_parts}
 use Rattle.blk_model.specs.State.{Object, State, part_at}
-use Rattle.blk_volume.specs.Layout.{Layout}
+use Rattle.spec_folder.specs.Layout.{Layout}
 use Rattle.blk_stream.proofs.Joined.{IsTold, told_then}
-use Rattle.blk_kept.specs.Changes.{Finds}
-use Rattle.blk_kept.specs.CommandStates.{in_order}
-use Rattle.blk_kept.specs.Keeping.{CountsItems}
-use Rattle.blk_kept.proofs.Keeping.{kept-found}
+use Rattle.law_state.specs.Changes.{Finds}
+use Rattle.law_state.specs.CommandStates.{in_order}
+use Rattle.law_state.specs.Keeping.{CountsItems}
+use Rattle.law_state.proofs.Keeping.{kept-found}
 use Rattle.blk_object.proofs.GoingNext.{then-counters}
 use Rattle.blk_object.proofs.MakingTaken.{session-then}
 use Rattle.blk_object.proofs.WrittenParts.{part-listed}

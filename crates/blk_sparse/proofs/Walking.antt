@@ -12,18 +12,18 @@ use Rattle.blk_model.specs.Items.{Item, main, part, same_item}
 use Rattle.blk_model.specs.Room.{part_number, parts_among}
 use Rattle.blk_model.specs.State.{State}
 use Rattle.blk_model.proofs.Same.{bytes_eq_self, same_bytes, same_item_self}
-use Rattle.blk_format.specs.BlockFiles.{is_among}
-use Rattle.blk_volume.specs.Found.{charge_of}
-use Rattle.blk_volume.specs.Layout.{Layout, is_in, nodes_of}
-use Rattle.blk_volume.specs.ListView.{Distinct, last_or}
-use Rattle.blk_volume.specs.Loads.{Loaded}
-use Rattle.blk_laws.proofs.commands.Opening.{in-append, nodes-append}
-use Rattle.blk_laws.proofs.lists.Lists.{has_not}
-use Rattle.blk_laws.proofs.states.Laid.{is_among-node}
+use Rattle.spec_format.specs.BlockFiles.{is_among}
+use Rattle.spec_folder.specs.Found.{charge_of}
+use Rattle.spec_folder.specs.Layout.{Layout, is_in, nodes_of}
+use Rattle.spec_folder.specs.ListView.{Distinct, last_or}
+use Rattle.spec_folder.specs.Loads.{Loaded}
+use Rattle.law_folder.proofs.commands.Opening.{in-append, nodes-append}
+use Rattle.law_folder.proofs.lists.Lists.{has_not}
+use Rattle.law_folder.proofs.states.Laid.{is_among-node}
 use Rattle.blk_lru.specs.Lists.{last_node_of}
-use Rattle.blk_kept.specs.CountsOfParts.{charges_at}
-use Rattle.blk_kept.specs.PartlyOut.{keeps_but}
-use Rattle.blk_kept.proofs.DoomedPlaces.{filter-both}
+use Rattle.law_state.specs.CountsOfParts.{charges_at}
+use Rattle.law_state.specs.PartlyOut.{keeps_but}
+use Rattle.law_state.proofs.DoomedPlaces.{filter-both}
 use Rattle.blk_object.specs.ListedParts.{AreSearched, HaveNoPart, is_part_of}
 use Rattle.blk_sparse.specs.Dropping.{IsBehind}
 

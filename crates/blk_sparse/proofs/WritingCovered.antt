@@ -9,9 +9,9 @@ use Rattle.std.specs.FinMap.Entries.{find-put, length-put}
 use Rattle.std.specs.Ordering.{nat_cmp}
 use Rattle.std.proofs.lemmas.List.Sums.{sum_by-set}
 use Rattle.std.specs.Option.{ForSome}
-use Rattle.blk_image.specs.Image.{Image}
-use Rattle.blk_image.specs.Told.{Told}
-use Rattle.blk_image.proofs.Runs.{some_inj}
+use Rattle.spec_image.specs.Image.{Image}
+use Rattle.spec_image.specs.Told.{Told}
+use Rattle.spec_image.proofs.Runs.{some_inj}
 use Rattle.blk_disk.specs.declared.tables.BlockFiles.{BlockFiles}
 use Rattle.blk_model.specs.Effects.{used, used_all}
 use Rattle.blk_model.specs.Holding.{rest}
@@ -20,13 +20,13 @@ use Rattle.blk_model.specs.Room.{item_count, items, of_slot}
 use Rattle.blk_model.specs.Sparse.{covered_parts, part_after, parts_after, piece_for}
 use Rattle.blk_model.specs.State.{IsValidState, Object, State, object_at, part_at}
 use Rattle.blk_model.proofs.Each.{some_within}
-use Rattle.blk_volume.specs.Layout.{Layout}
-use Rattle.blk_kept.specs.Changes.{Finds}
-use Rattle.blk_kept.specs.CommandStates.{amidst}
-use Rattle.blk_kept.specs.Keeping.{KeepsUncounted}
-use Rattle.blk_kept.specs.PartStates.{with_value}
-use Rattle.blk_kept.proofs.Dirtying.{set-else}
-use Rattle.blk_kept.proofs.Keeping.{kept-found}
+use Rattle.spec_folder.specs.Layout.{Layout}
+use Rattle.law_state.specs.Changes.{Finds}
+use Rattle.law_state.specs.CommandStates.{amidst}
+use Rattle.law_state.specs.Keeping.{KeepsUncounted}
+use Rattle.law_state.specs.PartStates.{with_value}
+use Rattle.law_state.proofs.Dirtying.{set-else}
+use Rattle.law_state.proofs.Keeping.{kept-found}
 use Rattle.blk_object.proofs.MakingStored.{counters-then}
 use Rattle.blk_object.proofs.MakingTaken.{session-then}
 use Rattle.blk_sparse.specs.SparseObjects.{CanGetParts, KeepsParent, KeepsParentThen, OthersLieAsBefore, missing_parts, parts_of, value_or_empty, with_bytes, with_bytes_written, with_piece, with_piece_written}

@@ -2,14 +2,14 @@
 use Rattle.std.proofs.Common.{◌≡◌, ◌≤◌, ℕ, ℤ, List, [], ◌∷◌, length, Option, None, Some, sym, ◌∙◌, ap, subst, arith}
 use Rattle.std.specs.Prelude.{MatchOption, is_some}
 use Rattle.std.specs.Int.{cast_unsigned, w64}
-use Rattle.blk_image.specs.Image.{Image}
-use Rattle.blk_image.specs.Told.{Told}
+use Rattle.spec_image.specs.Image.{Image}
+use Rattle.spec_image.specs.Told.{Told}
 use Rattle.blk_model.specs.Holding.{rest}
 use Rattle.blk_model.specs.Items.{PartValue}
 use Rattle.blk_model.specs.State.{Object, State, part_at}
-use Rattle.blk_format.specs.Names.{child_name}
-use Rattle.blk_volume.specs.Layout.{Layout}
-use Rattle.blk_kept.specs.Changes.{Finds}
+use Rattle.spec_format.specs.Names.{child_name}
+use Rattle.spec_folder.specs.Layout.{Layout}
+use Rattle.law_state.specs.Changes.{Finds}
 use Rattle.blk_disk.specs.declared.tables.BlockFiles.{BlockFiles}
 use Rattle.blk_sparse.specs.Changing.{IsDataBeforeMap}
 use Rattle.blk_sparse.specs.NewParts.{CanHavePart, IsWholeBeforeItsBit}

@@ -1,20 +1,20 @@
 -- A plain object becomes the parent of an index: its third stream gets the index, and then its record the flags of a parent.
 use Rattle.std.specs.Prelude.{◌≡◌, ◌≤◌, ◌<◌, ℕ, List, [], ◌∷◌, length, false, true}
 use Rattle.std.specs.declared.option.Option.TheVariants.{Some}
-use Rattle.blk_image.specs.Image.{Image}
+use Rattle.spec_image.specs.Image.{Image}
 use Rattle.blk_model.specs.Items.{main, plain, sparse}
 use Rattle.blk_model.specs.State.{IsValidState, Object, State, object_at}
 use Rattle.blk_model.specs.Sizes.{longest_key, signatures}
-use Rattle.blk_format.specs.Sealed.{RecordChecks}
-use Rattle.blk_format.specs.SparseIndex.{ParentIndex, read_parent_index}
-use Rattle.blk_volume.specs.Entries.{IsParent, stream}
-use Rattle.blk_volume.specs.Layout.{Layout}
-use Rattle.blk_volume.specs.Loads.{Loaded}
-use Rattle.blk_volume.specs.View.{entry_at}
-use Rattle.blk_kept.specs.Changes.{SameCounters, SameSession}
-use Rattle.blk_kept.specs.Keeping.{KeepsUncounted}
-use Rattle.blk_kept.specs.ObjectLaws.{layout_after}
-use Rattle.blk_kept.specs.PartStates.{with_object}
+use Rattle.spec_format.specs.Sealed.{RecordChecks}
+use Rattle.spec_format.specs.SparseIndex.{ParentIndex, read_parent_index}
+use Rattle.spec_folder.specs.Entries.{IsParent, stream}
+use Rattle.spec_folder.specs.Layout.{Layout}
+use Rattle.spec_folder.specs.Loads.{Loaded}
+use Rattle.spec_folder.specs.View.{entry_at}
+use Rattle.law_state.specs.Changes.{SameCounters, SameSession}
+use Rattle.law_state.specs.Keeping.{KeepsUncounted}
+use Rattle.law_state.specs.ObjectLaws.{layout_after}
+use Rattle.law_state.specs.PartStates.{with_object}
 use Rattle.blk_sparse.specs.SparseObjects.{CanBecomeSparse}
 
 -- the flags of a parent, as a change of its record

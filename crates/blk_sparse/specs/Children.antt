@@ -1,11 +1,11 @@
 -- The parts of a parent go, by the key that its record gives.
 use Rattle.std.specs.Prelude.{◌≡◌, ◌≤◌, ℕ, List, Bool, length, true}
-use Rattle.blk_image.specs.Image.{Image}
+use Rattle.spec_image.specs.Image.{Image}
 use Rattle.blk_model.specs.Items.{Item, main}
 use Rattle.blk_model.specs.Sizes.{longest_key}
 use Rattle.blk_model.specs.State.{Object, State}
-use Rattle.blk_volume.specs.Layout.{Layout, is_listed}
-use Rattle.blk_volume.specs.Loads.{Loaded}
+use Rattle.spec_folder.specs.Layout.{Layout, is_listed}
+use Rattle.spec_folder.specs.Loads.{Loaded}
 use Rattle.blk_object.specs.Owning.{LoadsWith}
 use Rattle.blk_sparse.specs.Dropping.{AreLeft, HasSignature}
 

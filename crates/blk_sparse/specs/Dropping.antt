@@ -2,19 +2,19 @@
 use Rattle.std.specs.Prelude.{◌≡◌, ℕ, List, ◌∷◌, ◌++◌, Bool, Option, None, Some, false, filter, length, true}
 use Rattle.std.specs.Int.{cast_unsigned, w64}
 use Rattle.std.specs.List.{FoldsTo}
-use Rattle.blk_image.specs.Image.{Image}
+use Rattle.spec_image.specs.Image.{Image}
 use Rattle.blk_model.specs.Items.{Item, main, part}
 use Rattle.blk_model.specs.State.{Object, State, object_at}
-use Rattle.blk_format.specs.SparseIndex.{ParentIndex}
-use Rattle.blk_volume.specs.Entries.{IsParent}
-use Rattle.blk_volume.specs.Found.{charge_of}
-use Rattle.blk_volume.specs.Layout.{Layout, is_listed, nodes_of}
-use Rattle.blk_volume.specs.Loads.{Loaded}
-use Rattle.blk_volume.specs.Removal.{is_of_another}
+use Rattle.spec_format.specs.SparseIndex.{ParentIndex}
+use Rattle.spec_folder.specs.Entries.{IsParent}
+use Rattle.spec_folder.specs.Found.{charge_of}
+use Rattle.spec_folder.specs.Layout.{Layout, is_listed, nodes_of}
+use Rattle.spec_folder.specs.Loads.{Loaded}
+use Rattle.spec_folder.specs.Removal.{is_of_another}
 use Rattle.blk_lru.specs.Lists.{last_node_of}
-use Rattle.blk_kept.specs.CountsOfParts.{charges_at}
-use Rattle.blk_kept.specs.PartlyOut.{KeepsPartlyOut, keeps_but}
-use Rattle.blk_kept.specs.PartlyOutStops.{LeavesOtherKeys}
+use Rattle.law_state.specs.CountsOfParts.{charges_at}
+use Rattle.law_state.specs.PartlyOut.{KeepsPartlyOut, keeps_but}
+use Rattle.law_state.specs.PartlyOutStops.{LeavesOtherKeys}
 use Rattle.blk_object.specs.ListedParts.{HaveNoPart}
 use Rattle.blk_object.specs.RemovingNext.{CountsLeft}
 use Rattle.blk_sparse.specs.declared.dropping.Dropped.{Dropped}

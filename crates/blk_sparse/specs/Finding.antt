@@ -3,7 +3,7 @@ use Rattle.std.specs.Prelude.{◌≡◌, ◌≤◌, ◌<◌, ◌+◌, ◌/◌, �
 use Rattle.std.specs.declared.option.Option.TheVariants.{None}
 use Rattle.blk_model.specs.Sizes.{part_size}
 use Rattle.blk_model.specs.State.{Object}
-use Rattle.blk_volume.specs.Layout.{Layout}
+use Rattle.spec_folder.specs.Layout.{Layout}
 use Rattle.blk_sparse.specs.declared.finding.PartRecords.{PartRecords}
 use Rattle.blk_sparse.specs.Parts.{IsPartFound}
 

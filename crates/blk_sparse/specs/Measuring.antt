@@ -3,16 +3,16 @@ use Rattle.std.specs.Prelude.{◌≡◌, ◌≤◌, ℕ, ◌+◌, ◌*◌, ◌-�
 use Rattle.std.specs.Option.{option_map, option_map_or}
 use Rattle.std.specs.declared.option.Option.{Option}
 use Rattle.std.specs.declared.option.Option.TheVariants.{None, Some}
-use Rattle.blk_image.specs.Image.{Image}
+use Rattle.spec_image.specs.Image.{Image}
 use Rattle.blk_model.specs.Charge.{part_charge, part_name}
 use Rattle.blk_model.specs.Items.{main, part, plain, sparse}
 use Rattle.blk_model.specs.Room.{charge, item_count}
 use Rattle.blk_model.specs.Sizes.{blocks_index_charge, part_size}
 use Rattle.blk_model.specs.Sparse.{covered_parts}
 use Rattle.blk_model.specs.State.{IsObject, Object, State, object_at, part_at}
-use Rattle.blk_volume.specs.Layout.{Layout}
-use Rattle.blk_volume.specs.Loads.{Loaded}
-use Rattle.blk_kept.specs.Keeping.{KeepsUncounted}
+use Rattle.spec_folder.specs.Layout.{Layout}
+use Rattle.spec_folder.specs.Loads.{Loaded}
+use Rattle.law_state.specs.Keeping.{KeepsUncounted}
 use Rattle.blk_sparse.specs.declared.measuring.Measured.{Measured}
 use Rattle.blk_sparse.specs.declared.measuring.Piece.{Piece}
 use Rattle.blk_sparse.specs.SparseObjects.{HasPartAt, KeepsParent, missing_parts, value_or_empty, with_bytes}

@@ -4,31 +4,31 @@ use Rattle.std.specs.Int.{cast_unsigned, w64}
 use Rattle.std.specs.declared.option.Option.{Option}
 use Rattle.std.specs.declared.option.Option.TheVariants.{None, Some}
 use Rattle.std.specs.declared.result.Result.TheVariants.{Ok}
-use Rattle.blk_image.specs.Footprint.{SameOutside}
-use Rattle.blk_image.specs.Image.{Image}
-use Rattle.blk_image.specs.Told.{Passes, Told}
+use Rattle.spec_image.specs.Footprint.{SameOutside}
+use Rattle.spec_image.specs.Image.{Image}
+use Rattle.spec_image.specs.Told.{Passes, Told}
 use Rattle.blk_model.specs.Bytes.{overwritten}
 use Rattle.blk_model.specs.Holding.{rest}
 use Rattle.blk_model.specs.Items.{main, part}
 use Rattle.blk_model.specs.Sizes.{part_size}
 use Rattle.blk_model.specs.Sparse.{empty_part, presence_after}
 use Rattle.blk_model.specs.State.{Object, State, part_at}
-use Rattle.blk_format.specs.BlockFiles.{is_among}
-use Rattle.blk_format.specs.Claims.{has_claim}
-use Rattle.blk_format.specs.Hash.{hash}
-use Rattle.blk_format.specs.Headers.{table_length}
-use Rattle.blk_format.specs.Names.{child_name}
-use Rattle.blk_format.specs.Records.{entry_normal}
-use Rattle.blk_format.specs.Sealed.{IsUpdated, RecordChecks, record_range}
-use Rattle.blk_format.specs.SparseIndex.{ParentIndex, PartIndex, parent_index_length, part_index_length, read_part_index}
-use Rattle.blk_volume.specs.Chains.{bucket_of_hash, file_and_block}
-use Rattle.blk_volume.specs.Creation.{with_first}
-use Rattle.blk_volume.specs.Entries.{Role, part_role, stream}
-use Rattle.blk_volume.specs.Layout.{Layout, rule_of}
-use Rattle.blk_volume.specs.Loads.{Loaded, all_claims, load, unchained_rule}
-use Rattle.blk_volume.specs.Searches.{bucket_of_key}
-use Rattle.blk_volume.specs.Sound.{AreSealed, words_of}
-use Rattle.blk_volume.specs.View.{list_of, store_of, view_of}
+use Rattle.spec_format.specs.BlockFiles.{is_among}
+use Rattle.spec_format.specs.Claims.{has_claim}
+use Rattle.spec_format.specs.Hash.{hash}
+use Rattle.spec_format.specs.Headers.{table_length}
+use Rattle.spec_format.specs.Names.{child_name}
+use Rattle.spec_format.specs.Records.{entry_normal}
+use Rattle.spec_format.specs.Sealed.{IsUpdated, RecordChecks, record_range}
+use Rattle.spec_format.specs.SparseIndex.{ParentIndex, PartIndex, parent_index_length, part_index_length, read_part_index}
+use Rattle.spec_folder.specs.Chains.{bucket_of_hash, file_and_block}
+use Rattle.spec_folder.specs.Creation.{with_first}
+use Rattle.spec_folder.specs.Entries.{Role, part_role, stream}
+use Rattle.spec_folder.specs.Layout.{Layout, rule_of}
+use Rattle.spec_folder.specs.Loads.{Loaded, all_claims, load, unchained_rule}
+use Rattle.spec_folder.specs.Searches.{bucket_of_key}
+use Rattle.spec_folder.specs.Sound.{AreSealed, words_of}
+use Rattle.spec_folder.specs.View.{list_of, store_of, view_of}
 use Rattle.blk_ranges.specs.declared.names.ChildName.{ChildName}
 use Rattle.blk_ranges.specs.ParentMaps.{has_part_bit, with_part_bit}
 use Rattle.blk_ranges.specs.PartMaps.{presence_in}
@@ -39,11 +39,11 @@ use Rattle.blk_entry.specs.Parts.{PartStreams, loaded_part, stream_changes}
 use Rattle.blk_entry.specs.Writing.{AreWords, IsShownNew, IsWritten, loaded_new}
 use Rattle.blk_stream.specs.Loading.{stored_streams_with}
 use Rattle.blk_stream.specs.Streams.{address_word}
-use Rattle.blk_kept.specs.Arranging.{LeavesFiles}
-use Rattle.blk_kept.specs.Changes.{ChangesOnly, Finds, SameCounters, SameSession}
-use Rattle.blk_kept.specs.Keeping.{KeepsUncounted}
-use Rattle.blk_kept.specs.NewPartLaws.{IsPartWritten, with_bit_of, with_new_part}
-use Rattle.blk_kept.specs.NewPartsKept.{IsMakingPart}
+use Rattle.law_state.specs.Arranging.{LeavesFiles}
+use Rattle.law_state.specs.Changes.{ChangesOnly, Finds, SameCounters, SameSession}
+use Rattle.law_state.specs.Keeping.{KeepsUncounted}
+use Rattle.law_state.specs.NewPartLaws.{IsPartWritten, with_bit_of, with_new_part}
+use Rattle.law_state.specs.NewPartsKept.{IsMakingPart}
 use Rattle.blk_object.specs.declared.making_places.Places.{Places}
 use Rattle.blk_object.specs.Making.{Takes, words_of_places}
 use Rattle.blk_sparse.specs.declared.new_part.PartPlaces.{PartPlaces}

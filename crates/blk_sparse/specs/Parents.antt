@@ -1,20 +1,20 @@
 -- An object with an index goes with its parts; where a handle names it, its parts alone are freed.
 use Rattle.std.specs.Prelude.{◌≡◌, ℕ, ◌+◌, List, ◌++◌, Bool, Option, Some, false, length, map, true}
-use Rattle.blk_image.specs.Image.{Image}
+use Rattle.spec_image.specs.Image.{Image}
 use Rattle.blk_model.specs.Effects.{doomed}
 use Rattle.blk_model.specs.Items.{Item, part}
 use Rattle.blk_model.specs.Room.{items_of_group, parts_among, whole}
 use Rattle.blk_model.specs.State.{Object, State, is_named, object_at}
-use Rattle.blk_format.specs.SparseIndex.{ParentIndex}
-use Rattle.blk_volume.specs.Entries.{IsParent}
-use Rattle.blk_volume.specs.Found.{charge_of}
-use Rattle.blk_volume.specs.Layout.{Layout, nodes_of}
-use Rattle.blk_volume.specs.Loads.{Loaded}
-use Rattle.blk_volume.specs.Removal.{is_of_another}
-use Rattle.blk_kept.specs.CountsOfParts.{charges_at}
-use Rattle.blk_kept.specs.GroupLaws.{gone_nodes, layout_less}
-use Rattle.blk_kept.specs.Keeping.{Keeps}
-use Rattle.blk_kept.specs.WholeRemovals.{layout_doomed_whole}
+use Rattle.spec_format.specs.SparseIndex.{ParentIndex}
+use Rattle.spec_folder.specs.Entries.{IsParent}
+use Rattle.spec_folder.specs.Found.{charge_of}
+use Rattle.spec_folder.specs.Layout.{Layout, nodes_of}
+use Rattle.spec_folder.specs.Loads.{Loaded}
+use Rattle.spec_folder.specs.Removal.{is_of_another}
+use Rattle.law_state.specs.CountsOfParts.{charges_at}
+use Rattle.law_state.specs.GroupLaws.{gone_nodes, layout_less}
+use Rattle.law_state.specs.Keeping.{Keeps}
+use Rattle.law_state.specs.WholeRemovals.{layout_doomed_whole}
 use Rattle.blk_object.specs.Owning.{LoadsWith}
 use Rattle.blk_object.specs.RemovingFound.{LiesAsFound}
 use Rattle.blk_sparse.specs.Dropping.{AreGone, AreLeft, HasIndexedParts}

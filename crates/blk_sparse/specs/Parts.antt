@@ -1,15 +1,15 @@
 -- One part of an object: found by its name, and used.
 use Rattle.std.specs.Prelude.{◌≡◌, ◌⊎◌, ℕ, List, Option, true}
 use Rattle.std.specs.declared.option.Option.TheVariants.{None, Some}
-use Rattle.blk_image.specs.Image.{Image}
+use Rattle.spec_image.specs.Image.{Image}
 use Rattle.blk_model.specs.Holding.{rest}
 use Rattle.blk_model.specs.Items.{Item}
 use Rattle.blk_model.specs.State.{Object, State, part_at}
-use Rattle.blk_volume.specs.Layout.{Layout, is_listed}
-use Rattle.blk_volume.specs.Loads.{Loaded}
-use Rattle.blk_kept.specs.Changes.{Finds, SameCounters, SameSession}
-use Rattle.blk_kept.specs.Keeping.{CountsItems, KeepsUncounted}
-use Rattle.blk_kept.specs.ListLaws.{with_used}
+use Rattle.spec_folder.specs.Layout.{Layout, is_listed}
+use Rattle.spec_folder.specs.Loads.{Loaded}
+use Rattle.law_state.specs.Changes.{Finds, SameCounters, SameSession}
+use Rattle.law_state.specs.Keeping.{CountsItems, KeepsUncounted}
+use Rattle.law_state.specs.ListLaws.{with_used}
 use Rattle.blk_sparse.specs.SparseObjects.{HasPartAt, KeepsParent}
 
 -- Found.

@@ -3,15 +3,15 @@ use Rattle.std.specs.Prelude.{◌≡◌, ℕ, ◌+◌, ◌==◌, List, map, is_s
 use Rattle.std.specs.Option.{option_and_then}
 use Rattle.std.specs.declared.option.Option.{Option}
 use Rattle.std.specs.declared.option.Option.TheVariants.{Some}
-use Rattle.blk_image.specs.Image.{Image}
+use Rattle.spec_image.specs.Image.{Image}
 use Rattle.blk_model.specs.Bytes.{numbers_from}
 use Rattle.blk_model.specs.Items.{IsPartValue, PartValue}
 use Rattle.blk_model.specs.Sparse.{byte_in, first_run, up_to_missing}
 use Rattle.blk_model.specs.State.{Object, part_at}
-use Rattle.blk_format.specs.Names.{Name}
-use Rattle.blk_format.specs.SparseIndex.{PartIndex}
-use Rattle.blk_volume.specs.Entries.{IsPart, stream}
-use Rattle.blk_volume.specs.Loads.{Loaded}
+use Rattle.spec_format.specs.Names.{Name}
+use Rattle.spec_format.specs.SparseIndex.{PartIndex}
+use Rattle.spec_folder.specs.Entries.{IsPart, stream}
+use Rattle.spec_folder.specs.Loads.{Loaded}
 use Rattle.blk_object.specs.Owning.{LoadsWith}
 use Rattle.blk_ranges.specs.PartMaps.{presence_in}
 

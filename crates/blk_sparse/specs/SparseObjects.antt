@@ -1,7 +1,7 @@
 -- Sparse objects of a folder: a parent with its parts, before and after they are written, read or used.
 use Rattle.std.specs.Prelude.{◌≡◌, ◌≢◌, ℕ, ◌+◌, ◌≤◌, List, [], ◌++◌, filter, false, is_some, length, map, not, true, unwrap_or}
 use Rattle.std.specs.declared.option.Option.TheVariants.{Some}
-use Rattle.blk_image.specs.Image.{Image}
+use Rattle.spec_image.specs.Image.{Image}
 use Rattle.blk_model.specs.Effects.{existing_parts, used, used_all}
 use Rattle.blk_model.specs.Holding.{rest}
 use Rattle.blk_model.specs.Items.{Item, PartValue, main, part, plain, sparse}
@@ -9,14 +9,14 @@ use Rattle.blk_model.specs.Room.{items}
 use Rattle.blk_model.specs.Sizes.{most_items}
 use Rattle.blk_model.specs.Sparse.{covered_parts, empty_part, part_after, parts_after}
 use Rattle.blk_model.specs.State.{Object, State, object_at, part_at}
-use Rattle.blk_format.specs.SparseIndex.{ParentIndex}
-use Rattle.blk_volume.specs.Entries.{IsParent}
-use Rattle.blk_volume.specs.Layout.{Layout}
-use Rattle.blk_volume.specs.Loads.{Loaded}
-use Rattle.blk_kept.specs.Changes.{Finds, SameCounters, SameSession}
-use Rattle.blk_kept.specs.CommandStates.{amidst, in_order}
-use Rattle.blk_kept.specs.Keeping.{CountsItems, KeepsUncounted}
-use Rattle.blk_kept.specs.PartStates.{with_object, with_value}
+use Rattle.spec_format.specs.SparseIndex.{ParentIndex}
+use Rattle.spec_folder.specs.Entries.{IsParent}
+use Rattle.spec_folder.specs.Layout.{Layout}
+use Rattle.spec_folder.specs.Loads.{Loaded}
+use Rattle.law_state.specs.Changes.{Finds, SameCounters, SameSession}
+use Rattle.law_state.specs.CommandStates.{amidst, in_order}
+use Rattle.law_state.specs.Keeping.{CountsItems, KeepsUncounted}
+use Rattle.law_state.specs.PartStates.{with_object, with_value}
 use Rattle.blk_object.specs.Writing.{node_of_object}
 
 -- Parents.

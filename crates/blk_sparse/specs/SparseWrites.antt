@@ -2,21 +2,21 @@
 use Rattle.std.specs.Prelude.{◌≡◌, ℕ, ◌+◌, ◌<◌, ◌≤◌, ◌^◌, List, [], ◌∷◌, false, length, true}
 use Rattle.std.specs.Int.{cast_unsigned, w64}
 use Rattle.std.specs.declared.option.Option.TheVariants.{Some}
-use Rattle.blk_image.specs.Image.{Image}
+use Rattle.spec_image.specs.Image.{Image}
 use Rattle.blk_model.specs.Effects.{used_all}
 use Rattle.blk_model.specs.Items.{main, plain, sparse}
 use Rattle.blk_model.specs.Room.{items, total}
 use Rattle.blk_model.specs.Sizes.{most_items}
 use Rattle.blk_model.specs.Sparse.{covered_parts}
 use Rattle.blk_model.specs.State.{Object, State, object_at}
-use Rattle.blk_format.specs.SparseIndex.{ParentIndex}
-use Rattle.blk_volume.specs.Entries.{IsParent}
-use Rattle.blk_volume.specs.Layout.{Layout}
-use Rattle.blk_volume.specs.Loads.{Loaded}
-use Rattle.blk_kept.specs.Changes.{SameSession}
-use Rattle.blk_kept.specs.CommandStates.{amidst}
-use Rattle.blk_kept.specs.Keeping.{CountsItems, Keeps, KeepsUncounted}
-use Rattle.blk_kept.specs.ListLaws.{with_used}
+use Rattle.spec_format.specs.SparseIndex.{ParentIndex}
+use Rattle.spec_folder.specs.Entries.{IsParent}
+use Rattle.spec_folder.specs.Layout.{Layout}
+use Rattle.spec_folder.specs.Loads.{Loaded}
+use Rattle.law_state.specs.Changes.{SameSession}
+use Rattle.law_state.specs.CommandStates.{amidst}
+use Rattle.law_state.specs.Keeping.{CountsItems, Keeps, KeepsUncounted}
+use Rattle.law_state.specs.ListLaws.{with_used}
 use Rattle.blk_object.specs.Counters.{AreMoreItems}
 use Rattle.blk_sparse.specs.declared.children.Parent.{Parent}
 use Rattle.blk_sparse.specs.declared.storing.Target.{Target}

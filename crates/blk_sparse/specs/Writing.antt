@@ -1,15 +1,15 @@
 -- Bytes are written to an object with parts, piece by piece.
 use Rattle.std.specs.Prelude.{◌≡◌, ℕ, ◌-◌, ◌*◌, List, [], ◌∷◌, MatchOption}
 use Rattle.std.specs.Option.{ForSome}
-use Rattle.blk_image.specs.Image.{Image}
-use Rattle.blk_image.specs.Told.{Told}
+use Rattle.spec_image.specs.Image.{Image}
+use Rattle.spec_image.specs.Told.{Told}
 use Rattle.blk_model.specs.Sizes.{part_size}
 use Rattle.blk_model.specs.Sparse.{piece_for}
 use Rattle.blk_model.specs.State.{Object, State, part_at}
-use Rattle.blk_format.specs.Names.{child_name}
-use Rattle.blk_volume.specs.Layout.{Layout}
+use Rattle.spec_format.specs.Names.{child_name}
+use Rattle.spec_folder.specs.Layout.{Layout}
 use Rattle.blk_disk.specs.declared.tables.BlockFiles.{BlockFiles}
-use Rattle.blk_kept.specs.Keeping.{KeepsUncounted}
+use Rattle.law_state.specs.Keeping.{KeepsUncounted}
 use Rattle.blk_sparse.specs.Changing.{IsDataBeforeMap}
 use Rattle.blk_sparse.specs.NewParts.{IsWholeBeforeItsBit}
 use Rattle.blk_sparse.specs.SparseObjects.{CanGetParts, with_piece, with_piece_written}

@@ -1,19 +1,19 @@
 // A part that there is gets a piece.
 ghost use Rattle.std.specs.Prelude.{◌≡◌, ◌≤◌, ◌<◌, ◌+◌, [], IfOk, IsTrue, None, OnOk, length};
 ghost use Rattle.std.specs.Option.{ForSome};
-ghost use Rattle.blk_image.specs.Told.{Passes, Rises, Stays};
+ghost use Rattle.spec_image.specs.Told.{Passes, Rises, Stays};
 ghost use Rattle.blk_model.specs.Holding.{rest};
 ghost use Rattle.blk_model.specs.Sizes.{part_size};
-ghost use Rattle.blk_format.specs.Address.{blocks_256, kind_of};
-ghost use Rattle.blk_format.specs.Names.{Name};
-ghost use Rattle.blk_format.specs.SparseIndex.{PartIndex};
-ghost use Rattle.blk_volume.specs.Entries.{IsPart};
-ghost use Rattle.blk_volume.specs.Loads.{Loaded};
+ghost use Rattle.spec_format.specs.Address.{blocks_256, kind_of};
+ghost use Rattle.spec_format.specs.Names.{Name};
+ghost use Rattle.spec_format.specs.SparseIndex.{PartIndex};
+ghost use Rattle.spec_folder.specs.Entries.{IsPart};
+ghost use Rattle.spec_folder.specs.Loads.{Loaded};
 ghost use Rattle.blk_io.specs.Faults.{IfDamaged, IfDevice};
 ghost use Rattle.blk_disk.specs.Open.{IsOpen};
 ghost use Rattle.blk_disk.specs.Tables.{Agrees, stands_among};
 ghost use Rattle.blk_alloc.specs.Extending.{KeepsStanding};
-ghost use Rattle.blk_kept.specs.Changes.{Finds};
+ghost use Rattle.law_state.specs.Changes.{Finds};
 ghost use Rattle.blk_object.specs.FailedChecks.{IsFailedCheck};
 ghost use Rattle.blk_object.specs.Owning.{LoadsWith};
 ghost use Rattle.blk_ranges.specs.PartMaps.{IsPartMap, index_of};

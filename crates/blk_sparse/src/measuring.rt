@@ -2,12 +2,12 @@
 ghost use Rattle.std.specs.Prelude.{◌≡◌, ◌≤◌, ◌<◌, ◌+◌, ◌^◌, [], IfOk, IsTrue, None, length};
 ghost use Rattle.std.specs.Int.{cast_unsigned, w64};
 ghost use Rattle.std.specs.Option.{ForSome};
-ghost use Rattle.blk_image.specs.Told.{Rises, Stays};
+ghost use Rattle.spec_image.specs.Told.{Rises, Stays};
 ghost use Rattle.blk_model.specs.Sizes.{blocks_index_charge, largest_offset, longest_key, part_count, part_size, signatures};
-ghost use Rattle.blk_format.specs.Address.{blocks_256, kind_of};
+ghost use Rattle.spec_format.specs.Address.{blocks_256, kind_of};
 ghost use Rattle.blk_model.specs.State.{Object};
-ghost use Rattle.blk_format.specs.Names.{child_name, longest_name};
-ghost use Rattle.blk_volume.specs.Layout.{Layout};
+ghost use Rattle.spec_format.specs.Names.{child_name, longest_name};
+ghost use Rattle.spec_folder.specs.Layout.{Layout};
 ghost use Rattle.blk_io.specs.Faults.{IfDamaged, IfDevice};
 ghost use Rattle.blk_disk.specs.Open.{IsOpen};
 ghost use Rattle.blk_disk.specs.Tables.{stands_among};

@@ -3,11 +3,11 @@ use Rattle.std.proofs.Common.{◌≡◌, ◌≢◌, inl, inr, ⊎_elim, ℕ, ◌
 use Rattle.std.specs.Prelude.{◌==◌}
 use Rattle.std.proofs.lemmas.Bool.{cases_lt, eqb-true}
 use Rattle.std.proofs.lemmas.Bool.Decides.{nat_tests}
-use Rattle.blk_image.specs.Image.{External, Image, has_file}
-use Rattle.blk_format.specs.Address.{block_count, external, external_number, file_selector, first_block, kind_of}
-use Rattle.blk_format.specs.BlockFiles.{is_among}
-use Rattle.blk_format.specs.Claims.{BlockOf, Claim, ExternalOf, claims_of, claims_of_all, has_claim, repeats}
-use Rattle.blk_format.specs.Maps.{is_block_marked}
+use Rattle.spec_image.specs.Image.{External, Image, has_file}
+use Rattle.spec_format.specs.Address.{block_count, external, external_number, file_selector, first_block, kind_of}
+use Rattle.spec_format.specs.BlockFiles.{is_among}
+use Rattle.spec_format.specs.Claims.{BlockOf, Claim, ExternalOf, claims_of, claims_of_all, has_claim, repeats}
+use Rattle.spec_format.specs.Maps.{is_block_marked}
 use Rattle.blk_addr.proofs.AddressFields.{block_count_above_0}
 use Rattle.blk_disk.specs.declared.tables.BlockFiles.{BlockFiles}
 use Rattle.blk_disk.specs.Tables.{Agrees, stands_among}

@@ -4,16 +4,16 @@ use Rattle.std.specs.Prelude.{◌==◌, min, nat_eq}
 use Rattle.std.specs.Option.{option_map, ForSome}
 use Rattle.std.proofs.lemmas.Bool.{cases_eq, cases_lt, eqb-true}
 use Rattle.std.proofs.lemmas.Bool.Decides.{nat_tests}
-use Rattle.blk_image.specs.Image.{Block, External, Image, length_of}
-use Rattle.blk_image.specs.Steps.{after}
-use Rattle.blk_image.specs.Footprint.{Footprint, SameOutside, range}
-use Rattle.blk_image.specs.Told.{Told, Along, Applies, AppliesPrefix, IsQuiet, Passes}
-use Rattle.blk_image.proofs.Footprints.{outside-refl, outside-trans, outside_steps, outside_wider, within_left, within_right, words_within}
-use Rattle.blk_image.proofs.Runs.{part_whole, passes_end, passes_none, passes_part, passes_then, some_inj}
-use Rattle.blk_image.proofs.WordSteps.{quiet-words}
-use Rattle.blk_image.proofs.Words.{content-range, length-range}
-use Rattle.blk_format.specs.Address.{kind_of, external, external_number, file_selector, first_block, block_count, block_place, block_size, place, byte_size}
-use Rattle.blk_format.proofs.SpareHeaders.{other_file}
+use Rattle.spec_image.specs.Image.{Block, External, Image, length_of}
+use Rattle.spec_image.specs.Steps.{after}
+use Rattle.spec_image.specs.Footprint.{Footprint, SameOutside, range}
+use Rattle.spec_image.specs.Told.{Told, Along, Applies, AppliesPrefix, IsQuiet, Passes}
+use Rattle.spec_image.proofs.Footprints.{outside-refl, outside-trans, outside_steps, outside_wider, within_left, within_right, words_within}
+use Rattle.spec_image.proofs.Runs.{part_whole, passes_end, passes_none, passes_part, passes_then, some_inj}
+use Rattle.spec_image.proofs.WordSteps.{quiet-words}
+use Rattle.spec_image.proofs.Words.{content-range, length-range}
+use Rattle.spec_format.specs.Address.{kind_of, external, external_number, file_selector, first_block, block_count, block_place, block_size, place, byte_size}
+use Rattle.spec_format.proofs.SpareHeaders.{other_file}
 use Rattle.blk_io.specs.declared.fault.Damage.{Damage}
 use Rattle.blk_disk.specs.declared.tables.BlockFiles.{BlockFiles}
 use Rattle.blk_disk.specs.Tables.{Agrees}

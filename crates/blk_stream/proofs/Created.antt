@@ -3,25 +3,25 @@ use Rattle.std.proofs.Common.{◌≡◌, ◌⊎◌, inl, inr, ℕ, Bool, true, f
 use Rattle.std.specs.Prelude.{◌==◌}
 use Rattle.std.proofs.lemmas.Bool.Decides.{nat_tests}
 use Rattle.std.specs.Option.{ForSome}
-use Rattle.blk_image.specs.Bytes.{word_bytes}
-use Rattle.blk_image.specs.Image.{External, Image, Index, bytes_of, has_file}
-use Rattle.blk_image.specs.Steps.{SetLength, Word, after, applied, word_step}
-use Rattle.blk_image.specs.Footprint.{Footprint, SameOutside, one_word, whole}
-use Rattle.blk_image.specs.Told.{Applies, IsQuiet, Passes, Told, Until}
-use Rattle.blk_image.proofs.Footprints.{outside-refl, outside-trans, outside_step, outside_wider, same_file_outside, within_left, within_right}
-use Rattle.blk_image.proofs.Images.{with_file-same}
-use Rattle.blk_image.proofs.Runs.{passes_part, some_inj, told_whole}
-use Rattle.blk_image.proofs.Splices.{resized-zero}
-use Rattle.blk_format.specs.Address.{external, external_number, kind_of}
-use Rattle.blk_format.specs.BlockFiles.{IsWellFormed}
-use Rattle.blk_format.specs.Storage.{kind_for}
+use Rattle.spec_image.specs.Bytes.{word_bytes}
+use Rattle.spec_image.specs.Image.{External, Image, Index, bytes_of, has_file}
+use Rattle.spec_image.specs.Steps.{SetLength, Word, after, applied, word_step}
+use Rattle.spec_image.specs.Footprint.{Footprint, SameOutside, one_word, whole}
+use Rattle.spec_image.specs.Told.{Applies, IsQuiet, Passes, Told, Until}
+use Rattle.spec_image.proofs.Footprints.{outside-refl, outside-trans, outside_step, outside_wider, same_file_outside, within_left, within_right}
+use Rattle.spec_image.proofs.Images.{with_file-same}
+use Rattle.spec_image.proofs.Runs.{passes_part, some_inj, told_whole}
+use Rattle.spec_image.proofs.Splices.{resized-zero}
+use Rattle.spec_format.specs.Address.{external, external_number, kind_of}
+use Rattle.spec_format.specs.BlockFiles.{IsWellFormed}
+use Rattle.spec_format.specs.Storage.{kind_for}
 use Rattle.blk_disk.specs.declared.tables.BlockFiles.{BlockFiles}
 use Rattle.blk_disk.specs.Tables.{Agrees}
 use Rattle.blk_disk.proofs.Agreeing.{agrees_still}
 use Rattle.blk_external.specs.Making.{Creates, CreatesPrefix, last_number, making, touched_by_making}
 use Rattle.blk_external.specs.Numbers.{HasFreeNumber, IsFirstFree}
 use Rattle.blk_external.proofs.Changes.{other_number}
-use Rattle.blk_laws.proofs.updates.IndexWords.{others-unchecked}
+use Rattle.law_folder.proofs.updates.IndexWords.{others-unchecked}
 use Rattle.blk_stream.specs.Placing.{CanBePlaced, IsNewPlace, LosesNothing, MakesPlace, PlacesInProgress, NewFile, placing_of}
 use Rattle.blk_stream.specs.Freeing.{is_block_of}
 use Rattle.blk_stream.proofs.PlacesLeft.{formed_behind}

@@ -4,19 +4,19 @@ use Rattle.std.specs.Prelude.{◌==◌}
 use Rattle.std.specs.Option.{ForSome}
 use Rattle.std.proofs.lemmas.Bool.{cases_Bool, cases_eq, cases_lt, eqb-true}
 use Rattle.std.proofs.lemmas.Bool.Decides.{nat_tests}
-use Rattle.blk_image.specs.Image.{Block, External, Image, has_file, word}
-use Rattle.blk_image.specs.Footprint.{SameOutside, IsWithin, either, nothing}
-use Rattle.blk_image.specs.Told.{Told, Passes}
-use Rattle.blk_image.proofs.Footprints.{outside-refl, outside-trans, outside_wider, same_word_outside, within_left, within_right, within-refl}
-use Rattle.blk_image.proofs.Runs.{passes_none, passes_then, passes_weaker, some_inj}
-use Rattle.blk_format.specs.Address.{kind_of, external, external_number, file_selector, place}
-use Rattle.blk_format.specs.BlockFiles.{is_among}
-use Rattle.blk_format.specs.Claims.{is_in_file}
-use Rattle.blk_format.specs.Maps.{AreAllocations, is_block_marked}
-use Rattle.blk_format.specs.Sealed.{RecordChecks, record_at}
-use Rattle.blk_format.proofs.LinkedHeads.{count_whole}
-use Rattle.blk_format.proofs.SpareHeaders.{past_header}
-use Rattle.blk_volume.specs.Entries.{stream}
+use Rattle.spec_image.specs.Image.{Block, External, Image, has_file, word}
+use Rattle.spec_image.specs.Footprint.{SameOutside, IsWithin, either, nothing}
+use Rattle.spec_image.specs.Told.{Told, Passes}
+use Rattle.spec_image.proofs.Footprints.{outside-refl, outside-trans, outside_wider, same_word_outside, within_left, within_right, within-refl}
+use Rattle.spec_image.proofs.Runs.{passes_none, passes_then, passes_weaker, some_inj}
+use Rattle.spec_format.specs.Address.{kind_of, external, external_number, file_selector, place}
+use Rattle.spec_format.specs.BlockFiles.{is_among}
+use Rattle.spec_format.specs.Claims.{is_in_file}
+use Rattle.spec_format.specs.Maps.{AreAllocations, is_block_marked}
+use Rattle.spec_format.specs.Sealed.{RecordChecks, record_at}
+use Rattle.spec_format.proofs.LinkedHeads.{count_whole}
+use Rattle.spec_format.proofs.SpareHeaders.{past_header}
+use Rattle.spec_folder.specs.Entries.{stream}
 use Rattle.blk_disk.specs.declared.tables.BlockFiles.{BlockFiles}
 use Rattle.blk_disk.specs.Tables.{Agrees}
 use Rattle.blk_disk.proofs.Ranges.{stands_linked}

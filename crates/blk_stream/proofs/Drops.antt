@@ -3,13 +3,13 @@ use Rattle.std.proofs.Common.{◌≡◌, ◌≢◌, inl, ⊎_elim, ℕ, Bool, tr
 use Rattle.std.specs.Prelude.{◌==◌, nat_eq}
 use Rattle.std.proofs.lemmas.Bool.{cases_Bool, cases_eq, eqb-true}
 use Rattle.std.proofs.lemmas.Bool.Decides.{nat_tests}
-use Rattle.blk_image.specs.Image.{External, Image, has_file, word}
-use Rattle.blk_image.specs.Footprint.{Footprint, SameOutside, either, whole}
-use Rattle.blk_image.proofs.Footprints.{outside-refl}
-use Rattle.blk_format.specs.Address.{kind_of, external, external_number, file_selector}
-use Rattle.blk_format.specs.Claims.{is_in_file}
-use Rattle.blk_format.specs.Maps.{AreAllocations, is_block_marked}
-use Rattle.blk_format.specs.Sealed.{RecordChecks}
+use Rattle.spec_image.specs.Image.{External, Image, has_file, word}
+use Rattle.spec_image.specs.Footprint.{Footprint, SameOutside, either, whole}
+use Rattle.spec_image.proofs.Footprints.{outside-refl}
+use Rattle.spec_format.specs.Address.{kind_of, external, external_number, file_selector}
+use Rattle.spec_format.specs.Claims.{is_in_file}
+use Rattle.spec_format.specs.Maps.{AreAllocations, is_block_marked}
+use Rattle.spec_format.specs.Sealed.{RecordChecks}
 use Rattle.blk_alloc.specs.Changes.{map_of}
 use Rattle.blk_stream.specs.Streams.{address_word, size_word}
 use Rattle.blk_stream.specs.Changing.{stream_words}

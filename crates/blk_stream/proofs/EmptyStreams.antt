@@ -3,15 +3,15 @@ use Rattle.std.proofs.Common.{◌≡◌, ◌⊎◌, inl, inr, ⊎_elim, ℕ, zer
 use Rattle.std.specs.Prelude.{◌==◌, not}
 use Rattle.std.specs.Option.{option_and_then, option_map}
 use Rattle.std.proofs.lemmas.Bool.{eqb-true}
-use Rattle.blk_image.specs.Bytes.{words_at}
-use Rattle.blk_image.specs.Image.{Block, Image, word}
-use Rattle.blk_image.proofs.Footprints.{same_word_outside}
-use Rattle.blk_format.specs.Address.{file_selector, place, blocks_256}
-use Rattle.blk_format.specs.Records.{entry_in}
-use Rattle.blk_format.specs.Storage.{is_storage}
-use Rattle.blk_format.proofs.SpareHeaders.{past_header}
-use Rattle.blk_volume.specs.View.{RecordFields, fields_at, fields_of, entry_at, data_size_of, address_of, stands_as, stored_at, store_of}
-use Rattle.blk_volume.specs.Entries.{stored_stream, stored_streams}
+use Rattle.spec_image.specs.Bytes.{words_at}
+use Rattle.spec_image.specs.Image.{Block, Image, word}
+use Rattle.spec_image.proofs.Footprints.{same_word_outside}
+use Rattle.spec_format.specs.Address.{file_selector, place, blocks_256}
+use Rattle.spec_format.specs.Records.{entry_in}
+use Rattle.spec_format.specs.Storage.{is_storage}
+use Rattle.spec_format.proofs.SpareHeaders.{past_header}
+use Rattle.spec_folder.specs.View.{RecordFields, fields_at, fields_of, entry_at, data_size_of, address_of, stands_as, stored_at, store_of}
+use Rattle.spec_folder.specs.Entries.{stored_stream, stored_streams}
 use Rattle.blk_entry.proofs.NewShown.{stands_as_kind, stands_here}
 use Rattle.blk_entry.proofs.Windows.{not_external}
 use Rattle.blk_stream.specs.Streams.{address_place, address_word, size_place, size_word, streams_at}

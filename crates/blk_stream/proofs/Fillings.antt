@@ -4,14 +4,14 @@ use Rattle.std.specs.Prelude.{◌==◌, ◌&&◌, min, nat_eq, unwrap_or}
 use Rattle.std.proofs.lemmas.Bool.{cases_eq, eqb-true}
 use Rattle.std.proofs.lemmas.Bool.Decides.{nat_tests}
 use Rattle.std.specs.Option.{option_map, ForSome}
-use Rattle.blk_image.specs.Image.{File, Block, External, Image, length_of}
-use Rattle.blk_image.specs.Steps.{TrailStep, after}
-use Rattle.blk_image.specs.Footprint.{SameOutside, IsWithin, range, whole}
-use Rattle.blk_image.specs.Told.{Told, Along, Applies, AppliesPrefix, Passes}
-use Rattle.blk_image.proofs.Footprints.{outside-refl, outside-trans, outside_steps, outside_wider, range_within, within_both}
-use Rattle.blk_image.proofs.Runs.{part_whole, passes_part, passes_weaker, some_inj, until_last}
-use Rattle.blk_format.specs.Address.{kind_of, external, external_number, file_selector, first_block, block_count, place, byte_size}
-use Rattle.blk_format.proofs.SpareHeaders.{other_file}
+use Rattle.spec_image.specs.Image.{File, Block, External, Image, length_of}
+use Rattle.spec_image.specs.Steps.{TrailStep, after}
+use Rattle.spec_image.specs.Footprint.{SameOutside, IsWithin, range, whole}
+use Rattle.spec_image.specs.Told.{Told, Along, Applies, AppliesPrefix, Passes}
+use Rattle.spec_image.proofs.Footprints.{outside-refl, outside-trans, outside_steps, outside_wider, range_within, within_both}
+use Rattle.spec_image.proofs.Runs.{part_whole, passes_part, passes_weaker, some_inj, until_last}
+use Rattle.spec_format.specs.Address.{kind_of, external, external_number, file_selector, first_block, block_count, place, byte_size}
+use Rattle.spec_format.proofs.SpareHeaders.{other_file}
 use Rattle.blk_disk.specs.declared.tables.BlockFiles.{BlockFiles}
 use Rattle.blk_disk.specs.Tables.{Agrees}
 use Rattle.blk_entry.specs.Keys.{IsInFile, IsInside, data_file, data_start}

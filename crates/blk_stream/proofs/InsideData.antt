@@ -5,14 +5,14 @@ use Rattle.std.proofs.lemmas.Bool.{cases_lt, eqb-true}
 use Rattle.std.proofs.lemmas.Bool.Decides.{nat_tests}
 use Rattle.std.proofs.lemmas.List.{ext_get_or, get_or-append_right, get_or_append_left, get_or-drop, get_or-take, get_or_past, length-append, length-drop, length-replicate, length-take}
 use Rattle.blk_model.specs.Effects.{stream_after}
-use Rattle.blk_image.specs.Bytes.{content, resized, spliced, zeros}
-use Rattle.blk_image.specs.Image.{File, External, Image, byte, bytes_of, length_of}
-use Rattle.blk_image.specs.Steps.{TrailStep, SetLength, after, applied, words, written_over}
-use Rattle.blk_image.proofs.Cuts.{after-append, after-words}
-use Rattle.blk_image.proofs.Images.{bytes-written, bytes_of-set_len, length-after_set_len, with_file-same}
-use Rattle.blk_image.proofs.Splices.{content-resized, content-spliced_inside, content-spliced_outside, content-zeros, length-spliced, length-zeros}
-use Rattle.blk_image.proofs.Words.{content-range, length-range}
-use Rattle.blk_format.specs.Address.{kind_of, external, external_number}
+use Rattle.spec_image.specs.Bytes.{content, resized, spliced, zeros}
+use Rattle.spec_image.specs.Image.{File, External, Image, byte, bytes_of, length_of}
+use Rattle.spec_image.specs.Steps.{TrailStep, SetLength, after, applied, words, written_over}
+use Rattle.spec_image.proofs.Cuts.{after-append, after-words}
+use Rattle.spec_image.proofs.Images.{bytes-written, bytes_of-set_len, length-after_set_len, with_file-same}
+use Rattle.spec_image.proofs.Splices.{content-resized, content-spliced_inside, content-spliced_outside, content-zeros, length-spliced, length-zeros}
+use Rattle.spec_image.proofs.Words.{content-range, length-range}
+use Rattle.spec_format.specs.Address.{kind_of, external, external_number}
 use Rattle.blk_entry.specs.Keys.{data_at, data_file, data_start}
 use Rattle.blk_entry.specs.Steps.{data_steps}
 use Rattle.blk_stream.specs.Writing.{size_after}

@@ -3,20 +3,20 @@ use Rattle.std.proofs.Common.{◌≡◌, ◌≢◌, ⊎_elim, ℕ, ◌+◌, ◌-
 use Rattle.std.specs.Prelude.{◌==◌, is_some}
 use Rattle.std.proofs.lemmas.Bool.{cases_eq, eqb-true}
 use Rattle.std.proofs.lemmas.List.Elements.{All-cons, All-nil}
-use Rattle.blk_image.specs.Bytes.{zeros}
-use Rattle.blk_image.specs.Image.{AreBytes, Block, External, File, Image, Index, has_file}
-use Rattle.blk_image.specs.Steps.{SetLength, TrailStep, after, applied, words}
-use Rattle.blk_image.specs.Footprint.{Footprint, IsWithin, SameOutside, range, touched_by_all}
-use Rattle.blk_image.specs.Told.{Along}
-use Rattle.blk_image.proofs.Footprints.{outside-refl, outside_step, outside_steps, words_within}
-use Rattle.blk_image.proofs.Images.{with_file-same}
-use Rattle.blk_image.proofs.Runs.{until-append, until_both, until_last, until_weaker2}
-use Rattle.blk_format.specs.Address.{blocks_256, external, external_number, kind_of}
-use Rattle.blk_format.specs.Records.{entry_checks}
-use Rattle.blk_format.specs.Sealed.{IsMidUpdate, RecordChecks, record_at, seal_place, sealed_steps, steps_over}
-use Rattle.blk_format.proofs.SealedRecords.{entry_seal, moments}
-use Rattle.blk_volume.specs.View.{entry_at}
-use Rattle.blk_laws.proofs.updates.Fronts.{AreSmall}
+use Rattle.spec_image.specs.Bytes.{zeros}
+use Rattle.spec_image.specs.Image.{AreBytes, Block, External, File, Image, Index, has_file}
+use Rattle.spec_image.specs.Steps.{SetLength, TrailStep, after, applied, words}
+use Rattle.spec_image.specs.Footprint.{Footprint, IsWithin, SameOutside, range, touched_by_all}
+use Rattle.spec_image.specs.Told.{Along}
+use Rattle.spec_image.proofs.Footprints.{outside-refl, outside_step, outside_steps, words_within}
+use Rattle.spec_image.proofs.Images.{with_file-same}
+use Rattle.spec_image.proofs.Runs.{until-append, until_both, until_last, until_weaker2}
+use Rattle.spec_format.specs.Address.{blocks_256, external, external_number, kind_of}
+use Rattle.spec_format.specs.Records.{entry_checks}
+use Rattle.spec_format.specs.Sealed.{IsMidUpdate, RecordChecks, record_at, seal_place, sealed_steps, steps_over}
+use Rattle.spec_format.proofs.SealedRecords.{entry_seal, moments}
+use Rattle.spec_folder.specs.View.{entry_at}
+use Rattle.law_folder.proofs.updates.Fronts.{AreSmall}
 use Rattle.blk_disk.specs.declared.tables.BlockFiles.{BlockFiles}
 use Rattle.blk_disk.specs.Tables.{Agrees, stands_among}
 use Rattle.blk_entry.specs.Keys.{IsInside, data_file, data_start}

@@ -5,22 +5,22 @@ use Rattle.std.specs.Option.{ForSome}
 use Rattle.std.proofs.lemmas.Bool.{and_parts, cases_Bool, cases_eq, eqb-true}
 use Rattle.std.proofs.lemmas.Bool.Decides.{nat_tests}
 use Rattle.std.proofs.lemmas.List.Elements.{All-nil, All-cons}
-use Rattle.blk_image.specs.Bytes.{zeros}
-use Rattle.blk_image.specs.Image.{File, Block, External, Image, byte, length_of, same_file}
-use Rattle.blk_image.specs.Steps.{TrailStep, SetLength, after, applied, with_words, words, word_step}
-use Rattle.blk_image.specs.Footprint.{Footprint, SameOutside, IsWithin, either, nothing, one_word, range, whole, touched_by_all}
-use Rattle.blk_image.specs.Told.{Told, Applies, AppliesPrefix, Along, IsQuiet}
-use Rattle.blk_image.proofs.Footprints.{outside-refl, outside-trans, outside_step, outside_steps, outside_wider, within_both, within_left, within_right, words_within}
-use Rattle.blk_image.proofs.Images.{length-after_set_len}
-use Rattle.blk_image.proofs.Runs.{told_part, told_whole, until-append, until_both, until_last, until_weaker2, quiet-append}
-use Rattle.blk_image.proofs.WordSteps.{quiet-word_steps, quiet-words}
-use Rattle.blk_image.proofs.Words.{same-range}
-use Rattle.blk_image.proofs.Splices.{length-zeros}
-use Rattle.blk_format.specs.Address.{kind_of, external, external_number, file_selector, first_block, block_count, place, byte_size, block_place, block_size, blocks_256}
-use Rattle.blk_format.specs.Records.{seal_of}
-use Rattle.blk_format.specs.Sealed.{AreChanges, IsMidUpdate, RecordChecks, new_seal, record_at, placed, record_size, sealed_steps, seal_place, steps_over, update_steps, update_words}
-use Rattle.blk_format.proofs.SealedRecords.{entry_bytes, entry_seal, moments, record_inside}
-use Rattle.blk_format.proofs.SpareHeaders.{SparesHeaders, other_file}
+use Rattle.spec_image.specs.Bytes.{zeros}
+use Rattle.spec_image.specs.Image.{File, Block, External, Image, byte, length_of, same_file}
+use Rattle.spec_image.specs.Steps.{TrailStep, SetLength, after, applied, with_words, words, word_step}
+use Rattle.spec_image.specs.Footprint.{Footprint, SameOutside, IsWithin, either, nothing, one_word, range, whole, touched_by_all}
+use Rattle.spec_image.specs.Told.{Told, Applies, AppliesPrefix, Along, IsQuiet}
+use Rattle.spec_image.proofs.Footprints.{outside-refl, outside-trans, outside_step, outside_steps, outside_wider, within_both, within_left, within_right, words_within}
+use Rattle.spec_image.proofs.Images.{length-after_set_len}
+use Rattle.spec_image.proofs.Runs.{told_part, told_whole, until-append, until_both, until_last, until_weaker2, quiet-append}
+use Rattle.spec_image.proofs.WordSteps.{quiet-word_steps, quiet-words}
+use Rattle.spec_image.proofs.Words.{same-range}
+use Rattle.spec_image.proofs.Splices.{length-zeros}
+use Rattle.spec_format.specs.Address.{kind_of, external, external_number, file_selector, first_block, block_count, place, byte_size, block_place, block_size, blocks_256}
+use Rattle.spec_format.specs.Records.{seal_of}
+use Rattle.spec_format.specs.Sealed.{AreChanges, IsMidUpdate, RecordChecks, new_seal, record_at, placed, record_size, sealed_steps, seal_place, steps_over, update_steps, update_words}
+use Rattle.spec_format.proofs.SealedRecords.{entry_bytes, entry_seal, moments, record_inside}
+use Rattle.spec_format.proofs.SpareHeaders.{SparesHeaders, other_file}
 use Rattle.blk_disk.specs.declared.tables.BlockFiles.{BlockFiles}
 use Rattle.blk_disk.specs.Tables.{Agrees, stands_among}
 use Rattle.blk_disk.proofs.Agreeing.{agrees_still}

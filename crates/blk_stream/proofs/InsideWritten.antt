@@ -4,20 +4,20 @@ use Rattle.std.specs.Prelude.{◌==◌}
 use Rattle.std.proofs.lemmas.Bool.{cases_eq, eqb-true}
 use Rattle.std.proofs.lemmas.Bool.Decides.{nat_tests}
 use Rattle.std.proofs.lemmas.List.Elements.{All-nil, All-cons}
-use Rattle.blk_image.specs.Bytes.{content, word_at}
-use Rattle.blk_image.specs.Image.{AreBytes, File, Block, External, Image, byte, length_of}
-use Rattle.blk_image.specs.Steps.{TrailStep, after}
-use Rattle.blk_image.specs.Footprint.{SameOutside}
-use Rattle.blk_image.specs.Told.{Along}
-use Rattle.blk_image.proofs.Cuts.{after-append}
-use Rattle.blk_image.proofs.Footprints.{outside-refl, outside_steps}
-use Rattle.blk_image.proofs.Runs.{until_last}
-use Rattle.blk_image.proofs.Words.{same-range}
-use Rattle.blk_format.specs.Address.{kind_of, external, external_number, file_selector, first_block, block_count, place, blocks_256}
-use Rattle.blk_format.specs.Sealed.{IsUpdated, RecordChecks, record_at, record_size, sealed_steps, steps_over}
-use Rattle.blk_format.proofs.SealedRecords.{entry_bytes, updated}
-use Rattle.blk_format.proofs.SealedFields.{record_word as word_of_record, updated_is_new}
-use Rattle.blk_format.proofs.SpareHeaders.{other_file}
+use Rattle.spec_image.specs.Bytes.{content, word_at}
+use Rattle.spec_image.specs.Image.{AreBytes, File, Block, External, Image, byte, length_of}
+use Rattle.spec_image.specs.Steps.{TrailStep, after}
+use Rattle.spec_image.specs.Footprint.{SameOutside}
+use Rattle.spec_image.specs.Told.{Along}
+use Rattle.spec_image.proofs.Cuts.{after-append}
+use Rattle.spec_image.proofs.Footprints.{outside-refl, outside_steps}
+use Rattle.spec_image.proofs.Runs.{until_last}
+use Rattle.spec_image.proofs.Words.{same-range}
+use Rattle.spec_format.specs.Address.{kind_of, external, external_number, file_selector, first_block, block_count, place, blocks_256}
+use Rattle.spec_format.specs.Sealed.{IsUpdated, RecordChecks, record_at, record_size, sealed_steps, steps_over}
+use Rattle.spec_format.proofs.SealedRecords.{entry_bytes, updated}
+use Rattle.spec_format.proofs.SealedFields.{record_word as word_of_record, updated_is_new}
+use Rattle.spec_format.proofs.SpareHeaders.{other_file}
 use Rattle.blk_disk.specs.declared.tables.BlockFiles.{BlockFiles}
 use Rattle.blk_disk.specs.Tables.{Agrees, stands_among}
 use Rattle.blk_disk.proofs.Ranges.{stands_range}

@@ -2,18 +2,18 @@
 use Rattle.std.proofs.Common.{◌≡◌, ◌≢◌, ℕ, Bool, true, false, List, [], Option, refl, sym, ◌∙◌, ap, subst, arith}
 use Rattle.std.specs.Prelude.{◌==◌, ◌&&◌, not, unwrap_or}
 use Rattle.std.proofs.lemmas.Bool.Decides.{nat_tests}
-use Rattle.blk_image.specs.Bytes.{content}
-use Rattle.blk_image.specs.Image.{Block, External, Image}
-use Rattle.blk_image.specs.Footprint.{Footprint, SameOutside, whole}
-use Rattle.blk_image.proofs.Footprints.{same_file_outside}
-use Rattle.blk_format.specs.Address.{kind_of, is_address, external, file_selector}
-use Rattle.blk_format.specs.BlockFiles.{kind_among, max_entries_in, stands_in, stands_in_blocks}
-use Rattle.blk_format.specs.Claims.{is_in_file}
-use Rattle.blk_format.specs.Growth.{KeepsBlocks}
-use Rattle.blk_format.specs.Headers.{allocations_of}
-use Rattle.blk_format.specs.Maps.{EmptyAgrees, is_block_marked, KeepsFile}
-use Rattle.blk_format.specs.Standing.{stands, stands_as_blocks}
-use Rattle.blk_format.proofs.SpareHeaders.{SparesHeaders, blocks_same, linked_same}
+use Rattle.spec_image.specs.Bytes.{content}
+use Rattle.spec_image.specs.Image.{Block, External, Image}
+use Rattle.spec_image.specs.Footprint.{Footprint, SameOutside, whole}
+use Rattle.spec_image.proofs.Footprints.{same_file_outside}
+use Rattle.spec_format.specs.Address.{kind_of, is_address, external, file_selector}
+use Rattle.spec_format.specs.BlockFiles.{kind_among, max_entries_in, stands_in, stands_in_blocks}
+use Rattle.spec_format.specs.Claims.{is_in_file}
+use Rattle.spec_format.specs.Growth.{KeepsBlocks}
+use Rattle.spec_format.specs.Headers.{allocations_of}
+use Rattle.spec_format.specs.Maps.{EmptyAgrees, is_block_marked, KeepsFile}
+use Rattle.spec_format.specs.Standing.{stands, stands_as_blocks}
+use Rattle.spec_format.proofs.SpareHeaders.{SparesHeaders, blocks_same, linked_same}
 
 -- no byte of a block file is touched, and the length and presence of none
 pub record SparesBlockFiles (F : Footprint) : Type 0 where

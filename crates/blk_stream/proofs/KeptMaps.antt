@@ -3,14 +3,14 @@ use Rattle.std.proofs.Common.{◌≡◌, ◌≢◌, inl, inr, ⊎_elim, ℕ, ◌
 use Rattle.std.specs.Prelude.{◌==◌}
 use Rattle.std.proofs.lemmas.Bool.{cases_Bool, eqb-true}
 use Rattle.std.proofs.lemmas.Bool.Decides.{nat_tests}
-use Rattle.blk_image.specs.Image.{Block, External, Image, byte}
-use Rattle.blk_image.specs.Footprint.{Footprint, SameOutside, nothing, range, whole}
-use Rattle.blk_image.proofs.Words.{same-word_at}
-use Rattle.blk_format.specs.Address.{byte_size, external, external_number, file_selector, kind_of, place}
-use Rattle.blk_format.specs.BlockFiles.{max_entries_in, most_blocks}
-use Rattle.blk_format.specs.Headers.{updating_of}
-use Rattle.blk_format.specs.Maps.{AreAllocations, EmptyAgrees, is_block_marked}
-use Rattle.blk_format.proofs.SpareHeaders.{SparesHeaders, blocks_same, blocks_spare}
+use Rattle.spec_image.specs.Image.{Block, External, Image, byte}
+use Rattle.spec_image.specs.Footprint.{Footprint, SameOutside, nothing, range, whole}
+use Rattle.spec_image.proofs.Words.{same-word_at}
+use Rattle.spec_format.specs.Address.{byte_size, external, external_number, file_selector, kind_of, place}
+use Rattle.spec_format.specs.BlockFiles.{max_entries_in, most_blocks}
+use Rattle.spec_format.specs.Headers.{updating_of}
+use Rattle.spec_format.specs.Maps.{AreAllocations, EmptyAgrees, is_block_marked}
+use Rattle.spec_format.proofs.SpareHeaders.{SparesHeaders, blocks_same, blocks_spare}
 use Rattle.blk_disk.specs.declared.tables.BlockFiles.{BlockFiles}
 use Rattle.blk_alloc.specs.Laws.{SparesHeadersAndSizes}
 use Rattle.blk_alloc.proofs.Spared.{allocations_kept, empty_kept, marks_kept}

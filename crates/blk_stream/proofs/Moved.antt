@@ -3,11 +3,11 @@ use Rattle.std.proofs.Common.{◌≡◌, ◌≢◌, ⊎_elim, ℕ, zero, suc, �
 use Rattle.std.specs.Prelude.{◌==◌}
 use Rattle.std.proofs.lemmas.Bool.{and_parts, cases_Bool, cases_eq, eqb-true}
 use Rattle.std.proofs.lemmas.Bool.Decides.{nat_tests}
-use Rattle.blk_image.specs.Image.{Image}
-use Rattle.blk_format.specs.Address.{block_count, blocks_256, is_address, external, kind_of}
-use Rattle.blk_format.specs.BlockFiles.{is_among}
-use Rattle.blk_format.specs.Claims.{claims_of, claims_of_all, repeats}
-use Rattle.blk_format.specs.Storage.{blocks_for, is_storage, kind_for}
+use Rattle.spec_image.specs.Image.{Image}
+use Rattle.spec_format.specs.Address.{block_count, blocks_256, is_address, external, kind_of}
+use Rattle.spec_format.specs.BlockFiles.{is_among}
+use Rattle.spec_format.specs.Claims.{claims_of, claims_of_all, repeats}
+use Rattle.spec_format.specs.Storage.{blocks_for, is_storage, kind_for}
 use Rattle.blk_disk.specs.declared.tables.BlockFiles.{BlockFiles}
 use Rattle.blk_disk.specs.Tables.{stands_among}
 use Rattle.blk_entry.specs.Keys.{stores}

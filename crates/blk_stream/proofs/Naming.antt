@@ -5,18 +5,18 @@ use Rattle.std.specs.List.{All}
 use Rattle.std.proofs.lemmas.Bool.{cases_lt}
 use Rattle.std.proofs.lemmas.Bool.Decides.{nat_tests}
 use Rattle.std.proofs.lemmas.List.Elements.{All-nil, All-cons}
-use Rattle.blk_image.specs.Image.{AreBytes, File, Block, Image, same_file, word}
-use Rattle.blk_image.specs.Steps.{TrailStep, with_words, word_step}
-use Rattle.blk_image.specs.Footprint.{Footprint, SameOutside, IsWithin, either, nothing, one_word, touched_by_all}
-use Rattle.blk_image.specs.Told.{Along}
-use Rattle.blk_image.proofs.Footprints.{outside-refl, outside_steps, same_word_outside, within_both, within_left, within_right}
-use Rattle.blk_image.proofs.Runs.{until_both, until_weaker2}
-use Rattle.blk_image.proofs.Words.{length-with_word, length-with_words}
-use Rattle.blk_format.specs.Address.{kind_of, file_selector, place, blocks_256}
-use Rattle.blk_format.specs.Sealed.{AreChanges, IsMidUpdate, IsUpdated, RecordChecks, record_size, sealed, sealed_steps, seal_place, update_steps}
-use Rattle.blk_format.proofs.SealedFields.{record_word as word_of_record, updated_is_new}
-use Rattle.blk_format.proofs.SealedRecords.{entry_bytes, entry_seal, moments, record_inside}
-use Rattle.blk_format.proofs.SpareHeaders.{past_header}
+use Rattle.spec_image.specs.Image.{AreBytes, File, Block, Image, same_file, word}
+use Rattle.spec_image.specs.Steps.{TrailStep, with_words, word_step}
+use Rattle.spec_image.specs.Footprint.{Footprint, SameOutside, IsWithin, either, nothing, one_word, touched_by_all}
+use Rattle.spec_image.specs.Told.{Along}
+use Rattle.spec_image.proofs.Footprints.{outside-refl, outside_steps, same_word_outside, within_both, within_left, within_right}
+use Rattle.spec_image.proofs.Runs.{until_both, until_weaker2}
+use Rattle.spec_image.proofs.Words.{length-with_word, length-with_words}
+use Rattle.spec_format.specs.Address.{kind_of, file_selector, place, blocks_256}
+use Rattle.spec_format.specs.Sealed.{AreChanges, IsMidUpdate, IsUpdated, RecordChecks, record_size, sealed, sealed_steps, seal_place, update_steps}
+use Rattle.spec_format.proofs.SealedFields.{record_word as word_of_record, updated_is_new}
+use Rattle.spec_format.proofs.SealedRecords.{entry_bytes, entry_seal, moments, record_inside}
+use Rattle.spec_format.proofs.SpareHeaders.{past_header}
 use Rattle.blk_disk.specs.declared.tables.BlockFiles.{BlockFiles}
 use Rattle.blk_disk.specs.Tables.{Agrees, stands_among}
 use Rattle.blk_disk.proofs.Ranges.{stands_range}

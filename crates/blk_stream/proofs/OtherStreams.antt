@@ -3,13 +3,13 @@ use Rattle.std.proofs.Common.{◌≡◌, ◌≢◌, ⊎_elim, ℕ, zero, suc, �
 use Rattle.std.specs.Prelude.{◌==◌, length, nat_eq, unwrap_or}
 use Rattle.std.proofs.lemmas.Bool.{cases_Bool, cases_eq, eqb-true}
 use Rattle.std.proofs.lemmas.Bool.Decides.{nat_tests}
-use Rattle.blk_image.specs.Bytes.{content, range_at, word_at}
-use Rattle.blk_image.specs.Image.{Block, External, Image, byte, has_file}
-use Rattle.blk_image.specs.Footprint.{Footprint, SameOutside, either, nothing, range, whole}
-use Rattle.blk_image.proofs.Words.{same-range}
-use Rattle.blk_format.specs.Address.{blocks_256, byte_size, external, external_number, file_selector, kind_of, place}
-use Rattle.blk_format.specs.BlockFiles.{stands_in_blocks}
-use Rattle.blk_format.specs.Sealed.{record_at, record_size}
+use Rattle.spec_image.specs.Bytes.{content, range_at, word_at}
+use Rattle.spec_image.specs.Image.{Block, External, Image, byte, has_file}
+use Rattle.spec_image.specs.Footprint.{Footprint, SameOutside, either, nothing, range, whole}
+use Rattle.spec_image.proofs.Words.{same-range}
+use Rattle.spec_format.specs.Address.{blocks_256, byte_size, external, external_number, file_selector, kind_of, place}
+use Rattle.spec_format.specs.BlockFiles.{stands_in_blocks}
+use Rattle.spec_format.specs.Sealed.{record_at, record_size}
 use Rattle.blk_disk.specs.declared.tables.BlockFiles.{BlockFiles}
 use Rattle.blk_disk.specs.Tables.{Agrees, stands_among}
 use Rattle.blk_disk.proofs.Ranges.{stands_agree}

@@ -3,11 +3,11 @@ use Rattle.std.proofs.Common.{◌≡◌, ◌≢◌, ℕ, ◌+◌, ◌-◌, ◌<�
 use Rattle.std.specs.Prelude.{◌==◌, nat_eq}
 use Rattle.std.proofs.lemmas.Bool.{eqb-true}
 use Rattle.std.proofs.lemmas.Bool.Decides.{nat_tests}
-use Rattle.blk_image.specs.Image.{Block, External, File, Image, has_file}
-use Rattle.blk_image.specs.Footprint.{IsWithin, SameOutside, either, nothing, range, whole}
-use Rattle.blk_image.proofs.Footprints.{same_file_outside, within_both, within_left, within_right}
-use Rattle.blk_format.specs.Address.{byte_size, external, external_number, file_selector, kind_of, place}
-use Rattle.blk_format.proofs.SpareHeaders.{past_header}
+use Rattle.spec_image.specs.Image.{Block, External, File, Image, has_file}
+use Rattle.spec_image.specs.Footprint.{IsWithin, SameOutside, either, nothing, range, whole}
+use Rattle.spec_image.proofs.Footprints.{same_file_outside, within_both, within_left, within_right}
+use Rattle.spec_format.specs.Address.{byte_size, external, external_number, file_selector, kind_of, place}
+use Rattle.spec_format.proofs.SpareHeaders.{past_header}
 use Rattle.blk_disk.specs.declared.tables.BlockFiles.{BlockFiles}
 use Rattle.blk_disk.specs.Tables.{Agrees, stands_among}
 use Rattle.blk_disk.proofs.Ranges.{room_small, stands_agree, stands_linked}

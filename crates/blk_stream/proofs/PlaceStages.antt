@@ -2,15 +2,15 @@
 use Rattle.std.proofs.Common.{◌≡◌, ◌≢◌, inl, inr, ℕ, ◌<◌, Some, Result, Ok, Err, sym, ◌∙◌, subst, true}
 use Rattle.std.specs.Prelude.{IfOk, IsTrue, OnOk}
 use Rattle.std.specs.Option.{ForSome}
-use Rattle.blk_image.specs.Image.{External, Image}
-use Rattle.blk_image.specs.Footprint.{SameOutside}
-use Rattle.blk_image.specs.Steps.{after}
-use Rattle.blk_image.specs.Told.{Applies, Passes, PassesTo, Told}
-use Rattle.blk_image.proofs.Runs.{passes_end, passes_then, passes_weaker, some_inj, told_whole}
-use Rattle.blk_format.specs.Address.{block_count, external, external_number, file_selector, is_address, is_block_kind, kind_of}
-use Rattle.blk_format.specs.Growth.{StaysWhole}
-use Rattle.blk_format.specs.Storage.{kind_for}
-use Rattle.blk_format.proofs.Growths.{grown_not}
+use Rattle.spec_image.specs.Image.{External, Image}
+use Rattle.spec_image.specs.Footprint.{SameOutside}
+use Rattle.spec_image.specs.Steps.{after}
+use Rattle.spec_image.specs.Told.{Applies, Passes, PassesTo, Told}
+use Rattle.spec_image.proofs.Runs.{passes_end, passes_then, passes_weaker, some_inj, told_whole}
+use Rattle.spec_format.specs.Address.{block_count, external, external_number, file_selector, is_address, is_block_kind, kind_of}
+use Rattle.spec_format.specs.Growth.{StaysWhole}
+use Rattle.spec_format.specs.Storage.{kind_for}
+use Rattle.spec_format.proofs.Growths.{grown_not}
 use Rattle.blk_disk.specs.declared.tables.BlockFiles.{BlockFiles}
 use Rattle.blk_disk.specs.Tables.{Agrees, stands_among}
 use Rattle.blk_external.specs.Making.{Creates, last_number, making, touched_by_making}

@@ -5,18 +5,18 @@ use Rattle.std.specs.Option.{ForSome}
 use Rattle.std.specs.List.{All}
 use Rattle.std.proofs.lemmas.Bool.{eqb-true, leb-true}
 use Rattle.std.proofs.lemmas.Bool.Decides.{nat_tests}
-use Rattle.blk_image.specs.Image.{Image}
-use Rattle.blk_image.specs.Footprint.{SameOutside, either, nothing}
-use Rattle.blk_image.specs.Told.{Passes, PassesTo, Told}
-use Rattle.blk_image.proofs.Footprints.{outside-refl, outside_wider, within_right}
-use Rattle.blk_image.proofs.Runs.{passes_end, passes_weaker}
-use Rattle.blk_format.specs.Address.{block_count, block_size, block_word, external, file_selector, is_address, is_block_kind, kind_of, rankings}
-use Rattle.blk_format.specs.BlockFiles.{is_among, max_entries_in}
-use Rattle.blk_format.specs.Growth.{StaysWhole}
-use Rattle.blk_format.specs.Storage.{blocks_for, kind_for}
-use Rattle.blk_format.proofs.Growths.{grown_blocks}
-use Rattle.blk_format.proofs.LinkedHeads.{HasHead, count_whole, linked_checked}
-use Rattle.blk_format.proofs.Words.{file_selector-block_word}
+use Rattle.spec_image.specs.Image.{Image}
+use Rattle.spec_image.specs.Footprint.{SameOutside, either, nothing}
+use Rattle.spec_image.specs.Told.{Passes, PassesTo, Told}
+use Rattle.spec_image.proofs.Footprints.{outside-refl, outside_wider, within_right}
+use Rattle.spec_image.proofs.Runs.{passes_end, passes_weaker}
+use Rattle.spec_format.specs.Address.{block_count, block_size, block_word, external, file_selector, is_address, is_block_kind, kind_of, rankings}
+use Rattle.spec_format.specs.BlockFiles.{is_among, max_entries_in}
+use Rattle.spec_format.specs.Growth.{StaysWhole}
+use Rattle.spec_format.specs.Storage.{blocks_for, kind_for}
+use Rattle.spec_format.proofs.Growths.{grown_blocks}
+use Rattle.spec_format.proofs.LinkedHeads.{HasHead, count_whole, linked_checked}
+use Rattle.spec_format.proofs.Words.{file_selector-block_word}
 use Rattle.blk_disk.specs.declared.tables.BlockFiles.{BlockFiles}
 use Rattle.blk_disk.specs.Tables.{Agrees, files_of, stands_among}
 use Rattle.blk_disk.specs.Growth.{addition_of, free_number, growth_of}

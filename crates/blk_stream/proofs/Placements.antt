@@ -4,18 +4,18 @@ use Rattle.std.specs.Prelude.{◌==◌, unwrap_or}
 use Rattle.std.specs.Option.{ForSome}
 use Rattle.std.proofs.lemmas.Bool.{eqb-true}
 use Rattle.std.proofs.lemmas.Bool.Decides.{nat_tests}
-use Rattle.blk_image.specs.Bytes.{content, range_at}
-use Rattle.blk_image.specs.Image.{Block, External, File, Image, byte, has_file, length_of}
-use Rattle.blk_image.specs.Footprint.{Footprint, SameOutside, nothing}
-use Rattle.blk_image.specs.Told.{Told, Passes}
-use Rattle.blk_image.proofs.Footprints.{outside-refl}
-use Rattle.blk_image.proofs.Runs.{passes_end, passes_then, passes_weaker, some_inj}
-use Rattle.blk_image.proofs.Words.{same-range}
-use Rattle.blk_format.specs.Address.{external, external_number, file_selector, kind_of, place}
-use Rattle.blk_format.specs.BlockFiles.{is_among}
-use Rattle.blk_format.specs.Claims.{is_in_file}
-use Rattle.blk_format.specs.Maps.{is_block_marked}
-use Rattle.blk_format.proofs.LinkedHeads.{count_whole}
+use Rattle.spec_image.specs.Bytes.{content, range_at}
+use Rattle.spec_image.specs.Image.{Block, External, File, Image, byte, has_file, length_of}
+use Rattle.spec_image.specs.Footprint.{Footprint, SameOutside, nothing}
+use Rattle.spec_image.specs.Told.{Told, Passes}
+use Rattle.spec_image.proofs.Footprints.{outside-refl}
+use Rattle.spec_image.proofs.Runs.{passes_end, passes_then, passes_weaker, some_inj}
+use Rattle.spec_image.proofs.Words.{same-range}
+use Rattle.spec_format.specs.Address.{external, external_number, file_selector, kind_of, place}
+use Rattle.spec_format.specs.BlockFiles.{is_among}
+use Rattle.spec_format.specs.Claims.{is_in_file}
+use Rattle.spec_format.specs.Maps.{is_block_marked}
+use Rattle.spec_format.proofs.LinkedHeads.{count_whole}
 use Rattle.blk_disk.specs.declared.tables.BlockFiles.{BlockFiles}
 use Rattle.blk_disk.specs.Tables.{Agrees, all_files}
 use Rattle.blk_disk.proofs.Ranges.{stands_agree}

@@ -4,16 +4,16 @@ use Rattle.std.specs.Prelude.{◌==◌, is_some}
 use Rattle.std.specs.Option.{ForSome}
 use Rattle.std.proofs.lemmas.Bool.{cases_eq}
 use Rattle.std.proofs.lemmas.Bool.Decides.{nat_tests}
-use Rattle.blk_image.specs.Image.{Block, External, Image}
-use Rattle.blk_image.specs.Steps.{Delete, applied}
-use Rattle.blk_image.specs.Footprint.{Footprint, SameOutside, nothing, whole}
-use Rattle.blk_image.specs.Told.{Told, AppliesPrefix}
-use Rattle.blk_image.proofs.Footprints.{outside_step}
-use Rattle.blk_image.proofs.Runs.{told_part}
-use Rattle.blk_format.specs.Address.{kind_of, external, external_number, file_selector}
-use Rattle.blk_format.specs.BlockFiles.{is_among}
-use Rattle.blk_format.specs.Claims.{is_in_file}
-use Rattle.blk_format.specs.Maps.{AreAllocations, EmptyAgrees}
+use Rattle.spec_image.specs.Image.{Block, External, Image}
+use Rattle.spec_image.specs.Steps.{Delete, applied}
+use Rattle.spec_image.specs.Footprint.{Footprint, SameOutside, nothing, whole}
+use Rattle.spec_image.specs.Told.{Told, AppliesPrefix}
+use Rattle.spec_image.proofs.Footprints.{outside_step}
+use Rattle.spec_image.proofs.Runs.{told_part}
+use Rattle.spec_format.specs.Address.{kind_of, external, external_number, file_selector}
+use Rattle.spec_format.specs.BlockFiles.{is_among}
+use Rattle.spec_format.specs.Claims.{is_in_file}
+use Rattle.spec_format.specs.Maps.{AreAllocations, EmptyAgrees}
 use Rattle.blk_disk.specs.declared.tables.BlockFiles.{BlockFiles}
 use Rattle.blk_disk.specs.Tables.{Agrees}
 use Rattle.blk_disk.proofs.Agreeing.{agrees_still}

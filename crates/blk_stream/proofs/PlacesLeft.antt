@@ -3,20 +3,20 @@ use Rattle.std.proofs.Common.{◌≡◌, ◌≢◌, inl, inr, ⊎_elim, ℕ, ◌
 use Rattle.std.specs.Prelude.{◌==◌}
 use Rattle.std.specs.Option.{option_map, ForSome}
 use Rattle.std.proofs.lemmas.Bool.{cases_Bool, cases_eq, eqb-true}
-use Rattle.blk_image.specs.Bytes.{content, word_at}
-use Rattle.blk_image.specs.Image.{Index, Block, External, Image, byte, word}
-use Rattle.blk_image.specs.Steps.{after}
-use Rattle.blk_image.specs.Footprint.{Footprint, SameOutside, either, whole}
-use Rattle.blk_image.specs.Told.{Told, Passes}
-use Rattle.blk_image.proofs.Footprints.{outside-trans, outside_wider, same_word_outside, within_left, within_right}
-use Rattle.blk_image.proofs.Words.{same-range}
-use Rattle.blk_format.specs.Address.{kind_of, external, external_number, file_selector, place, blocks_256}
-use Rattle.blk_format.specs.BlockFiles.{IsWellFormed, max_entries_in}
-use Rattle.blk_format.specs.Sealed.{RecordChecks, record_at, record_size}
-use Rattle.blk_format.proofs.Keeping.{undamaged_still}
-use Rattle.blk_format.proofs.SealedFields.{record_word as word_of_record}
-use Rattle.blk_format.proofs.SealedRecords.{entry_bytes}
-use Rattle.blk_format.proofs.SpareHeaders.{SparesHeaders, blocks_same, heads_still, next_same, past_header}
+use Rattle.spec_image.specs.Bytes.{content, word_at}
+use Rattle.spec_image.specs.Image.{Index, Block, External, Image, byte, word}
+use Rattle.spec_image.specs.Steps.{after}
+use Rattle.spec_image.specs.Footprint.{Footprint, SameOutside, either, whole}
+use Rattle.spec_image.specs.Told.{Told, Passes}
+use Rattle.spec_image.proofs.Footprints.{outside-trans, outside_wider, same_word_outside, within_left, within_right}
+use Rattle.spec_image.proofs.Words.{same-range}
+use Rattle.spec_format.specs.Address.{kind_of, external, external_number, file_selector, place, blocks_256}
+use Rattle.spec_format.specs.BlockFiles.{IsWellFormed, max_entries_in}
+use Rattle.spec_format.specs.Sealed.{RecordChecks, record_at, record_size}
+use Rattle.spec_format.proofs.Keeping.{undamaged_still}
+use Rattle.spec_format.proofs.SealedFields.{record_word as word_of_record}
+use Rattle.spec_format.proofs.SealedRecords.{entry_bytes}
+use Rattle.spec_format.proofs.SpareHeaders.{SparesHeaders, blocks_same, heads_still, next_same, past_header}
 use Rattle.blk_io.specs.declared.fault.Damage.{Damage}
 use Rattle.blk_io.specs.declared.fault.Fault.{Fault}
 use Rattle.blk_io.specs.declared.fault.Fault.TheVariants.{Device, Damaged}

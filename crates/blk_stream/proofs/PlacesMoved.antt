@@ -3,11 +3,11 @@ use Rattle.std.proofs.Common.{◌≡◌, ◌≢◌, inl, ⊎_elim, ℕ, ◌+◌,
 use Rattle.std.specs.Prelude.{◌==◌}
 use Rattle.std.proofs.lemmas.Bool.{and_parts, cases_Bool, eqb-true}
 use Rattle.std.proofs.lemmas.Bool.Decides.{nat_tests}
-use Rattle.blk_image.specs.Image.{Image}
-use Rattle.blk_format.specs.Address.{block_count, external, file_selector, first_block, kind_of}
-use Rattle.blk_format.specs.BlockFiles.{is_among}
-use Rattle.blk_format.specs.Claims.{is_in_file}
-use Rattle.blk_format.specs.Maps.{AreAllocations, is_block_marked}
+use Rattle.spec_image.specs.Image.{Image}
+use Rattle.spec_format.specs.Address.{block_count, external, file_selector, first_block, kind_of}
+use Rattle.spec_format.specs.BlockFiles.{is_among}
+use Rattle.spec_format.specs.Claims.{is_in_file}
+use Rattle.spec_format.specs.Maps.{AreAllocations, is_block_marked}
 use Rattle.blk_addr.specs.Bits.{is_between}
 use Rattle.blk_disk.specs.declared.tables.BlockFiles.{BlockFiles}
 use Rattle.blk_disk.specs.Tables.{all_files, stands_among}

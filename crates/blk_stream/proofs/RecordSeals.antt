@@ -3,20 +3,20 @@ use Rattle.std.proofs.Common.{◌≡◌, ℕ, ◌+◌, ◌≤◌, List, take, tr
 use Rattle.std.specs.Prelude.{◌==◌}
 use Rattle.std.proofs.lemmas.Bool.{eq-eqb}
 use Rattle.std.proofs.lemmas.List.{take_at}
-use Rattle.blk_image.specs.Bytes.{content, range_at, word_at}
-use Rattle.blk_image.specs.Image.{AreBytes, Block, Image, byte}
-use Rattle.blk_image.specs.Steps.{with_words}
-use Rattle.blk_image.proofs.Words.{length-range}
-use Rattle.blk_format.specs.Address.{blocks_256, file_selector, kind_of, place}
-use Rattle.blk_format.specs.Hash.{hash}
-use Rattle.blk_format.specs.Records.{checks, entry_body, entry_checks, entry_in, entry_is_sealed, seal_of}
-use Rattle.blk_format.specs.Sealed.{AreChanges, IsMidUpdate, IsUpdated, RecordChecks, is_sealed, record_at, record_size, seal_place}
-use Rattle.blk_format.proofs.Bodies.{entry_body-in, range-add}
-use Rattle.blk_format.proofs.SealedFields.{record_word, updated_seal}
-use Rattle.blk_format.proofs.SealedRecords.{entry_bytes, entry_seal, length-record, seal_last}
-use Rattle.blk_volume.specs.View.{entry_at}
-use Rattle.blk_laws.proofs.updates.Fronts.{AreSmall, entry_checks-by, entry_checks-front, small-range, small-take, small-words}
-use Rattle.blk_laws.proofs.updates.Updates.{entry-here}
+use Rattle.spec_image.specs.Bytes.{content, range_at, word_at}
+use Rattle.spec_image.specs.Image.{AreBytes, Block, Image, byte}
+use Rattle.spec_image.specs.Steps.{with_words}
+use Rattle.spec_image.proofs.Words.{length-range}
+use Rattle.spec_format.specs.Address.{blocks_256, file_selector, kind_of, place}
+use Rattle.spec_format.specs.Hash.{hash}
+use Rattle.spec_format.specs.Records.{checks, entry_body, entry_checks, entry_in, entry_is_sealed, seal_of}
+use Rattle.spec_format.specs.Sealed.{AreChanges, IsMidUpdate, IsUpdated, RecordChecks, is_sealed, record_at, record_size, seal_place}
+use Rattle.spec_format.proofs.Bodies.{entry_body-in, range-add}
+use Rattle.spec_format.proofs.SealedFields.{record_word, updated_seal}
+use Rattle.spec_format.proofs.SealedRecords.{entry_bytes, entry_seal, length-record, seal_last}
+use Rattle.spec_folder.specs.View.{entry_at}
+use Rattle.law_folder.proofs.updates.Fronts.{AreSmall, entry_checks-by, entry_checks-front, small-range, small-take, small-words}
+use Rattle.law_folder.proofs.updates.Updates.{entry-here}
 use Rattle.blk_stream.specs.Stages.{KeepsSeal}
 
 -- an entry record is sealed where it is so in its bytes

@@ -3,15 +3,15 @@ use Rattle.std.proofs.Common.{◌≡◌, ◌≢◌, inl, inr, ⊎_elim, ℕ, zer
 use Rattle.std.specs.Prelude.{◌==◌}
 use Rattle.std.proofs.lemmas.Bool.{cases_Bool, cases_eq, or_left, or_right, eqb-true}
 use Rattle.std.proofs.lemmas.Bool.Decides.{nat_tests}
-use Rattle.blk_image.specs.Image.{Block, External, Image}
-use Rattle.blk_image.specs.Footprint.{Footprint, either, nothing, one_word, range, whole}
-use Rattle.blk_image.proofs.Footprints.{range_within}
-use Rattle.blk_format.specs.Address.{is_address, kind_of, external, external_number, file_selector, place, byte_size, blocks_256}
-use Rattle.blk_format.specs.Claims.{Claim, ExternalOf, claims_of, claims_of_all, has_claim, same_claim}
-use Rattle.blk_volume.specs.Footprint.{Covers}
-use Rattle.blk_laws.proofs.claims.ClaimLists.{claim-append}
-use Rattle.blk_laws.proofs.claims.ByteChanges.{views-same}
-use Rattle.blk_laws.proofs.claims.Covers.{blocks-covered, covers-either, covers-less, covers-more, externals-covered, headers-covered}
+use Rattle.spec_image.specs.Image.{Block, External, Image}
+use Rattle.spec_image.specs.Footprint.{Footprint, either, nothing, one_word, range, whole}
+use Rattle.spec_image.proofs.Footprints.{range_within}
+use Rattle.spec_format.specs.Address.{is_address, kind_of, external, external_number, file_selector, place, byte_size, blocks_256}
+use Rattle.spec_format.specs.Claims.{Claim, ExternalOf, claims_of, claims_of_all, has_claim, same_claim}
+use Rattle.spec_folder.specs.Footprint.{Covers}
+use Rattle.law_folder.proofs.claims.ClaimLists.{claim-append}
+use Rattle.law_folder.proofs.claims.ByteChanges.{views-same}
+use Rattle.law_folder.proofs.claims.Covers.{blocks-covered, covers-either, covers-less, covers-more, externals-covered, headers-covered}
 use Rattle.blk_disk.specs.declared.tables.BlockFiles.{BlockFiles}
 use Rattle.blk_disk.specs.Tables.{Agrees, stands_among}
 use Rattle.blk_alloc.specs.Changes.{map_of}

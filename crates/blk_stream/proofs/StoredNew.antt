@@ -1,10 +1,10 @@
 -- A new stream is stored: what is asked of its place, where there is no old one.
 use Rattle.std.proofs.Common.{◌≡◌, ℕ, ◌+◌, List, [], length, None, Option, Some, refl, ◌∙◌, ap, arith, true, false}
-use Rattle.blk_image.specs.Image.{Image}
+use Rattle.spec_image.specs.Image.{Image}
 use Rattle.blk_model.specs.Bytes.{overwritten}
 use Rattle.blk_model.specs.Effects.{stream_after}
-use Rattle.blk_format.specs.Address.{kind_of}
-use Rattle.blk_volume.specs.View.{store_of}
+use Rattle.spec_format.specs.Address.{kind_of}
+use Rattle.spec_folder.specs.View.{store_of}
 use Rattle.blk_disk.specs.declared.tables.BlockFiles.{BlockFiles}
 use Rattle.blk_disk.specs.Tables.{Agrees}
 use Rattle.blk_entry.specs.Keys.{data_at}

@@ -2,13 +2,13 @@
 use Rattle.std.proofs.Common.{◌≡◌, ◌≢◌, inl, inr, ℕ, ◌<◌, true, Bool, List, length, Option, Some, refl, sym, ◌∙◌, ap, subst, arith}
 use Rattle.std.specs.Prelude.{unwrap_or}
 use Rattle.std.specs.Option.{ForSome}
-use Rattle.blk_image.specs.Image.{AreBytes, External, Image}
-use Rattle.blk_image.specs.Footprint.{Footprint, IsWithin, SameOutside, either}
-use Rattle.blk_image.specs.Told.{Passes, Told}
-use Rattle.blk_image.proofs.Footprints.{outside-refl, outside_wider, within_both, within_left, within_right}
-use Rattle.blk_image.proofs.Runs.{passes_end, passes_weaker}
-use Rattle.blk_format.specs.Address.{blocks_256, external, external_number, kind_of}
-use Rattle.blk_format.specs.Sealed.{RecordChecks}
+use Rattle.spec_image.specs.Image.{AreBytes, External, Image}
+use Rattle.spec_image.specs.Footprint.{Footprint, IsWithin, SameOutside, either}
+use Rattle.spec_image.specs.Told.{Passes, Told}
+use Rattle.spec_image.proofs.Footprints.{outside-refl, outside_wider, within_both, within_left, within_right}
+use Rattle.spec_image.proofs.Runs.{passes_end, passes_weaker}
+use Rattle.spec_format.specs.Address.{blocks_256, external, external_number, kind_of}
+use Rattle.spec_format.specs.Sealed.{RecordChecks}
 use Rattle.blk_disk.specs.declared.tables.BlockFiles.{BlockFiles}
 use Rattle.blk_disk.specs.Tables.{Agrees, stands_among}
 use Rattle.blk_entry.specs.Writing.{ShareNoBlock}

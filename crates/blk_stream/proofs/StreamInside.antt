@@ -5,21 +5,21 @@ use Rattle.std.proofs.lemmas.Bool.{and_parts, cases_Bool, cases_eq, eqb-true}
 use Rattle.std.proofs.lemmas.Bool.Decides.{nat_tests}
 use Rattle.blk_model.specs.Effects.{stream_after}
 use Rattle.std.specs.Option.{ForSome}
-use Rattle.blk_image.specs.Told.{Told, Passes}
-use Rattle.blk_image.proofs.Runs.{passes_end, passes_weaker}
+use Rattle.spec_image.specs.Told.{Told, Passes}
+use Rattle.spec_image.proofs.Runs.{passes_end, passes_weaker}
 use Rattle.blk_stream.specs.declared.places.Stored.{Stored}
-use Rattle.blk_image.specs.Bytes.{content, word_at}
-use Rattle.blk_image.specs.Image.{Block, External, Image, byte, length_of, word}
-use Rattle.blk_image.specs.Footprint.{Footprint, SameOutside, IsWithin, either, range, whole}
-use Rattle.blk_image.proofs.Footprints.{outside-refl, outside_wider, same_word_outside, within_both, within_left, within_right}
-use Rattle.blk_image.proofs.Words.{same-range}
-use Rattle.blk_format.specs.Address.{block_count, blocks_256, byte_size, external, external_number, file_selector, kind_of, place}
-use Rattle.blk_format.specs.BlockFiles.{IsWellFormed, is_among}
-use Rattle.blk_format.specs.Claims.{is_in_file}
-use Rattle.blk_format.specs.Maps.{AreAllocations, is_block_marked}
-use Rattle.blk_format.specs.Storage.{blocks_for, kind_for}
-use Rattle.blk_format.proofs.SpareHeaders.{past_header}
-use Rattle.blk_volume.specs.Entries.{most_stream_bytes, stream, stored_stream, stored_streams}
+use Rattle.spec_image.specs.Bytes.{content, word_at}
+use Rattle.spec_image.specs.Image.{Block, External, Image, byte, length_of, word}
+use Rattle.spec_image.specs.Footprint.{Footprint, SameOutside, IsWithin, either, range, whole}
+use Rattle.spec_image.proofs.Footprints.{outside-refl, outside_wider, same_word_outside, within_both, within_left, within_right}
+use Rattle.spec_image.proofs.Words.{same-range}
+use Rattle.spec_format.specs.Address.{block_count, blocks_256, byte_size, external, external_number, file_selector, kind_of, place}
+use Rattle.spec_format.specs.BlockFiles.{IsWellFormed, is_among}
+use Rattle.spec_format.specs.Claims.{is_in_file}
+use Rattle.spec_format.specs.Maps.{AreAllocations, is_block_marked}
+use Rattle.spec_format.specs.Storage.{blocks_for, kind_for}
+use Rattle.spec_format.proofs.SpareHeaders.{past_header}
+use Rattle.spec_folder.specs.Entries.{most_stream_bytes, stream, stored_stream, stored_streams}
 use Rattle.blk_disk.specs.declared.tables.BlockFiles.{BlockFiles}
 use Rattle.blk_disk.specs.Tables.{Agrees, all_files, stands_among}
 use Rattle.blk_disk.proofs.Ranges.{stands_linked}
@@ -53,9 +53,9 @@ use Rattle.blk_stream.proofs.PlacesMoved.{block_parts}
 use Rattle.blk_stream.proofs.Drops.{no_block}
 use Rattle.blk_stream.proofs.InsideData.{moved_data}
 use Rattle.blk_stream.specs.Owned.{KeepsOwned}
-use Rattle.blk_format.specs.Sealed.{RecordChecks, record_at}
+use Rattle.spec_format.specs.Sealed.{RecordChecks, record_at}
 use Rattle.std.specs.Option.{option_and_then}
-use Rattle.blk_volume.specs.View.{RecordFields, address_of, data_size_of, entry_at, fields_at, fields_of, stands_as, store_of, stored_at}
+use Rattle.spec_folder.specs.View.{RecordFields, address_of, data_size_of, entry_at, fields_at, fields_of, stands_as, store_of, stored_at}
 use Rattle.blk_stream.proofs.StreamMoved.{stream_bytes_are}
 use Rattle.blk_stream.proofs.StreamPlaces.{IsStream, address_at, keeps_inside, may_both, may_parts, none_word, size_at, stored_some, stored_is, stream_facts, streams_parts, zero_kept}
 use Rattle.blk_stream.proofs.WriteStages.{off_within, words_off}

@@ -5,15 +5,15 @@ use Rattle.std.specs.Option.{option_and_then}
 use Rattle.std.proofs.lemmas.Bool.{and_parts, cases_lt, eqb-true}
 use Rattle.std.proofs.lemmas.Bool.Decides.{nat_tests}
 use Rattle.blk_model.specs.Effects.{stream_after}
-use Rattle.blk_image.specs.Bytes.{range_at}
-use Rattle.blk_image.specs.Image.{Block, External, Image, byte, has_file, length_of, word}
-use Rattle.blk_image.proofs.Words.{same-word_at}
-use Rattle.blk_format.specs.Address.{blocks_256, external, external_number, file_selector, is_address, kind_of, place}
-use Rattle.blk_format.specs.BlockFiles.{stands_in, stands_in_blocks}
-use Rattle.blk_format.specs.Standing.{stands}
-use Rattle.blk_format.specs.Storage.{is_storage}
-use Rattle.blk_volume.specs.View.{RecordFields, fields_at, fields_of, entry_at, stands_as, stored_at, store_of}
-use Rattle.blk_volume.specs.Entries.{most_stream_bytes, stream, stored_stream, stored_streams}
+use Rattle.spec_image.specs.Bytes.{range_at}
+use Rattle.spec_image.specs.Image.{Block, External, Image, byte, has_file, length_of, word}
+use Rattle.spec_image.proofs.Words.{same-word_at}
+use Rattle.spec_format.specs.Address.{blocks_256, external, external_number, file_selector, is_address, kind_of, place}
+use Rattle.spec_format.specs.BlockFiles.{stands_in, stands_in_blocks}
+use Rattle.spec_format.specs.Standing.{stands}
+use Rattle.spec_format.specs.Storage.{is_storage}
+use Rattle.spec_folder.specs.View.{RecordFields, fields_at, fields_of, entry_at, stands_as, stored_at, store_of}
+use Rattle.spec_folder.specs.Entries.{most_stream_bytes, stream, stored_stream, stored_streams}
 use Rattle.blk_disk.specs.declared.tables.BlockFiles.{BlockFiles}
 use Rattle.blk_disk.specs.Tables.{Agrees, stands_among}
 use Rattle.blk_disk.proofs.Ranges.{stands_agree}

@@ -4,25 +4,25 @@ use Rattle.std.specs.Prelude.{◌==◌, is_some, nat_le, unwrap_or}
 use Rattle.std.proofs.lemmas.Bool.{and_parts, cases_eq}
 use Rattle.std.proofs.lemmas.Bool.Decides.{nat_tests}
 use Rattle.blk_model.specs.Effects.{stream_after}
-use Rattle.blk_image.specs.Image.{Block, External, File, Image, byte, has_file, length_of}
-use Rattle.blk_image.specs.Footprint.{Footprint, SameOutside, either, nothing}
-use Rattle.blk_image.proofs.Footprints.{outside_wider, within_left}
-use Rattle.blk_image.proofs.Words.{same-range}
+use Rattle.spec_image.specs.Image.{Block, External, File, Image, byte, has_file, length_of}
+use Rattle.spec_image.specs.Footprint.{Footprint, SameOutside, either, nothing}
+use Rattle.spec_image.proofs.Footprints.{outside_wider, within_left}
+use Rattle.spec_image.proofs.Words.{same-range}
 use Rattle.std.specs.Option.{ForSome}
-use Rattle.blk_image.specs.Told.{Told, Passes}
-use Rattle.blk_image.proofs.Runs.{passes_end, passes_then, passes_weaker}
+use Rattle.spec_image.specs.Told.{Told, Passes}
+use Rattle.spec_image.proofs.Runs.{passes_end, passes_then, passes_weaker}
 use Rattle.blk_io.specs.declared.fault.Fault.{Fault}
 use Rattle.blk_io.specs.Faults.{IfDamaged}
 use Rattle.blk_io.proofs.Carried.{if_damaged_weaker, told_at_end}
 use Rattle.blk_stream.proofs.Joined.{IsTold, told_then}
 use Rattle.blk_stream.proofs.PlacesLeft.{told_back}
-use Rattle.blk_format.specs.Address.{blocks_256, external, external_number, file_selector, is_address, is_initialized, kind_of, names_blocks, names_external, place, rankings}
-use Rattle.blk_format.specs.BlockFiles.{is_among}
-use Rattle.blk_format.specs.Records.{entry_is_sealed}
-use Rattle.blk_format.specs.Sealed.{RecordChecks, record_at, record_size}
-use Rattle.blk_format.specs.Storage.{kind_for}
-use Rattle.blk_volume.specs.Entries.{stream}
-use Rattle.blk_volume.specs.View.{entry_at}
+use Rattle.spec_format.specs.Address.{blocks_256, external, external_number, file_selector, is_address, is_initialized, kind_of, names_blocks, names_external, place, rankings}
+use Rattle.spec_format.specs.BlockFiles.{is_among}
+use Rattle.spec_format.specs.Records.{entry_is_sealed}
+use Rattle.spec_format.specs.Sealed.{RecordChecks, record_at, record_size}
+use Rattle.spec_format.specs.Storage.{kind_for}
+use Rattle.spec_folder.specs.Entries.{stream}
+use Rattle.spec_folder.specs.View.{entry_at}
 use Rattle.blk_disk.specs.declared.tables.BlockFiles.{BlockFiles}
 use Rattle.blk_disk.specs.Tables.{Agrees, stands_among}
 use Rattle.blk_disk.proofs.Ranges.{stands_linked}

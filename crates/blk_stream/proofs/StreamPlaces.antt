@@ -4,16 +4,16 @@ use Rattle.std.specs.Prelude.{◌==◌, nat_le, not, min, slice_index, IsOk}
 use Rattle.std.proofs.lemmas.Bool.{and_parts, eqb-true, cases_Bool, leb-true}
 use Rattle.std.proofs.lemmas.Bool.Decides.{nat_tests}
 use Rattle.std.specs.Option.{option_and_then, option_map}
-use Rattle.blk_image.specs.Bytes.{word_at, words_at, range_at}
-use Rattle.blk_image.specs.Image.{Block, External, Image, byte, has_file, length_of, word}
-use Rattle.blk_image.proofs.Words.{length-range}
-use Rattle.blk_format.specs.Address.{kind_of, block_count, is_address, is_initialized, external, external_number, file_selector, place, byte_size, blocks_256}
-use Rattle.blk_format.specs.Records.{entry_in}
-use Rattle.blk_format.specs.Storage.{is_storage, kind_for, blocks_for}
-use Rattle.blk_format.specs.Standing.{stands}
-use Rattle.blk_format.specs.BlockFiles.{stands_in, stands_in_blocks}
-use Rattle.blk_volume.specs.View.{RecordFields, fields_at, fields_of, entry_at, data_size_of, address_of, stands_as, stored_at, store_of}
-use Rattle.blk_volume.specs.Entries.{most_stream_bytes, stream, stored_stream, stored_streams}
+use Rattle.spec_image.specs.Bytes.{word_at, words_at, range_at}
+use Rattle.spec_image.specs.Image.{Block, External, Image, byte, has_file, length_of, word}
+use Rattle.spec_image.proofs.Words.{length-range}
+use Rattle.spec_format.specs.Address.{kind_of, block_count, is_address, is_initialized, external, external_number, file_selector, place, byte_size, blocks_256}
+use Rattle.spec_format.specs.Records.{entry_in}
+use Rattle.spec_format.specs.Storage.{is_storage, kind_for, blocks_for}
+use Rattle.spec_format.specs.Standing.{stands}
+use Rattle.spec_format.specs.BlockFiles.{stands_in, stands_in_blocks}
+use Rattle.spec_folder.specs.View.{RecordFields, fields_at, fields_of, entry_at, data_size_of, address_of, stands_as, stored_at, store_of}
+use Rattle.spec_folder.specs.Entries.{most_stream_bytes, stream, stored_stream, stored_streams}
 use Rattle.blk_disk.specs.declared.tables.BlockFiles.{BlockFiles}
 use Rattle.blk_disk.specs.Tables.{Agrees, stands_among}
 use Rattle.blk_disk.proofs.Ranges.{stands_agree}

@@ -2,13 +2,13 @@
 use Rattle.std.proofs.Common.{◌≡◌, ◌≢◌, ℕ, ◌+◌, ◌<◌, Bool, true, false, List, sym, ◌∙◌, ap, subst}
 use Rattle.std.specs.Prelude.{length}
 use Rattle.blk_model.specs.Effects.{stream_after}
-use Rattle.blk_image.specs.Image.{Image}
-use Rattle.blk_image.specs.Footprint.{Footprint, SameOutside, either}
-use Rattle.blk_image.proofs.Footprints.{outside_wider, within_left}
-use Rattle.blk_format.specs.Address.{blocks_256, external, kind_of}
-use Rattle.blk_format.specs.BlockFiles.{IsWellFormed}
-use Rattle.blk_format.specs.Sealed.{RecordChecks}
-use Rattle.blk_format.specs.Storage.{kind_for}
+use Rattle.spec_image.specs.Image.{Image}
+use Rattle.spec_image.specs.Footprint.{Footprint, SameOutside, either}
+use Rattle.spec_image.proofs.Footprints.{outside_wider, within_left}
+use Rattle.spec_format.specs.Address.{blocks_256, external, kind_of}
+use Rattle.spec_format.specs.BlockFiles.{IsWellFormed}
+use Rattle.spec_format.specs.Sealed.{RecordChecks}
+use Rattle.spec_format.specs.Storage.{kind_for}
 use Rattle.blk_disk.specs.declared.tables.BlockFiles.{BlockFiles}
 use Rattle.blk_disk.specs.Tables.{Agrees, stands_among}
 use Rattle.blk_entry.specs.Keys.{data_at, data_file, data_start}

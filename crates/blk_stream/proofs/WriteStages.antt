@@ -3,17 +3,17 @@ use Rattle.std.proofs.Common.{◌≡◌, ◌≢◌, inl, inr, ⊎_elim, ℕ, ◌
 use Rattle.std.specs.Prelude.{◌==◌, nat_eq}
 use Rattle.std.proofs.lemmas.Bool.{cases_Bool, cases_eq, eqb-true}
 use Rattle.std.proofs.lemmas.Bool.Decides.{nat_tests}
-use Rattle.blk_image.specs.Image.{Block, External, File, Image, byte}
-use Rattle.blk_image.specs.Footprint.{Footprint, IsWithin, SameOutside, either, nothing, range, whole}
-use Rattle.blk_image.proofs.Footprints.{outside-trans, outside_wider, range_within, within_both, within_left, within_right}
-use Rattle.blk_image.proofs.Words.{same-range}
-use Rattle.blk_format.specs.Address.{blocks_256, byte_size, external, external_number, file_selector, kind_of, place}
-use Rattle.blk_format.specs.BlockFiles.{IsWellFormed, stands_in_blocks}
-use Rattle.blk_format.specs.Growth.{KeepsBlocks}
-use Rattle.blk_format.specs.Sealed.{RecordChecks, record_at, record_size}
-use Rattle.blk_format.specs.Storage.{kind_for}
-use Rattle.blk_format.proofs.SealedRecords.{entry_bytes}
-use Rattle.blk_format.proofs.SpareHeaders.{past_header}
+use Rattle.spec_image.specs.Image.{Block, External, File, Image, byte}
+use Rattle.spec_image.specs.Footprint.{Footprint, IsWithin, SameOutside, either, nothing, range, whole}
+use Rattle.spec_image.proofs.Footprints.{outside-trans, outside_wider, range_within, within_both, within_left, within_right}
+use Rattle.spec_image.proofs.Words.{same-range}
+use Rattle.spec_format.specs.Address.{blocks_256, byte_size, external, external_number, file_selector, kind_of, place}
+use Rattle.spec_format.specs.BlockFiles.{IsWellFormed, stands_in_blocks}
+use Rattle.spec_format.specs.Growth.{KeepsBlocks}
+use Rattle.spec_format.specs.Sealed.{RecordChecks, record_at, record_size}
+use Rattle.spec_format.specs.Storage.{kind_for}
+use Rattle.spec_format.proofs.SealedRecords.{entry_bytes}
+use Rattle.spec_format.proofs.SpareHeaders.{past_header}
 use Rattle.blk_disk.specs.declared.tables.BlockFiles.{BlockFiles}
 use Rattle.blk_disk.specs.Tables.{Agrees, stands_among}
 use Rattle.blk_disk.proofs.Ranges.{stands_agree}

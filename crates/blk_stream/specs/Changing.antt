@@ -1,9 +1,9 @@
 -- The record names another place for a stream.
 use Rattle.std.specs.Prelude.{ℕ, ◌≡◌, ◌+◌, List, [], ◌∷◌}
-use Rattle.blk_image.specs.Image.{Block, Image}
-use Rattle.blk_image.specs.Footprint.{Footprint, SameOutside, either, one_word}
-use Rattle.blk_format.specs.Address.{file_selector, place}
-use Rattle.blk_format.specs.Sealed.{RecordChecks, record_at}
+use Rattle.spec_image.specs.Image.{Block, Image}
+use Rattle.spec_image.specs.Footprint.{Footprint, SameOutside, either, one_word}
+use Rattle.spec_format.specs.Address.{file_selector, place}
+use Rattle.spec_format.specs.Sealed.{RecordChecks, record_at}
 use Rattle.blk_stream.specs.Streams.{address_place, address_word, size_place, size_word}
 
 -- a word of a record

@@ -1,9 +1,9 @@
 -- Data is copied from one address to another.
 use Rattle.std.specs.Prelude.{ℕ, ◌≡◌, ◌≢◌, ◌+◌, ◌-◌, ◌<◌, ◌≤◌, min, None, Some}
-use Rattle.blk_image.specs.Image.{Image, byte}
-use Rattle.blk_image.specs.Footprint.{Footprint, either, range}
-use Rattle.blk_image.specs.Told.{Told}
-use Rattle.blk_format.specs.Address.{kind_of, external, external_number}
+use Rattle.spec_image.specs.Image.{Image, byte}
+use Rattle.spec_image.specs.Footprint.{Footprint, either, range}
+use Rattle.spec_image.specs.Told.{Told}
+use Rattle.spec_format.specs.Address.{kind_of, external, external_number}
 use Rattle.blk_io.specs.declared.fault.Damage.{Damage}
 use Rattle.blk_disk.specs.declared.tables.BlockFiles.{BlockFiles}
 use Rattle.blk_entry.specs.Keys.{IsCut, IsInFile, IsInside, data_file, data_start}

@@ -1,13 +1,13 @@
 -- The streams of a record are dropped: one after the other is made empty, and its place is freed.
 use Rattle.std.specs.Prelude.{ℕ, zero, suc, ◌≡◌, ◌≢◌, ◌⊎◌, ◌<◌, ◌≤◌, List, Bool, true, false, if◌then◌else◌}
-use Rattle.blk_image.specs.Image.{External, Image, has_file}
-use Rattle.blk_image.specs.Footprint.{Footprint, SameOutside, either, nothing}
-use Rattle.blk_image.specs.Told.{Stays, Told}
-use Rattle.blk_format.specs.Address.{block_count, external, external_number, file_selector, first_block, kind_of}
-use Rattle.blk_format.specs.BlockFiles.{IsWellFormed, is_among, max_entries_in, most_blocks}
-use Rattle.blk_format.specs.Claims.{is_in_file}
-use Rattle.blk_format.specs.Maps.{AreAllocations, EmptyAgrees, is_block_marked}
-use Rattle.blk_format.specs.Sealed.{RecordChecks}
+use Rattle.spec_image.specs.Image.{External, Image, has_file}
+use Rattle.spec_image.specs.Footprint.{Footprint, SameOutside, either, nothing}
+use Rattle.spec_image.specs.Told.{Stays, Told}
+use Rattle.spec_format.specs.Address.{block_count, external, external_number, file_selector, first_block, kind_of}
+use Rattle.spec_format.specs.BlockFiles.{IsWellFormed, is_among, max_entries_in, most_blocks}
+use Rattle.spec_format.specs.Claims.{is_in_file}
+use Rattle.spec_format.specs.Maps.{AreAllocations, EmptyAgrees, is_block_marked}
+use Rattle.spec_format.specs.Sealed.{RecordChecks}
 use Rattle.blk_io.specs.declared.fault.Damage.{Damage}
 use Rattle.blk_disk.specs.declared.tables.BlockFiles.{BlockFiles}
 use Rattle.blk_disk.specs.Tables.{stands_among}

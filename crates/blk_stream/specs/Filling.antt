@@ -1,7 +1,7 @@
 -- A new place gets the bytes of a stream.
 use Rattle.std.specs.Prelude.{ℕ, ◌≡◌, List, Bool, length}
 use Rattle.blk_model.specs.Effects.{stream_after}
-use Rattle.blk_image.specs.Image.{Image}
+use Rattle.spec_image.specs.Image.{Image}
 use Rattle.blk_entry.specs.Keys.{data_at}
 use Rattle.blk_stream.specs.Inside.{HasStreamLength}
 use Rattle.blk_stream.specs.Writing.{size_after}

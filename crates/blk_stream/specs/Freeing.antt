@@ -1,11 +1,11 @@
 -- The place of data is freed.
 use Rattle.std.specs.Prelude.{ℕ, ◌≡◌, ◌≢◌, ◌<◌, ◌==◌, List, Bool, true, false, if◌then◌else◌}
-use Rattle.blk_image.specs.Image.{External, Image, has_file}
-use Rattle.blk_image.specs.Footprint.{Footprint, SameOutside, nothing, whole}
-use Rattle.blk_format.specs.Address.{kind_of, external, external_number, file_selector}
-use Rattle.blk_format.specs.BlockFiles.{is_among, most_blocks}
-use Rattle.blk_format.specs.Claims.{is_in_file}
-use Rattle.blk_format.specs.Maps.{AreAllocations, EmptyAgrees, is_block_marked}
+use Rattle.spec_image.specs.Image.{External, Image, has_file}
+use Rattle.spec_image.specs.Footprint.{Footprint, SameOutside, nothing, whole}
+use Rattle.spec_format.specs.Address.{kind_of, external, external_number, file_selector}
+use Rattle.spec_format.specs.BlockFiles.{is_among, most_blocks}
+use Rattle.spec_format.specs.Claims.{is_in_file}
+use Rattle.spec_format.specs.Maps.{AreAllocations, EmptyAgrees, is_block_marked}
 use Rattle.blk_alloc.specs.Changes.{map_of}
 use Rattle.blk_alloc.specs.Owning.{CanBeFreed, is_of, others}
 

@@ -1,12 +1,12 @@
 -- A stream is written inside its place.
 use Rattle.std.specs.Prelude.{ℕ, ◌≡◌, ◌-◌, ◌==◌, if◌then◌else◌, List, [], ◌∷◌, ◌++◌, Bool, length}
-use Rattle.blk_image.specs.Bytes.{zeros}
+use Rattle.spec_image.specs.Bytes.{zeros}
 use Rattle.blk_model.specs.Effects.{stream_after}
-use Rattle.blk_image.specs.Image.{Block, External, Image, length_of}
-use Rattle.blk_image.specs.Steps.{TrailStep, SetLength}
-use Rattle.blk_image.specs.Footprint.{Footprint, SameOutside, either, range, whole}
-use Rattle.blk_format.specs.Address.{kind_of, external, external_number, file_selector, place, byte_size}
-use Rattle.blk_format.specs.Sealed.{RecordChecks, steps_over}
+use Rattle.spec_image.specs.Image.{Block, External, Image, length_of}
+use Rattle.spec_image.specs.Steps.{TrailStep, SetLength}
+use Rattle.spec_image.specs.Footprint.{Footprint, SameOutside, either, range, whole}
+use Rattle.spec_format.specs.Address.{kind_of, external, external_number, file_selector, place, byte_size}
+use Rattle.spec_format.specs.Sealed.{RecordChecks, steps_over}
 use Rattle.blk_entry.specs.Keys.{data_at}
 use Rattle.blk_entry.specs.Steps.{data_steps}
 use Rattle.blk_stream.specs.Streams.{size_place, size_word}

@@ -1,9 +1,9 @@
 -- An entry loads with a stream that was written.
 use Rattle.std.specs.Prelude.{ℕ, ◌≡◌, ◌<◌, List, [], ◌∷◌, Bool, true, ◌==◌, if◌then◌else◌, Some}
 use Rattle.blk_model.specs.Effects.{stream_after}
-use Rattle.blk_image.specs.Image.{Image}
-use Rattle.blk_format.specs.Address.{blocks_256, is_address, kind_of}
-use Rattle.blk_volume.specs.Entries.{stream}
+use Rattle.spec_image.specs.Image.{Image}
+use Rattle.spec_format.specs.Address.{blocks_256, is_address, kind_of}
+use Rattle.spec_folder.specs.Entries.{stream}
 use Rattle.blk_disk.specs.declared.tables.BlockFiles.{BlockFiles}
 use Rattle.blk_disk.specs.Tables.{Agrees}
 use Rattle.blk_alloc.specs.Extending.{KeepsStanding}

@@ -1,12 +1,12 @@
 -- A stream gets another place.
 use Rattle.std.specs.Prelude.{ℕ, ◌≡◌, ◌≢◌, ◌⊎◌, ◌<◌, ◌≤◌, ◌==◌, List, Bool, length, false, true, if◌then◌else◌, Some, unwrap_or}
-use Rattle.blk_image.specs.Image.{External, Image, has_file}
-use Rattle.blk_image.specs.Footprint.{Footprint, SameOutside, either, nothing}
-use Rattle.blk_format.specs.Address.{kind_of, external, external_number}
-use Rattle.blk_format.specs.BlockFiles.{IsWellFormed, is_among, max_entries_in, most_blocks}
-use Rattle.blk_format.specs.Claims.{is_in_file}
-use Rattle.blk_format.specs.Maps.{AreAllocations, EmptyAgrees, is_block_marked}
-use Rattle.blk_format.specs.Sealed.{RecordChecks}
+use Rattle.spec_image.specs.Image.{External, Image, has_file}
+use Rattle.spec_image.specs.Footprint.{Footprint, SameOutside, either, nothing}
+use Rattle.spec_format.specs.Address.{kind_of, external, external_number}
+use Rattle.spec_format.specs.BlockFiles.{IsWellFormed, is_among, max_entries_in, most_blocks}
+use Rattle.spec_format.specs.Claims.{is_in_file}
+use Rattle.spec_format.specs.Maps.{AreAllocations, EmptyAgrees, is_block_marked}
+use Rattle.spec_format.specs.Sealed.{RecordChecks}
 use Rattle.blk_disk.specs.declared.tables.BlockFiles.{BlockFiles}
 use Rattle.blk_stream.specs.declared.places.Stored.{Stored}
 use Rattle.blk_stream.specs.Streams.{may_keep}
@@ -18,7 +18,7 @@ use Rattle.blk_entry.specs.Keys.{data_at}
 use Rattle.blk_model.specs.Effects.{stream_after}
 use Rattle.blk_stream.specs.Writing.{size_after}
 use Rattle.blk_stream.specs.Placing.{CanBePlaced, IsPlaceRefusal, IsNewPlace, PlacesInProgress}
-use Rattle.blk_image.specs.Told.{Told}
+use Rattle.spec_image.specs.Told.{Told}
 use Rattle.blk_io.specs.declared.fault.Damage.{Damage}
 
 -- The record names another place, and then the old one is freed.

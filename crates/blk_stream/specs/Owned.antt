@@ -1,8 +1,8 @@
 -- What stays where a stream is written: all that has an owner.
 use Rattle.std.specs.Prelude.{ℕ, ◌≡◌, ◌≢◌, ◌+◌, ◌<◌, ◌≤◌, true, false}
-use Rattle.blk_image.specs.Image.{Block, External, Image, byte, has_file}
-use Rattle.blk_format.specs.Address.{byte_size, external, external_number, file_selector, kind_of, place}
-use Rattle.blk_format.specs.Maps.{is_block_marked}
+use Rattle.spec_image.specs.Image.{Block, External, Image, byte, has_file}
+use Rattle.spec_format.specs.Address.{byte_size, external, external_number, file_selector, kind_of, place}
+use Rattle.spec_format.specs.Maps.{is_block_marked}
 use Rattle.blk_disk.specs.declared.tables.BlockFiles.{BlockFiles}
 use Rattle.blk_disk.specs.Tables.{stands_among}
 use Rattle.blk_entry.specs.Writing.{ShareNoBlock}

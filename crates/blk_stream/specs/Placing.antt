@@ -1,16 +1,16 @@
 -- A new place for data: where it is made, and what becomes of block files, of maps and of external files.
 use Rattle.std.specs.Prelude.{ℕ, ◌≡◌, ◌≢◌, ◌⊎◌, ◌<◌, ◌≤◌, List, [], ◌∷◌, true, false, if◌then◌else◌, Some}
 use Rattle.std.specs.List.{All}
-use Rattle.blk_image.specs.Image.{Block, External, Image, byte, has_file}
-use Rattle.blk_image.specs.Footprint.{Footprint, SameOutside, either, nothing, whole}
-use Rattle.blk_image.specs.Told.{Stays, Told}
-use Rattle.blk_format.specs.Address.{external, external_number, file_selector, kind_of}
-use Rattle.blk_format.specs.BlockFiles.{IsWellFormed, is_among, max_entries_in, most_blocks}
-use Rattle.blk_format.specs.Claims.{is_in_file}
-use Rattle.blk_format.specs.Growth.{HaveGrown, KeepsBlocks}
-use Rattle.blk_format.specs.Headers.{updating_of}
-use Rattle.blk_format.specs.Maps.{AreAllocations, EmptyAgrees, is_block_marked}
-use Rattle.blk_format.specs.Storage.{blocks_for, kind_for}
+use Rattle.spec_image.specs.Image.{Block, External, Image, byte, has_file}
+use Rattle.spec_image.specs.Footprint.{Footprint, SameOutside, either, nothing, whole}
+use Rattle.spec_image.specs.Told.{Stays, Told}
+use Rattle.spec_format.specs.Address.{external, external_number, file_selector, kind_of}
+use Rattle.spec_format.specs.BlockFiles.{IsWellFormed, is_among, max_entries_in, most_blocks}
+use Rattle.spec_format.specs.Claims.{is_in_file}
+use Rattle.spec_format.specs.Growth.{HaveGrown, KeepsBlocks}
+use Rattle.spec_format.specs.Headers.{updating_of}
+use Rattle.spec_format.specs.Maps.{AreAllocations, EmptyAgrees, is_block_marked}
+use Rattle.spec_format.specs.Storage.{blocks_for, kind_for}
 use Rattle.blk_io.specs.declared.folder.FileId.TheVariants as names
 use Rattle.blk_io.specs.declared.fault.Damage.{Damage}
 use Rattle.blk_io.specs.Faults.{IsShort}

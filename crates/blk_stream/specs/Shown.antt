@@ -1,11 +1,11 @@
 -- What dropping the streams of a record changes of what is shown.
 use Rattle.std.specs.Prelude.{ℕ, ◌≡◌, Bool, true, [], ◌∷◌, Some}
-use Rattle.blk_image.specs.Image.{Image}
-use Rattle.blk_image.specs.Footprint.{SameOutside}
-use Rattle.blk_format.specs.Address.{is_address, kind_of, blocks_256}
-use Rattle.blk_format.specs.Claims.{Claim, claims_of_all, has_claim}
-use Rattle.blk_volume.specs.View.{view_of}
-use Rattle.blk_volume.specs.Footprint.{SameBut}
+use Rattle.spec_image.specs.Image.{Image}
+use Rattle.spec_image.specs.Footprint.{SameOutside}
+use Rattle.spec_format.specs.Address.{is_address, kind_of, blocks_256}
+use Rattle.spec_format.specs.Claims.{Claim, claims_of_all, has_claim}
+use Rattle.spec_folder.specs.View.{view_of}
+use Rattle.spec_folder.specs.Footprint.{SameBut}
 use Rattle.blk_disk.specs.declared.tables.BlockFiles.{BlockFiles}
 use Rattle.blk_disk.specs.Tables.{Agrees, stands_among}
 use Rattle.blk_stream.specs.Streams.{HasStreams, address_word, streams_at}

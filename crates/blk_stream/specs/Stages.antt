@@ -1,13 +1,13 @@
 -- A stream is written by stages: its bytes and its words change where it lies; or a new place is taken and filled, then the record names it, and then the old one is freed.
 use Rattle.std.specs.Prelude.{ℕ, ◌≡◌, ◌≢◌, ◌⊎◌, List, length, Bool, true, false, Option, None, Some, unwrap_or}
-use Rattle.blk_image.specs.Image.{External, File, Image, has_file}
-use Rattle.blk_image.specs.Footprint.{SameOutside, either, whole}
-use Rattle.blk_format.specs.Address.{external, external_number, file_selector, is_address, is_block_kind, kind_of}
-use Rattle.blk_format.specs.Growth.{StaysWhole}
-use Rattle.blk_format.specs.Records.{entry_checks, entry_is_sealed}
-use Rattle.blk_format.specs.Sealed.{RecordChecks}
+use Rattle.spec_image.specs.Image.{External, File, Image, has_file}
+use Rattle.spec_image.specs.Footprint.{SameOutside, either, whole}
+use Rattle.spec_format.specs.Address.{external, external_number, file_selector, is_address, is_block_kind, kind_of}
+use Rattle.spec_format.specs.Growth.{StaysWhole}
+use Rattle.spec_format.specs.Records.{entry_checks, entry_is_sealed}
+use Rattle.spec_format.specs.Sealed.{RecordChecks}
 use Rattle.blk_model.specs.Effects.{stream_after}
-use Rattle.blk_volume.specs.View.{entry_at}
+use Rattle.spec_folder.specs.View.{entry_at}
 use Rattle.blk_disk.specs.declared.tables.BlockFiles.{BlockFiles}
 use Rattle.blk_disk.specs.Tables.{Agrees, stands_among}
 use Rattle.blk_external.specs.Making.{Creates, CreatesInProgress, last_number, touched_by_making}

@@ -1,11 +1,11 @@
 -- The streams of an entry record: where each lies, what its bytes are, and why one can't be read.
 use Rattle.std.specs.Prelude.{ℕ, ◌≡◌, ◌≢◌, ◌⊎◌, ◌+◌, ◌-◌, ◌*◌, ◌<◌, ◌≤◌, min, List, Bool, false, true, ◌&&◌, nat_le, slice_index, if◌then◌else◌, Option, None, Some, unwrap_or}
 use Rattle.std.specs.Option.{option_and_then}
-use Rattle.blk_image.specs.Image.{Image}
-use Rattle.blk_image.specs.Told.{Told}
-use Rattle.blk_format.specs.Sealed.{RecordChecks}
-use Rattle.blk_volume.specs.View.{fields_at, entry_at, store_of}
-use Rattle.blk_volume.specs.Entries.{most_stream_bytes, stored_streams}
+use Rattle.spec_image.specs.Image.{Image}
+use Rattle.spec_image.specs.Told.{Told}
+use Rattle.spec_format.specs.Sealed.{RecordChecks}
+use Rattle.spec_folder.specs.View.{fields_at, entry_at, store_of}
+use Rattle.spec_folder.specs.Entries.{most_stream_bytes, stored_streams}
 use Rattle.blk_io.specs.declared.fault.Damage.{Damage}
 use Rattle.blk_disk.specs.declared.tables.BlockFiles.{BlockFiles}
 use Rattle.blk_disk.specs.Tables.{Agrees}

@@ -1,15 +1,15 @@
 -- A stream is written: what is asked, what is left, and what holds at each word.
 use Rattle.std.specs.Prelude.{ℕ, ◌≡◌, ◌≢◌, ◌⊎◌, ◌<◌, ◌≤◌, List, [], ◌∷◌, length, Bool, ◌==◌, false, true, if◌then◌else◌}
 use Rattle.blk_model.specs.Effects.{stream_after}
-use Rattle.blk_image.specs.Image.{External, Image, has_file}
-use Rattle.blk_image.specs.Footprint.{Footprint, SameOutside, either, nothing}
-use Rattle.blk_image.specs.Told.{Stays, Told}
-use Rattle.blk_format.specs.Address.{block_count, external, external_number, file_selector, first_block, kind_of}
-use Rattle.blk_format.specs.BlockFiles.{IsWellFormed, is_among, max_entries_in, most_blocks}
-use Rattle.blk_format.specs.Claims.{claims_of_all, is_in_file, repeats}
-use Rattle.blk_format.specs.Maps.{AreAllocations, EmptyAgrees, is_block_marked}
-use Rattle.blk_format.specs.Sealed.{RecordChecks}
-use Rattle.blk_format.specs.Storage.{kind_for}
+use Rattle.spec_image.specs.Image.{External, Image, has_file}
+use Rattle.spec_image.specs.Footprint.{Footprint, SameOutside, either, nothing}
+use Rattle.spec_image.specs.Told.{Stays, Told}
+use Rattle.spec_format.specs.Address.{block_count, external, external_number, file_selector, first_block, kind_of}
+use Rattle.spec_format.specs.BlockFiles.{IsWellFormed, is_among, max_entries_in, most_blocks}
+use Rattle.spec_format.specs.Claims.{claims_of_all, is_in_file, repeats}
+use Rattle.spec_format.specs.Maps.{AreAllocations, EmptyAgrees, is_block_marked}
+use Rattle.spec_format.specs.Sealed.{RecordChecks}
+use Rattle.spec_format.specs.Storage.{kind_for}
 use Rattle.blk_io.specs.declared.fault.Damage.{Damage}
 use Rattle.blk_disk.specs.declared.tables.BlockFiles.{BlockFiles}
 use Rattle.blk_disk.specs.Tables.{all_files, stands_among}

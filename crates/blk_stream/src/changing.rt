@@ -1,11 +1,11 @@
 // The record names another place for a stream.
 ghost use Rattle.std.specs.Prelude.{◌≡◌, ◌<◌, ◌≤◌, true, IsTrue, None, OnErr, OnOk, length};
 ghost use Rattle.std.specs.Option.{ForSome};
-ghost use Rattle.blk_image.specs.Told.{Passes, Rises};
-ghost use Rattle.blk_format.specs.Address.{blocks_256, kind_of};
-ghost use Rattle.blk_format.specs.Records.{entry_is_sealed, entry_size};
-ghost use Rattle.blk_format.specs.Sealed.{RecordChecks, record_at};
-ghost use Rattle.blk_volume.specs.View.{entry_at};
+ghost use Rattle.spec_image.specs.Told.{Passes, Rises};
+ghost use Rattle.spec_format.specs.Address.{blocks_256, kind_of};
+ghost use Rattle.spec_format.specs.Records.{entry_is_sealed, entry_size};
+ghost use Rattle.spec_format.specs.Sealed.{RecordChecks, record_at};
+ghost use Rattle.spec_folder.specs.View.{entry_at};
 ghost use Rattle.blk_disk.specs.Tables.{Agrees, stands_among};
 ghost use Rattle.blk_stream.specs.Changing.{HasWords, NamesInProgress};
 ghost use Rattle.blk_stream.specs.Stages.{NamesShown};

@@ -1,10 +1,10 @@
 // The streams of an entry are dropped.
 ghost use Rattle.std.specs.Prelude.{◌≡◌, ◌<◌, ◌≤◌, IsTrue, None, OnOk, length};
 ghost use Rattle.std.specs.Option.{ForSome};
-ghost use Rattle.blk_image.specs.Told.{Passes, Rises};
-ghost use Rattle.blk_format.specs.Address.{blocks_256, kind_of};
-ghost use Rattle.blk_format.specs.Records.{entry_size};
-ghost use Rattle.blk_format.specs.Sealed.{RecordChecks, record_at};
+ghost use Rattle.spec_image.specs.Told.{Passes, Rises};
+ghost use Rattle.spec_format.specs.Address.{blocks_256, kind_of};
+ghost use Rattle.spec_format.specs.Records.{entry_size};
+ghost use Rattle.spec_format.specs.Sealed.{RecordChecks, record_at};
 ghost use Rattle.blk_io.specs.Faults.{IfDamaged, IfDevice};
 ghost use Rattle.blk_disk.specs.Tables.{Agrees, stands_among};
 ghost use Rattle.blk_stream.specs.Dropping.{AreDropped, DropsInProgress, DropsStream, DropsStreamInProgress, IsDropDamage, IsStreamDropDamage, StreamCanBeDropped, StreamsCanBeDropped};

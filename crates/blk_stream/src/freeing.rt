@@ -1,9 +1,9 @@
 // The place of data is freed.
 ghost use Rattle.std.specs.Prelude.{◌≡◌, ◌≢◌, ◌≤◌, false, IsTrue, None, OnErr, OnOk};
 ghost use Rattle.std.specs.Option.{ForSome};
-ghost use Rattle.blk_image.specs.Footprint.{SameOutside};
-ghost use Rattle.blk_image.specs.Told.{Passes, Rises, Stays};
-ghost use Rattle.blk_format.specs.Address.{block_count, external, file_selector, first_block, kind_of};
+ghost use Rattle.spec_image.specs.Footprint.{SameOutside};
+ghost use Rattle.spec_image.specs.Told.{Passes, Rises, Stays};
+ghost use Rattle.spec_format.specs.Address.{block_count, external, file_selector, first_block, kind_of};
 ghost use Rattle.blk_io.specs.Faults.{IfDamaged, IfDevice};
 ghost use Rattle.blk_disk.specs.Tables.{Agrees, stands_among};
 ghost use Rattle.blk_alloc.specs.Owning.{IsCause};

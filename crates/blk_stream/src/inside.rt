@@ -1,10 +1,10 @@
 // A stream is written inside its place.
 ghost use Rattle.std.specs.Prelude.{◌≡◌, ◌≢◌, ◌+◌, ◌≤◌, ◌<◌, IsTrue, OnErr, OnOk, length};
 ghost use Rattle.std.specs.Option.{ForSome};
-ghost use Rattle.blk_image.specs.Told.{Applies, AppliesPrefix, Passes, Rises, Stays};
-ghost use Rattle.blk_format.specs.Address.{blocks_256, byte_size, external, kind_of};
-ghost use Rattle.blk_format.specs.Records.{entry_size};
-ghost use Rattle.blk_format.specs.Sealed.{RecordChecks, record_at};
+ghost use Rattle.spec_image.specs.Told.{Applies, AppliesPrefix, Passes, Rises, Stays};
+ghost use Rattle.spec_format.specs.Address.{blocks_256, byte_size, external, kind_of};
+ghost use Rattle.spec_format.specs.Records.{entry_size};
+ghost use Rattle.spec_format.specs.Sealed.{RecordChecks, record_at};
 ghost use Rattle.blk_disk.specs.Tables.{Agrees, stands_among};
 ghost use Rattle.blk_entry.specs.Keys.{IsInFile, IsInside};
 ghost use Rattle.blk_entry.specs.Steps.{data_steps};

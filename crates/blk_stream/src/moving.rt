@@ -1,13 +1,13 @@
 // A stream gets another place.
 ghost use Rattle.std.specs.Prelude.{ℕ, ◌≡◌, ◌≢◌, ◌+◌, ◌<◌, ◌≤◌, Bool, false, true, IfOk, IsTrue, None, Some, OnOk, length, unwrap_or};
 ghost use Rattle.std.specs.Option.{ForSome};
-ghost use Rattle.blk_image.specs.Told.{Passes, Rises};
-ghost use Rattle.blk_format.specs.Address.{block_count, blocks_256, external, file_selector, first_block, kind_of};
-ghost use Rattle.blk_format.specs.Headers.{HasWholeIndex};
-ghost use Rattle.blk_format.specs.Records.{entry_is_sealed, entry_size};
-ghost use Rattle.blk_format.specs.Sealed.{RecordChecks, record_at};
-ghost use Rattle.blk_volume.specs.Entries.{most_stream_bytes};
-ghost use Rattle.blk_volume.specs.View.{entry_at};
+ghost use Rattle.spec_image.specs.Told.{Passes, Rises};
+ghost use Rattle.spec_format.specs.Address.{block_count, blocks_256, external, file_selector, first_block, kind_of};
+ghost use Rattle.spec_format.specs.Headers.{HasWholeIndex};
+ghost use Rattle.spec_format.specs.Records.{entry_is_sealed, entry_size};
+ghost use Rattle.spec_format.specs.Sealed.{RecordChecks, record_at};
+ghost use Rattle.spec_folder.specs.Entries.{most_stream_bytes};
+ghost use Rattle.spec_folder.specs.View.{entry_at};
 ghost use Rattle.blk_io.specs.Faults.{IfDamaged, IfDevice};
 ghost use Rattle.blk_disk.specs.Tables.{Agrees, stands_among};
 ghost use Rattle.blk_alloc.specs.Extending.{KeepsStanding};

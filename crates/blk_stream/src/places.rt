@@ -1,8 +1,8 @@
 // Where the streams of a record lie.
 ghost use Rattle.std.specs.Prelude.{◌≡◌, ◌==◌, ◌<◌, IfOk, IsOk, OnOk, Some, true, length, unwrap_or};
-ghost use Rattle.blk_image.specs.Bytes.{content, word_at};
-ghost use Rattle.blk_format.specs.Address.{blocks_256, is_address, kind_of};
-ghost use Rattle.blk_format.specs.Records.{entry_size};
+ghost use Rattle.spec_image.specs.Bytes.{content, word_at};
+ghost use Rattle.spec_format.specs.Address.{blocks_256, is_address, kind_of};
+ghost use Rattle.spec_format.specs.Records.{entry_size};
 ghost use Rattle.blk_addr.specs.Kind.{kind_number};
 ghost use Rattle.blk_io.specs.Faults.{IfDamaged, IfDevice};
 ghost use Rattle.blk_entry.specs.Keys as keys;

@@ -1,9 +1,9 @@
 // A new place for data.
 ghost use Rattle.std.specs.Prelude.{◌≡◌, ◌≢◌, ◌==◌, ◌<◌, ◌≤◌, true, IfOk, None, OnOk};
 ghost use Rattle.std.specs.Option.{ForSome};
-ghost use Rattle.blk_image.specs.Told.{Passes, Rises};
-ghost use Rattle.blk_format.specs.Address.{external, file_selector, kind_of};
-ghost use Rattle.blk_format.specs.Headers.{HasWholeIndex};
+ghost use Rattle.spec_image.specs.Told.{Passes, Rises};
+ghost use Rattle.spec_format.specs.Address.{external, file_selector, kind_of};
+ghost use Rattle.spec_format.specs.Headers.{HasWholeIndex};
 ghost use Rattle.blk_addr.specs.Kind.{kind_number};
 ghost use Rattle.blk_io.specs.Faults.{IfDamaged, IfDevice};
 ghost use Rattle.blk_disk.specs.Tables.{Agrees};

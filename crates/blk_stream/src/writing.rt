@@ -1,12 +1,12 @@
 // The bytes of a stream are written.
 ghost use Rattle.std.specs.Prelude.{ℕ, ◌≡◌, ◌≢◌, ◌+◌, ◌<◌, ◌≤◌, true, IsTrue, None, Some, OnOk, length, unwrap_or};
 ghost use Rattle.std.specs.Option.{ForSome};
-ghost use Rattle.blk_image.specs.Told.{Passes, Rises};
-ghost use Rattle.blk_format.specs.Address.{blocks_256, kind_of};
-ghost use Rattle.blk_format.specs.Headers.{HasWholeIndex};
-ghost use Rattle.blk_format.specs.Records.{entry_size};
-ghost use Rattle.blk_format.specs.Sealed.{RecordChecks};
-ghost use Rattle.blk_volume.specs.Entries.{most_stream_bytes};
+ghost use Rattle.spec_image.specs.Told.{Passes, Rises};
+ghost use Rattle.spec_format.specs.Address.{blocks_256, kind_of};
+ghost use Rattle.spec_format.specs.Headers.{HasWholeIndex};
+ghost use Rattle.spec_format.specs.Records.{entry_size};
+ghost use Rattle.spec_format.specs.Sealed.{RecordChecks};
+ghost use Rattle.spec_folder.specs.Entries.{most_stream_bytes};
 ghost use Rattle.blk_io.specs.Faults.{IfDamaged, IfDevice};
 ghost use Rattle.blk_disk.specs.Tables.{Agrees, stands_among};
 ghost use Rattle.blk_entry.specs.Keys.{IsInFile};

@@ -4,18 +4,18 @@ use Rattle.std.specs.Prelude.{not, nat_lt, nat_le}
 use Rattle.std.specs.Int.{cast_unsigned, w64}
 use Rattle.std.specs.List.{list_any}
 use Rattle.std.proofs.lemmas.Bool.{and_parts, ltb-true}
-use Rattle.blk_image.specs.Image.{Image}
+use Rattle.spec_image.specs.Image.{Image}
 use Rattle.blk_model.specs.Sizes.{longest_key, part_count, signatures}
-use Rattle.blk_format.specs.Names.{IsName, Name, read_name}
-use Rattle.blk_format.specs.SparseIndex.{PartIndex}
-use Rattle.blk_volume.specs.Audit.{admit, collides, is_orphan, is_orphan_role, is_parent_of, shares_key, with_verdict}
-use Rattle.blk_volume.specs.Entries as entries
-use Rattle.blk_volume.specs.Loads as shown
-use Rattle.blk_volume.specs.Loads.{held_rule, is_part, is_part_role}
-use Rattle.blk_volume.specs.Reasons as reasons
-use Rattle.blk_volume.specs.Reasons.{◌>>=◌, demand}
-use Rattle.blk_volume.specs.View.{store_of}
-use Rattle.blk_laws.proofs.walks.Loads.{load-then}
+use Rattle.spec_format.specs.Names.{IsName, Name, read_name}
+use Rattle.spec_format.specs.SparseIndex.{PartIndex}
+use Rattle.spec_folder.specs.Audit.{admit, collides, is_orphan, is_orphan_role, is_parent_of, shares_key, with_verdict}
+use Rattle.spec_folder.specs.Entries as entries
+use Rattle.spec_folder.specs.Loads as shown
+use Rattle.spec_folder.specs.Loads.{held_rule, is_part, is_part_role}
+use Rattle.spec_folder.specs.Reasons as reasons
+use Rattle.spec_folder.specs.Reasons.{◌>>=◌, demand}
+use Rattle.spec_folder.specs.View.{store_of}
+use Rattle.law_folder.proofs.walks.Loads.{load-then}
 use Rattle.blk_ranges.specs.ChildNames.{name_within}
 use Rattle.blk_ranges.specs.declared.names.ChildName.{ChildName}
 use Rattle.blk_verdict.specs.Kept.{AreShown, IsSameAnswer, IsLoadedFrom, is_sought, kept_with}

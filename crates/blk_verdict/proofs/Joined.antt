@@ -2,16 +2,16 @@
 use Rattle.std.proofs.Common.{◌≡◌, ℕ, Bool, true, false, if◌then◌else◌, List, ◌∷◌, Option, None, Some, Result, Ok, Err, refl, sym, ◌∙◌, ap}
 use Rattle.std.specs.Prelude.{◌==◌, nat_le, not, is_some}
 use Rattle.std.specs.Option.{ok_or}
-use Rattle.blk_image.specs.Image.{Image}
-use Rattle.blk_format.specs.Address.{blocks_256}
-use Rattle.blk_format.specs.BlockFiles.{is_among}
-use Rattle.blk_format.specs.Hash.{hash}
-use Rattle.blk_volume.specs.Chains.{bucket_of_hash, chain}
-use Rattle.blk_volume.specs.Entries.{Role, is_key_length, stored_key, stored_streams, role_of}
-use Rattle.blk_volume.specs.Loads.{Loaded, held_rule, load_key, load_record, load}
-use Rattle.blk_volume.specs.Reasons.{Reason, ◌>>=◌, demand}
-use Rattle.blk_volume.specs.Reasons as reason
-use Rattle.blk_volume.specs.View.{RecordFields, StoreView, fields_at, stands_as, store_of}
+use Rattle.spec_image.specs.Image.{Image}
+use Rattle.spec_format.specs.Address.{blocks_256}
+use Rattle.spec_format.specs.BlockFiles.{is_among}
+use Rattle.spec_format.specs.Hash.{hash}
+use Rattle.spec_folder.specs.Chains.{bucket_of_hash, chain}
+use Rattle.spec_folder.specs.Entries.{Role, is_key_length, stored_key, stored_streams, role_of}
+use Rattle.spec_folder.specs.Loads.{Loaded, held_rule, load_key, load_record, load}
+use Rattle.spec_folder.specs.Reasons.{Reason, ◌>>=◌, demand}
+use Rattle.spec_folder.specs.Reasons as reason
+use Rattle.spec_folder.specs.View.{RecordFields, StoreView, fields_at, stands_as, store_of}
 use Rattle.blk_disk.specs.declared.tables.BlockFiles.{BlockFiles}
 use Rattle.blk_disk.specs.Tables.{Agrees, is_record_among}
 use Rattle.blk_audit.proofs.Shown.{names_stand}

@@ -2,13 +2,13 @@
 use Rattle.std.proofs.Common.{◌≡◌, ℕ, zero, suc, List, ◌∷◌, Option, None, Some, Result, Ok, Err, refl, ap, arith}
 use Rattle.std.specs.Prelude.{All}
 use Rattle.std.proofs.lemmas.List.Elements.{All-push}
-use Rattle.blk_image.specs.Image.{Image}
-use Rattle.blk_volume.specs.Audit.{admit, verdict}
-use Rattle.blk_volume.specs.Loads as shown
-use Rattle.blk_volume.specs.Loads.{held_rule}
-use Rattle.blk_volume.specs.Reasons as reasons
-use Rattle.blk_volume.specs.Reasons.{◌>>=◌}
-use Rattle.blk_volume.specs.View.{store_of}
+use Rattle.spec_image.specs.Image.{Image}
+use Rattle.spec_folder.specs.Audit.{admit, verdict}
+use Rattle.spec_folder.specs.Loads as shown
+use Rattle.spec_folder.specs.Loads.{held_rule}
+use Rattle.spec_folder.specs.Reasons as reasons
+use Rattle.spec_folder.specs.Reasons.{◌>>=◌}
+use Rattle.spec_folder.specs.View.{store_of}
 use Rattle.blk_verdict.specs.Keyed.{HasItsKey}
 use Rattle.blk_verdict.specs.Kept.{HaveKeys, IsLoadedFrom, kept_with}
 use Rattle.blk_verdict.specs.Verdicts.{IsVerdict}

@@ -1,16 +1,16 @@
 -- What is kept of a loaded record leads to its key.
 use Rattle.std.proofs.Common.{◌≡◌, ℕ, List, Some, sym, ◌∙◌, ap, subst, arith, drop, ap₂}
 use Rattle.std.specs.Prelude.{slice_index}
-use Rattle.blk_volume.specs.Entries.{stored_key, stream}
-use Rattle.blk_volume.specs.ListView.{first_or}
-use Rattle.blk_volume.specs.Loads.{held_rule}
-use Rattle.blk_volume.specs.View.{data_size_of, stored_at, store_of}
-use Rattle.blk_laws.proofs.walks.Loads.{load-then}
-use Rattle.blk_volume.specs.Found.{charge_of}
+use Rattle.spec_folder.specs.Entries.{stored_key, stream}
+use Rattle.spec_folder.specs.ListView.{first_or}
+use Rattle.spec_folder.specs.Loads.{held_rule}
+use Rattle.spec_folder.specs.View.{data_size_of, stored_at, store_of}
+use Rattle.law_folder.proofs.walks.Loads.{load-then}
+use Rattle.spec_folder.specs.Found.{charge_of}
 use Rattle.blk_verdict.specs.Charges.{LoadedAreCharged, charge_said}
 use Rattle.blk_verdict.specs.Keyed.{IsKeyOf}
 use Rattle.blk_verdict.specs.KeptKeys.{LoadedIndexesAreFound, LoadedKeysAreFound}
-use Rattle.blk_format.specs.SparseIndex.{read_parent_index}
+use Rattle.spec_format.specs.SparseIndex.{read_parent_index}
 use Rattle.blk_verdict.proofs.KeyFacts.{key_length}
 use Rattle.blk_verdict.proofs.RoleFacts.{index_length, index_of_parent}
 use Rattle.blk_verdict.proofs.StreamFacts.{are_stored, stored_length}

@@ -4,13 +4,13 @@ use Rattle.std.specs.Prelude.{◌==◌, nat_le, is_some}
 use Rattle.std.specs.Option.{option_map}
 use Rattle.std.proofs.lemmas.Bool.{and_parts}
 use Rattle.std.proofs.lemmas.Bool.Decides.{nat_tests}
-use Rattle.blk_image.specs.Bytes.{range_at}
-use Rattle.blk_image.specs.Image.{Block, Image, byte}
-use Rattle.blk_image.proofs.Words.{length-range}
-use Rattle.blk_format.specs.Address.{blocks_256, external, file_selector, is_address, kind_of, place}
-use Rattle.blk_format.specs.Storage.{is_storage, kind_for}
-use Rattle.blk_volume.specs.Entries.{stored_key}
-use Rattle.blk_volume.specs.View.{RecordFields, key_place_at, store_of, stored_at}
+use Rattle.spec_image.specs.Bytes.{range_at}
+use Rattle.spec_image.specs.Image.{Block, Image, byte}
+use Rattle.spec_image.proofs.Words.{length-range}
+use Rattle.spec_format.specs.Address.{blocks_256, external, file_selector, is_address, kind_of, place}
+use Rattle.spec_format.specs.Storage.{is_storage, kind_for}
+use Rattle.spec_folder.specs.Entries.{stored_key}
+use Rattle.spec_folder.specs.View.{RecordFields, key_place_at, store_of, stored_at}
 use Rattle.blk_disk.specs.declared.tables.BlockFiles.{BlockFiles}
 use Rattle.blk_disk.specs.Tables.{Agrees, stands_among}
 use Rattle.blk_entry.specs.Keys.{IsInside, bytes_before, data_at, is_short, key_address, may_have, stores}

@@ -3,10 +3,10 @@ use Rattle.std.proofs.Common.{◌≡◌, ◌+◌, ℕ, Bool, true, false, if◌t
 use Rattle.std.specs.Prelude.{◌==◌, nat_le}
 use Rattle.std.specs.Option.{option_map}
 use Rattle.std.specs.Str.{bytes_eq}
-use Rattle.blk_image.specs.Image.{Image}
+use Rattle.spec_image.specs.Image.{Image}
 use Rattle.blk_model.proofs.Same.{same_bytes}
-use Rattle.blk_volume.specs.Entries.{stored_key}
-use Rattle.blk_volume.specs.View.{StoreView, store_of}
+use Rattle.spec_folder.specs.Entries.{stored_key}
+use Rattle.spec_folder.specs.View.{StoreView, store_of}
 use Rattle.blk_verdict.specs.Keyed.{IsKeyOf, words_kept}
 use Rattle.blk_audit.specs.Records.{fields_said}
 use Rattle.blk_audit.specs.declared.record_words.RecordWords.{RecordWords}

@@ -5,21 +5,21 @@ use Rattle.std.specs.Option.{option_map_or}
 use Rattle.std.specs.List.{filter}
 use Rattle.std.proofs.lemmas.List.Elements.{filter_more}
 use Rattle.std.proofs.lemmas.Option.{get_or_from_slice_get, slice_get_within}
-use Rattle.blk_image.specs.Image.{Image}
-use Rattle.blk_image.specs.Told.{Told}
-use Rattle.blk_format.specs.Address.{blocks_256, file_selector, place}
-use Rattle.blk_format.specs.Records.{child}
+use Rattle.spec_image.specs.Image.{Image}
+use Rattle.spec_image.specs.Told.{Told}
+use Rattle.spec_format.specs.Address.{blocks_256, file_selector, place}
+use Rattle.spec_format.specs.Records.{child}
 use Rattle.blk_io.specs.declared.fault.Damage.{Damage}
 use Rattle.blk_io.specs.declared.folder.FileId.TheVariants as FileId
 use Rattle.blk_io.specs.Faults.{IsShort}
 use Rattle.blk_entry.proofs.KeyPlaces.{short_is_cut}
 use Rattle.blk_entry.proofs.Windows.{not_external}
 use Rattle.blk_audit.specs.Faults.{IsRecordDamage}
-use Rattle.blk_format.specs.BlockFiles.{is_among}
-use Rattle.blk_volume.specs.Audit.{is_child, is_unlisted}
-use Rattle.blk_volume.specs.Found.{completed}
-use Rattle.blk_volume.specs.ListImages.{completed_walk}
-use Rattle.blk_volume.specs.View.{RecordFields, StoreView, entry_at, fields_at, fields_of, stands_as, store_of, view_of}
+use Rattle.spec_format.specs.BlockFiles.{is_among}
+use Rattle.spec_folder.specs.Audit.{is_child, is_unlisted}
+use Rattle.spec_folder.specs.Found.{completed}
+use Rattle.spec_folder.specs.ListImages.{completed_walk}
+use Rattle.spec_folder.specs.View.{RecordFields, StoreView, entry_at, fields_at, fields_of, stands_as, store_of, view_of}
 use Rattle.blk_disk.specs.declared.tables.BlockFiles.{BlockFiles}
 use Rattle.blk_disk.specs.Tables.{Agrees, is_record_among}
 use Rattle.blk_audit.specs.ReadLists.{is_named_by}

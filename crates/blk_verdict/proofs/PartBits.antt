@@ -4,11 +4,11 @@ use Rattle.std.specs.Prelude.{◌==◌, nat_lt, slice_index}
 use Rattle.std.specs.Int.{bit_at}
 use Rattle.std.specs.Option.{option_map}
 use Rattle.std.proofs.lemmas.Bool.{lt-ltb}
-use Rattle.blk_image.specs.Bytes.{content}
-use Rattle.blk_image.specs.Image.{Image, byte}
-use Rattle.blk_image.proofs.Words.{content-range}
-use Rattle.blk_format.specs.SparseIndex.{ParentIndex, map_bit, read_parent_index}
-use Rattle.blk_volume.specs.View.{stored_at}
+use Rattle.spec_image.specs.Bytes.{content}
+use Rattle.spec_image.specs.Image.{Image, byte}
+use Rattle.spec_image.proofs.Words.{content-range}
+use Rattle.spec_format.specs.SparseIndex.{ParentIndex, map_bit, read_parent_index}
+use Rattle.spec_folder.specs.View.{stored_at}
 use Rattle.blk_entry.specs.Keys.{data_at, data_file, data_start}
 use Rattle.blk_ranges.specs.ParentMaps.{has_part_bit, read_parent_head}
 use Rattle.blk_ranges.proofs.ParentIndexes.{index-read, with_bits}

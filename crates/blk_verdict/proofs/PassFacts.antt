@@ -5,18 +5,18 @@ use Rattle.std.specs.List.{AllZip}
 use Rattle.std.proofs.lemmas.List.{append-nil, append_assoc}
 use Rattle.std.proofs.lemmas.Bool.Decides.{eqb_tells}
 use Rattle.std.proofs.Math.Dec.{eqb}
-use Rattle.blk_image.specs.Image.{Image}
-use Rattle.blk_format.specs.BlockFiles.{is_among}
-use Rattle.blk_volume.specs.ListImages.{completed_walk}
-use Rattle.blk_volume.specs.Completion.{completed_list}
-use Rattle.blk_laws.proofs.lists.Walked.{walk-once}
-use Rattle.blk_laws.proofs.walks.Kept.{tried-among}
-use Rattle.blk_volume.specs.Audit.{is_child, judged, verdict, verdict_on, verdicts, with_verdict}
-use Rattle.blk_volume.specs.Audit as audit
-use Rattle.blk_volume.specs.Loads as shown
-use Rattle.blk_volume.specs.Loads.{Rule, held_rule}
-use Rattle.blk_volume.specs.Reasons as reasons
-use Rattle.blk_volume.specs.View.{StoreView, list_of, store_of}
+use Rattle.spec_image.specs.Image.{Image}
+use Rattle.spec_format.specs.BlockFiles.{is_among}
+use Rattle.spec_folder.specs.ListImages.{completed_walk}
+use Rattle.spec_folder.specs.Completion.{completed_list}
+use Rattle.law_folder.proofs.lists.Walked.{walk-once}
+use Rattle.law_folder.proofs.walks.Kept.{tried-among}
+use Rattle.spec_folder.specs.Audit.{is_child, judged, verdict, verdict_on, verdicts, with_verdict}
+use Rattle.spec_folder.specs.Audit as audit
+use Rattle.spec_folder.specs.Loads as shown
+use Rattle.spec_folder.specs.Loads.{Rule, held_rule}
+use Rattle.spec_folder.specs.Reasons as reasons
+use Rattle.spec_folder.specs.View.{StoreView, list_of, store_of}
 use Rattle.blk_verdict.specs.Kept.{AreShown, HaveKeys, IsSameAnswer}
 use Rattle.blk_verdict.specs.Passes.{AreTried, IsAnswered, IsTried, is_of_pass, kept_after, of_pass}
 use Rattle.blk_verdict.specs.declared.loading.Loaded.{Loaded}

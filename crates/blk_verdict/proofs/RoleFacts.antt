@@ -6,12 +6,12 @@ use Rattle.std.specs.Option.{option_and_then, option_map}
 use Rattle.std.proofs.lemmas.Bool.{eq-eqb, eqb-true}
 use Rattle.std.proofs.lemmas.Bool.Decides.{nat_tests}
 use Rattle.std.proofs.lemmas.List.{get_or-take, take_all}
-use Rattle.blk_image.specs.Bytes.{content, words_at}
-use Rattle.blk_format.specs.Names.{Name, IsName, colon, hexadecimal, name_head, read_name}
-use Rattle.blk_format.specs.SparseIndex.{ParentIndex, PartIndex, read_parent_index, read_part_index}
-use Rattle.blk_volume.specs.Entries as entries
-use Rattle.blk_volume.specs.Entries.{parent_role, part_role, role_of, is_covered, stream}
-use Rattle.blk_volume.specs.View.{RecordFields}
+use Rattle.spec_image.specs.Bytes.{content, words_at}
+use Rattle.spec_format.specs.Names.{Name, IsName, colon, hexadecimal, name_head, read_name}
+use Rattle.spec_format.specs.SparseIndex.{ParentIndex, PartIndex, read_parent_index, read_part_index}
+use Rattle.spec_folder.specs.Entries as entries
+use Rattle.spec_folder.specs.Entries.{parent_role, part_role, role_of, is_covered, stream}
+use Rattle.spec_folder.specs.View.{RecordFields}
 use Rattle.blk_ranges.specs.ChildNames.{name_within}
 use Rattle.blk_ranges.specs.ParentMaps.{head_fields, read_parent_head}
 use Rattle.blk_ranges.specs.PartMaps.{index_of, map_signature}

@@ -4,27 +4,27 @@ use Rattle.std.specs.Prelude.{◌==◌, nat_le, not, is_some}
 use Rattle.std.specs.List.{AllByRecursion, filter, flat_map, list_any, range_with_len}
 use Rattle.std.specs.Option.{option_map}
 use Rattle.std.proofs.lemmas.Bool.{eqb-true, eq-eqb, or_from}
-use Rattle.blk_image.specs.Bytes.{words_at}
-use Rattle.blk_image.specs.Image.{Image}
-use Rattle.blk_format.specs.Address.{is_address, is_initialized, kind_of, block_count, file_selector, first_block, external, rankings, blocks_256}
-use Rattle.blk_format.specs.BlockFiles.{linked_as, stands_in}
-use Rattle.blk_format.specs.Claims.{Claim, BlockOf, claims_of, claims_of_all, has_claim, is_in_file, overlap, repeats}
-use Rattle.blk_format.specs.Records.{entry_in}
-use Rattle.blk_format.specs.Storage.{is_storage, kind_for}
+use Rattle.spec_image.specs.Bytes.{words_at}
+use Rattle.spec_image.specs.Image.{Image}
+use Rattle.spec_format.specs.Address.{is_address, is_initialized, kind_of, block_count, file_selector, first_block, external, rankings, blocks_256}
+use Rattle.spec_format.specs.BlockFiles.{linked_as, stands_in}
+use Rattle.spec_format.specs.Claims.{Claim, BlockOf, claims_of, claims_of_all, has_claim, is_in_file, overlap, repeats}
+use Rattle.spec_format.specs.Records.{entry_in}
+use Rattle.spec_format.specs.Storage.{is_storage, kind_for}
 use Rattle.blk_addr.proofs.ClaimLemmas.{claims_of-blocks, has_claim-append, repeats-claims_of}
 use Rattle.blk_addr.proofs.MeetLemmas.{repeats-both}
-use Rattle.blk_volume.specs.Audit.{collides}
-use Rattle.blk_volume.specs.Entries.{stored_key, stored_streams}
-use Rattle.blk_volume.specs.Loads as shown
-use Rattle.blk_volume.specs.Loads.{all_claims, claims_of_loaded, held_rule, record_claims}
-use Rattle.blk_volume.specs.Sound.{words_of}
-use Rattle.blk_volume.specs.View.{NodeFields, RecordFields, address_of, entry_at, fields_at, fields_of, node_fields_at, stands_as, store_of, stored_at}
+use Rattle.spec_folder.specs.Audit.{collides}
+use Rattle.spec_folder.specs.Entries.{stored_key, stored_streams}
+use Rattle.spec_folder.specs.Loads as shown
+use Rattle.spec_folder.specs.Loads.{all_claims, claims_of_loaded, held_rule, record_claims}
+use Rattle.spec_folder.specs.Sound.{words_of}
+use Rattle.spec_folder.specs.View.{NodeFields, RecordFields, address_of, entry_at, fields_at, fields_of, node_fields_at, stands_as, store_of, stored_at}
 use Rattle.blk_entry.proofs.KeyPlaces.{storage_parts}
-use Rattle.blk_laws.proofs.claims.Allocations.{all-claims, other-file, storage-of_none, words-claims, words-stand}
-use Rattle.blk_laws.proofs.claims.ByteChanges.{stands-address, stands-linked, stands-some}
-use Rattle.blk_laws.proofs.claims.ClaimLists.{no-claim}
-use Rattle.blk_laws.proofs.claims.NodeWords.{IsNode, is-node, node_apart}
-use Rattle.blk_laws.proofs.walks.Loads.{load-then}
+use Rattle.law_folder.proofs.claims.Allocations.{all-claims, other-file, storage-of_none, words-claims, words-stand}
+use Rattle.law_folder.proofs.claims.ByteChanges.{stands-address, stands-linked, stands-some}
+use Rattle.law_folder.proofs.claims.ClaimLists.{no-claim}
+use Rattle.law_folder.proofs.claims.NodeWords.{IsNode, is-node, node_apart}
+use Rattle.law_folder.proofs.walks.Loads.{load-then}
 use Rattle.blk_verdict.specs.Kept.{AreShown, IsLoadedFrom, addresses_of, addresses_of_all}
 use Rattle.blk_verdict.specs.declared.loading.Loaded.{Loaded}
 use Rattle.blk_verdict.proofs.StreamFacts.{are_stored, no_fourth_addr}

@@ -5,16 +5,16 @@ use Rattle.std.specs.Int.{cast_unsigned, w64}
 use Rattle.std.specs.List.{list_any}
 use Rattle.std.specs.Str.{bytes_eq}
 use Rattle.std.proofs.lemmas.Bool.{eqb-true, eq-eqb}
-use Rattle.blk_image.specs.Image.{Image}
-use Rattle.blk_format.specs.Hash.{hash as hash_of}
-use Rattle.blk_format.specs.Names.{Name}
-use Rattle.blk_format.specs.SparseIndex.{ParentIndex}
+use Rattle.spec_image.specs.Image.{Image}
+use Rattle.spec_format.specs.Hash.{hash as hash_of}
+use Rattle.spec_format.specs.Names.{Name}
+use Rattle.spec_format.specs.SparseIndex.{ParentIndex}
 use Rattle.blk_addr.proofs.ClaimLemmas.{list_any-same}
 use Rattle.blk_model.proofs.Same.{bytes_eq_self, same_bytes}
-use Rattle.blk_volume.specs.Audit.{is_parent_role, same_answer, shares_key}
-use Rattle.blk_volume.specs.Entries as entries
-use Rattle.blk_volume.specs.Loads as shown
-use Rattle.blk_volume.specs.Loads.{is_part, is_part_role}
+use Rattle.spec_folder.specs.Audit.{is_parent_role, same_answer, shares_key}
+use Rattle.spec_folder.specs.Entries as entries
+use Rattle.spec_folder.specs.Loads as shown
+use Rattle.spec_folder.specs.Loads.{is_part, is_part_role}
 use Rattle.blk_disk.specs.declared.tables.BlockFiles.{BlockFiles}
 use Rattle.blk_entry.specs.Keys.{stores}
 use Rattle.blk_ranges.specs.ParentMaps.{head_fields, head_signature}

@@ -4,13 +4,13 @@ use Rattle.std.specs.Prelude.{◌==◌, not, is_some, unwrap_or}
 use Rattle.std.specs.Option.{option_map}
 use Rattle.std.proofs.lemmas.Bool.{and_parts, eqb-true, eq-eqb}
 use Rattle.std.proofs.lemmas.Bool.Decides.{nat_tests}
-use Rattle.blk_image.specs.Image.{Block, External, Image, byte, length_of}
-use Rattle.blk_image.specs.Bytes.{range_at}
-use Rattle.blk_format.specs.Address.{kind_of, is_address, external, external_number, file_selector, place}
-use Rattle.blk_format.specs.Storage.{is_storage}
-use Rattle.blk_format.specs.Standing.{stands}
-use Rattle.blk_format.specs.BlockFiles.{stands_in}
-use Rattle.blk_volume.specs.View.{stored_at}
+use Rattle.spec_image.specs.Image.{Block, External, Image, byte, length_of}
+use Rattle.spec_image.specs.Bytes.{range_at}
+use Rattle.spec_format.specs.Address.{kind_of, is_address, external, external_number, file_selector, place}
+use Rattle.spec_format.specs.Storage.{is_storage}
+use Rattle.spec_format.specs.Standing.{stands}
+use Rattle.spec_format.specs.BlockFiles.{stands_in}
+use Rattle.spec_folder.specs.View.{stored_at}
 use Rattle.blk_addr.specs.FileId.{file_of_word}
 use Rattle.blk_disk.specs.declared.tables.BlockFiles.{BlockFiles}
 use Rattle.blk_disk.specs.Names.{folder_name}

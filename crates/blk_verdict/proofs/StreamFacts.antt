@@ -5,13 +5,13 @@ use Rattle.std.specs.List.{sum_by}
 use Rattle.std.specs.Option.{option_and_then, option_map}
 use Rattle.std.proofs.lemmas.Bool.{eq-eqb}
 use Rattle.std.proofs.lemmas.Bool.Decides.{nat_tests}
-use Rattle.blk_image.specs.Image.{Block, External, Image, byte, length_of}
-use Rattle.blk_image.specs.Bytes.{range_at}
-use Rattle.blk_image.proofs.Words.{length-range}
-use Rattle.blk_format.specs.Address.{kind_of, external, external_number, file_selector, place}
-use Rattle.blk_format.specs.Storage.{is_storage}
-use Rattle.blk_volume.specs.View.{RecordFields, data_size_of, address_of, stored_at, store_of}
-use Rattle.blk_volume.specs.Entries.{stored_stream, stored_streams, stream}
+use Rattle.spec_image.specs.Image.{Block, External, Image, byte, length_of}
+use Rattle.spec_image.specs.Bytes.{range_at}
+use Rattle.spec_image.proofs.Words.{length-range}
+use Rattle.spec_format.specs.Address.{kind_of, external, external_number, file_selector, place}
+use Rattle.spec_format.specs.Storage.{is_storage}
+use Rattle.spec_folder.specs.View.{RecordFields, data_size_of, address_of, stored_at, store_of}
+use Rattle.spec_folder.specs.Entries.{stored_stream, stored_streams, stream}
 use Rattle.blk_entry.specs.Keys.{data_at}
 use Rattle.blk_entry.proofs.KeyPlaces.{stored_is}
 use Rattle.blk_entry.proofs.NewShown.{stored_there}

@@ -2,23 +2,23 @@
 use Rattle.std.proofs.Common.{◌≡◌, zero, suc, ◌<◌, ℕ, Bool, true, false, List, length, Option, None, Some, Result, Ok, Err, if◌then◌else◌, refl, sym, ◌∙◌, ap, subst, arith}
 use Rattle.std.specs.Prelude.{◌==◌, nat_le, not, slice_index}
 use Rattle.std.specs.Option.{ok_or}
-use Rattle.blk_image.specs.Image.{Image}
-use Rattle.blk_format.specs.BlockFiles.{is_among}
-use Rattle.blk_format.specs.Hash.{hash}
-use Rattle.blk_format.specs.Headers.{table_length}
+use Rattle.spec_image.specs.Image.{Image}
+use Rattle.spec_format.specs.BlockFiles.{is_among}
+use Rattle.spec_format.specs.Hash.{hash}
+use Rattle.spec_format.specs.Headers.{table_length}
 use Rattle.std.proofs.lemmas.Bool.{eq-eqb}
 use Rattle.std.proofs.lemmas.Bool.Decides.{nat_tests}
-use Rattle.blk_format.specs.Address.{blocks_256, is_address, kind_of}
+use Rattle.spec_format.specs.Address.{blocks_256, is_address, kind_of}
 use Rattle.blk_disk.specs.declared.tables.BlockFiles.{BlockFiles}
 use Rattle.blk_disk.specs.Tables.{is_record_among, names_among, stands_among}
-use Rattle.blk_volume.specs.Chains.{bucket_of_hash, chain}
-use Rattle.blk_volume.specs.Entries as entries
-use Rattle.blk_volume.specs.Entries.{is_key_length, role_of, stored_streams, stream}
-use Rattle.blk_volume.specs.Loads as shown
-use Rattle.blk_volume.specs.Loads.{held_rule}
-use Rattle.blk_volume.specs.Reasons as reasons
-use Rattle.blk_volume.specs.Reasons.{◌>>=◌}
-use Rattle.blk_volume.specs.View.{RecordFields, StoreView, data_size_of, store_of}
+use Rattle.spec_folder.specs.Chains.{bucket_of_hash, chain}
+use Rattle.spec_folder.specs.Entries as entries
+use Rattle.spec_folder.specs.Entries.{is_key_length, role_of, stored_streams, stream}
+use Rattle.spec_folder.specs.Loads as shown
+use Rattle.spec_folder.specs.Loads.{held_rule}
+use Rattle.spec_folder.specs.Reasons as reasons
+use Rattle.spec_folder.specs.Reasons.{◌>>=◌}
+use Rattle.spec_folder.specs.View.{RecordFields, StoreView, data_size_of, store_of}
 use Rattle.blk_audit.specs.Chaining.{reached_by}
 use Rattle.blk_audit.proofs.AllChains.{reached-chained}
 use Rattle.blk_verdict.specs.Loading.{load_data, load_streams, reason_by_words}

@@ -1,11 +1,11 @@
 -- What loaded nodes are charged.
 use Rattle.std.specs.Prelude.{ℕ, ◌≡◌, ◌+◌, slice_index}
 use Rattle.std.specs.declared.result.Result.TheVariants.{Ok}
-use Rattle.blk_image.specs.Image.{Image}
-use Rattle.blk_volume.specs.Found.{charge_of}
-use Rattle.blk_volume.specs.Loads as shown
-use Rattle.blk_volume.specs.Loads.{held_rule}
-use Rattle.blk_volume.specs.View.{store_of}
+use Rattle.spec_image.specs.Image.{Image}
+use Rattle.spec_folder.specs.Found.{charge_of}
+use Rattle.spec_folder.specs.Loads as shown
+use Rattle.spec_folder.specs.Loads.{held_rule}
+use Rattle.spec_folder.specs.View.{store_of}
 use Rattle.blk_verdict.specs.Verdicts.{IsLoaded}
 use Rattle.blk_verdict.specs.declared.loading.Loaded.{Loaded}
 

@@ -7,16 +7,16 @@ use Rattle.std.specs.declared.option.Option.{Option}
 use Rattle.std.specs.declared.option.Option.TheVariants.{None, Some}
 use Rattle.std.specs.declared.result.Result.{Result}
 use Rattle.std.specs.declared.result.Result.TheVariants.{Ok, Err}
-use Rattle.blk_image.specs.Image.{Image}
+use Rattle.spec_image.specs.Image.{Image}
 use Rattle.blk_model.specs.Sizes.{part_count}
-use Rattle.blk_format.specs.Address.{is_address}
+use Rattle.spec_format.specs.Address.{is_address}
 use Rattle.blk_addr.specs.Claims.{IsClaimsOf}
 use Rattle.blk_addr.specs.declared.claim_set.Claims.{Claims}
-use Rattle.blk_volume.specs.Audit.{is_parent_role}
-use Rattle.blk_volume.specs.Loads as shown
-use Rattle.blk_volume.specs.Loads.{held_rule, is_part}
-use Rattle.blk_volume.specs.Reasons as reasons
-use Rattle.blk_volume.specs.View.{store_of}
+use Rattle.spec_folder.specs.Audit.{is_parent_role}
+use Rattle.spec_folder.specs.Loads as shown
+use Rattle.spec_folder.specs.Loads.{held_rule, is_part}
+use Rattle.spec_folder.specs.Reasons as reasons
+use Rattle.spec_folder.specs.View.{store_of}
 use Rattle.blk_disk.specs.declared.tables.BlockFiles.{BlockFiles}
 use Rattle.blk_ranges.specs.ParentMaps.{head_signature}
 use Rattle.blk_verdict.specs.ByHash.{IsByHash}

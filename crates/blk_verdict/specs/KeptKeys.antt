@@ -2,12 +2,12 @@
 use Rattle.std.specs.Prelude.{ℕ, ◌≡◌, slice_index}
 use Rattle.std.specs.declared.option.Option.TheVariants.{Some}
 use Rattle.std.specs.declared.result.Result.TheVariants.{Ok}
-use Rattle.blk_image.specs.Image.{Image}
-use Rattle.blk_format.specs.SparseIndex.{ParentIndex, parent_index_length, read_parent_index}
-use Rattle.blk_volume.specs.Entries.{IsParent, stream}
-use Rattle.blk_volume.specs.Loads as shown
-use Rattle.blk_volume.specs.Loads.{held_rule}
-use Rattle.blk_volume.specs.View.{store_of, stored_at}
+use Rattle.spec_image.specs.Image.{Image}
+use Rattle.spec_format.specs.SparseIndex.{ParentIndex, parent_index_length, read_parent_index}
+use Rattle.spec_folder.specs.Entries.{IsParent, stream}
+use Rattle.spec_folder.specs.Loads as shown
+use Rattle.spec_folder.specs.Loads.{held_rule}
+use Rattle.spec_folder.specs.View.{store_of, stored_at}
 use Rattle.blk_verdict.specs.Keyed.{IsKeyOf}
 use Rattle.blk_verdict.specs.Verdicts.{IsLoaded}
 use Rattle.blk_verdict.specs.declared.loading.Loaded.{Loaded}

@@ -1,9 +1,9 @@
 -- The key of a record that is loaded.
 use Rattle.std.specs.Prelude.{ℕ, ◌≡◌, List, true}
 use Rattle.std.specs.declared.option.Option.TheVariants.{Some}
-use Rattle.blk_image.specs.Image.{Image}
-use Rattle.blk_volume.specs.Entries.{stored_key}
-use Rattle.blk_volume.specs.View.{RecordFields, store_of}
+use Rattle.spec_image.specs.Image.{Image}
+use Rattle.spec_folder.specs.Entries.{stored_key}
+use Rattle.spec_folder.specs.View.{RecordFields, store_of}
 use Rattle.blk_verdict.specs.declared.loading.Loaded.{Loaded}
 use Rattle.blk_audit.specs.declared.record_words.RecordWords.{RecordWords}
 

@@ -5,15 +5,15 @@ use Rattle.std.specs.declared.option.Option.{Option}
 use Rattle.std.specs.declared.option.Option.TheVariants.{None, Some}
 use Rattle.std.specs.declared.result.Result.{Result}
 use Rattle.std.specs.declared.result.Result.TheVariants.{Ok}
-use Rattle.blk_format.specs.BlockFiles.{is_among}
-use Rattle.blk_format.specs.Hash.{hash}
-use Rattle.blk_format.specs.Records.{entry_normal}
-use Rattle.blk_volume.specs.Chains.{bucket_of_hash, chain}
-use Rattle.blk_volume.specs.Entries.{is_key_length, stored_key, stored_streams, role_of}
-use Rattle.blk_volume.specs.Loads.{Loaded}
-use Rattle.blk_volume.specs.Reasons.{Reason, ◌>>=◌, demand}
-use Rattle.blk_volume.specs.Reasons as reason
-use Rattle.blk_volume.specs.View.{StoreView, RecordFields}
+use Rattle.spec_format.specs.BlockFiles.{is_among}
+use Rattle.spec_format.specs.Hash.{hash}
+use Rattle.spec_format.specs.Records.{entry_normal}
+use Rattle.spec_folder.specs.Chains.{bucket_of_hash, chain}
+use Rattle.spec_folder.specs.Entries.{is_key_length, stored_key, stored_streams, role_of}
+use Rattle.spec_folder.specs.Loads.{Loaded}
+use Rattle.spec_folder.specs.Reasons.{Reason, ◌>>=◌, demand}
+use Rattle.spec_folder.specs.Reasons as reason
+use Rattle.spec_folder.specs.View.{StoreView, RecordFields}
 
 -- the first of the reasons from the seal to the length of the key, by the words of a node and of its record
 unfoldable pub reason_by_words : ℕ → ℕ → ℕ → RecordFields → Option Reason

@@ -1,9 +1,9 @@
 -- The key of a part, which is its name, as it was read with the verdict on the part.
 use Rattle.std.specs.Prelude.{ℕ, ◌≡◌, List, take, true}
 use Rattle.std.specs.declared.option.Option.TheVariants.{Some}
-use Rattle.blk_image.specs.Image.{Image}
-use Rattle.blk_volume.specs.Entries.{stored_key}
-use Rattle.blk_volume.specs.View.{store_of}
+use Rattle.spec_image.specs.Image.{Image}
+use Rattle.spec_folder.specs.Entries.{stored_key}
+use Rattle.spec_folder.specs.View.{store_of}
 use Rattle.blk_audit.specs.Records.{fields_said}
 use Rattle.blk_audit.specs.declared.record_words.RecordWords.{RecordWords}
 use Rattle.blk_verdict.specs.Keyed.{IsKeyOf}

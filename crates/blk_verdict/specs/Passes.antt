@@ -4,12 +4,12 @@ use Rattle.std.specs.List.{AllZip, filter}
 use Rattle.std.specs.declared.option.Option.{Option}
 use Rattle.std.specs.declared.option.Option.TheVariants.{Some}
 use Rattle.std.specs.declared.result.Result.{Result}
-use Rattle.blk_image.specs.Image.{Image}
-use Rattle.blk_volume.specs.Audit.{is_child, verdict, verdicts, with_verdict}
-use Rattle.blk_volume.specs.Loads as shown
-use Rattle.blk_volume.specs.Loads.{Rule, held_rule}
-use Rattle.blk_volume.specs.Reasons as reasons
-use Rattle.blk_volume.specs.View.{StoreView, store_of}
+use Rattle.spec_image.specs.Image.{Image}
+use Rattle.spec_folder.specs.Audit.{is_child, verdict, verdicts, with_verdict}
+use Rattle.spec_folder.specs.Loads as shown
+use Rattle.spec_folder.specs.Loads.{Rule, held_rule}
+use Rattle.spec_folder.specs.Reasons as reasons
+use Rattle.spec_folder.specs.View.{StoreView, store_of}
 use Rattle.blk_disk.specs.declared.tables.BlockFiles.{BlockFiles}
 use Rattle.blk_disk.specs.Tables.{Agrees}
 use Rattle.blk_audit.specs.ReadLists.{AreListsOf}

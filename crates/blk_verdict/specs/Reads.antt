@@ -1,6 +1,6 @@
 -- Reads of data that gave too few bytes.
 use Rattle.std.specs.Prelude.{ℕ}
-use Rattle.blk_image.specs.Told.{Told}
+use Rattle.spec_image.specs.Told.{Told}
 use Rattle.blk_io.specs.declared.fault.Damage.{Damage}
 use Rattle.blk_disk.specs.declared.tables.BlockFiles.{BlockFiles}
 use Rattle.blk_entry.specs.Keys.{IsCut, IsInside}

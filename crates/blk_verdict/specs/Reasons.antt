@@ -1,6 +1,6 @@
 -- The reasons in memory, and their numbers.
 use Rattle.std.specs.Prelude.{ℕ}
-use Rattle.blk_volume.specs.Reasons as shown
+use Rattle.spec_folder.specs.Reasons as shown
 use Rattle.blk_verdict.specs.declared.reason.Reason.{Reason}
 use Rattle.blk_verdict.specs.declared.reason.Reason.TheVariants as reason
 

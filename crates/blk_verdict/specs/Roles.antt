@@ -2,7 +2,7 @@
 use Rattle.std.specs.Prelude.{◌≡◌, ℕ, List}
 use Rattle.std.specs.declared.option.Option.{Option}
 use Rattle.std.specs.declared.option.Option.TheVariants.{None, Some}
-use Rattle.blk_volume.specs.Entries as entries
+use Rattle.spec_folder.specs.Entries as entries
 use Rattle.blk_ranges.specs.ChildNames.{name_within}
 use Rattle.blk_ranges.specs.ParentMaps.{head_fields}
 use Rattle.blk_verdict.specs.declared.roles.Role.{Role}

@@ -2,10 +2,10 @@
 use Rattle.std.specs.Prelude.{◌≡◌, ℕ, ◌<◌, ◌∷◌, length, slice_index}
 use Rattle.std.specs.declared.result.Result.{Result}
 use Rattle.std.specs.declared.result.Result.TheVariants.{Ok, Err}
-use Rattle.blk_format.specs.Hash.{hash}
-use Rattle.blk_volume.specs.Entries.{stream}
-use Rattle.blk_volume.specs.Loads as shown
-use Rattle.blk_volume.specs.Reasons as reasons
+use Rattle.spec_format.specs.Hash.{hash}
+use Rattle.spec_folder.specs.Entries.{stream}
+use Rattle.spec_folder.specs.Loads as shown
+use Rattle.spec_folder.specs.Reasons as reasons
 use Rattle.blk_verdict.specs.Reasons.{reason_of}
 use Rattle.blk_verdict.specs.Roles.{IsRole}
 use Rattle.blk_verdict.specs.declared.loading.Loaded.{Loaded}

@@ -4,7 +4,7 @@ ghost use Rattle.std.specs.Int.{cast_unsigned, w64};
 ghost use Rattle.std.specs.List.{list_all, range_with_len};
 ghost use Rattle.std.specs.Option.{option_map_or};
 ghost use Rattle.blk_model.specs.Sizes.{part_block_size, part_blocks};
-ghost use Rattle.blk_volume.specs.Entries as entries;
+ghost use Rattle.spec_folder.specs.Entries as entries;
 ghost use Rattle.blk_ranges.specs.PartMaps.{index_of, map_signature, partial_of};
 
 use blk_ranges::{ChildName, PartMap};
@@ -17,7 +17,7 @@ pub(crate) fn is_named(map: &PartMap, name: &ChildName) -> bool
 }
 
 // Whether each byte that a map has as present lies inside so many bytes.
-#[tactic(auto, unfolding(blk_volume::specs::Entries::is_covered, blk_ranges::specs::PartMaps::index_of))]
+#[tactic(auto, unfolding(spec_folder::specs::Entries::is_covered, blk_ranges::specs::PartMaps::index_of))]
 pub(crate) fn is_covered(map: &PartMap, size: u32) -> bool
     ensures { result ≡ entries.is_covered (index_of map.now) size }
 {

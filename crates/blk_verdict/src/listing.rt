@@ -2,11 +2,11 @@
 ghost use Rattle.std.specs.Prelude.{◌≡◌, ℕ, ◌++◌, ◌≤◌, [], ◌∷◌, IfOk, None, OnOk, Some, map, slice_get};
 ghost use Rattle.std.specs.List.{filter};
 ghost use Rattle.std.specs.Option.{ForSome};
-ghost use Rattle.blk_image.specs.Told.{Rises, Stays};
-ghost use Rattle.blk_volume.specs.Audit as audit;
-ghost use Rattle.blk_volume.specs.Found.{completed};
-ghost use Rattle.blk_volume.specs.Reasons as reason;
-ghost use Rattle.blk_volume.specs.View.{view_of};
+ghost use Rattle.spec_image.specs.Told.{Rises, Stays};
+ghost use Rattle.spec_folder.specs.Audit as audit;
+ghost use Rattle.spec_folder.specs.Found.{completed};
+ghost use Rattle.spec_folder.specs.Reasons as reason;
+ghost use Rattle.spec_folder.specs.View.{view_of};
 ghost use Rattle.blk_disk.specs.Tables.{Agrees};
 ghost use Rattle.blk_io.specs.Faults.{IfDamaged, IfDevice};
 ghost use Rattle.blk_audit.specs.Chaining.{words_reached};

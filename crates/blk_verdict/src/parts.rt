@@ -1,10 +1,10 @@
 // The bits of a parent's index.
 ghost use Rattle.std.specs.Prelude.{◌≡◌, ◌≤◌, ◌<◌, List, ℕ, IfOk, None, Some, true};
 ghost use Rattle.std.specs.Option.{ForSome};
-ghost use Rattle.blk_image.specs.Told.{Rises, Stays};
+ghost use Rattle.spec_image.specs.Told.{Rises, Stays};
 ghost use Rattle.blk_model.specs.Sizes.{part_count};
-ghost use Rattle.blk_format.specs.SparseIndex.{ParentIndex, parent_index_length, read_parent_index};
-ghost use Rattle.blk_volume.specs.View.{stored_at};
+ghost use Rattle.spec_format.specs.SparseIndex.{ParentIndex, parent_index_length, read_parent_index};
+ghost use Rattle.spec_folder.specs.View.{stored_at};
 ghost use Rattle.blk_io.specs.Faults.{IfDamaged, IfDevice};
 ghost use Rattle.blk_disk.specs.Tables.{Agrees};
 ghost use Rattle.blk_entry.specs.Keys.{stores};

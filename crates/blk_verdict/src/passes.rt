@@ -1,12 +1,12 @@
 // The two passes over the walked nodes.
 ghost use Rattle.std.specs.Prelude.{◌≡◌, ◌≤◌, ◌++◌, ◌∷◌, [], ℕ, List, IfOk, None, OnOk, Some, length, slice_get, true};
 ghost use Rattle.std.specs.Option.{ForSome};
-ghost use Rattle.blk_image.specs.Told.{Rises, Stays};
-ghost use Rattle.blk_volume.specs.Audit as audit;
-ghost use Rattle.blk_format.specs.BlockFiles.{is_among};
-ghost use Rattle.blk_volume.specs.Loads.{held_rule};
-ghost use Rattle.blk_volume.specs.ListImages.{completed_walk};
-ghost use Rattle.blk_volume.specs.View.{store_of};
+ghost use Rattle.spec_image.specs.Told.{Rises, Stays};
+ghost use Rattle.spec_folder.specs.Audit as audit;
+ghost use Rattle.spec_format.specs.BlockFiles.{is_among};
+ghost use Rattle.spec_folder.specs.Loads.{held_rule};
+ghost use Rattle.spec_folder.specs.ListImages.{completed_walk};
+ghost use Rattle.spec_folder.specs.View.{store_of};
 ghost use Rattle.blk_disk.specs.Tables.{Agrees};
 ghost use Rattle.blk_entry.specs.Keys.{most_key};
 ghost use Rattle.blk_audit.specs.Faults.{IfScanDamaged, IfScanDevice};

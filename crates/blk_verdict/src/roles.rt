@@ -1,12 +1,12 @@
 // What its flags and its index make a record.
 ghost use Rattle.std.specs.Prelude.{◌≡◌, ◌≤◌, ◌<◌, ◌==◌, ◌&&◌, if◌then◌else◌, ℕ, List, IfOk, None, OnOk, Some, length, slice_index, take, true};
 ghost use Rattle.std.specs.Option.{ForSome};
-ghost use Rattle.blk_image.specs.Told.{Rises, Stays};
-ghost use Rattle.blk_format.specs.Records.{child};
-ghost use Rattle.blk_format.specs.Storage.{largest_in_4k};
-ghost use Rattle.blk_volume.specs.Entries as entries;
-ghost use Rattle.blk_volume.specs.Entries.{stored_streams};
-ghost use Rattle.blk_volume.specs.View.{store_of, stored_at};
+ghost use Rattle.spec_image.specs.Told.{Rises, Stays};
+ghost use Rattle.spec_format.specs.Records.{child};
+ghost use Rattle.spec_format.specs.Storage.{largest_in_4k};
+ghost use Rattle.spec_folder.specs.Entries as entries;
+ghost use Rattle.spec_folder.specs.Entries.{stored_streams};
+ghost use Rattle.spec_folder.specs.View.{store_of, stored_at};
 ghost use Rattle.blk_io.specs.Faults.{IfDamaged, IfDevice};
 ghost use Rattle.blk_disk.specs.Tables.{Agrees};
 ghost use Rattle.blk_entry.specs.Keys.{stores};

@@ -1,10 +1,10 @@
 // Whether data is where an address word says.
 ghost use Rattle.std.specs.Prelude.{◌≡◌, ◌<◌, ◌≤◌, ◌==◌, IfOk, IsTrue, OnErr, true, false, is_some, if◌then◌else◌, Some, None};
 ghost use Rattle.std.specs.Option.{ForSome};
-ghost use Rattle.blk_image.specs.Image.{External as outside, length_of};
-ghost use Rattle.blk_image.specs.Told.{Rises, Stays};
-ghost use Rattle.blk_format.specs.Address.{external, external_number, kind_of};
-ghost use Rattle.blk_volume.specs.View.{stored_at};
+ghost use Rattle.spec_image.specs.Image.{External as outside, length_of};
+ghost use Rattle.spec_image.specs.Told.{Rises, Stays};
+ghost use Rattle.spec_format.specs.Address.{external, external_number, kind_of};
+ghost use Rattle.spec_folder.specs.View.{stored_at};
 ghost use Rattle.blk_disk.specs.Tables.{Agrees};
 ghost use Rattle.blk_entry.specs.Keys as keys;
 

@@ -1,9 +1,9 @@
 // The streams of a record that is judged.
 ghost use Rattle.std.specs.Prelude.{◌≡◌, ◌≤◌, IfOk, IsTrue, OnErr, is_some, true, slice_index};
 ghost use Rattle.std.specs.Option.{ForSome};
-ghost use Rattle.blk_image.specs.Told.{Rises, Stays};
-ghost use Rattle.blk_volume.specs.Entries.{stored_streams};
-ghost use Rattle.blk_volume.specs.View.{store_of};
+ghost use Rattle.spec_image.specs.Told.{Rises, Stays};
+ghost use Rattle.spec_folder.specs.Entries.{stored_streams};
+ghost use Rattle.spec_folder.specs.View.{store_of};
 ghost use Rattle.blk_disk.specs.Tables.{Agrees};
 ghost use Rattle.blk_entry.specs.Keys.{stores};
 ghost use Rattle.blk_audit.specs.Records.{fields_said};

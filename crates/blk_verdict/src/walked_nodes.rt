@@ -1,13 +1,13 @@
 // The verdict on walked nodes, by what was read with the lists.
 ghost use Rattle.std.specs.Prelude.{◌≡◌, ◌≤◌, ◌&&◌, ◌==◌, IfOk, None, Some, length};
 ghost use Rattle.std.specs.Option.{ForSome};
-ghost use Rattle.blk_image.specs.Told.{Rises, Stays};
-ghost use Rattle.blk_format.specs.Records.{child};
+ghost use Rattle.spec_image.specs.Told.{Rises, Stays};
+ghost use Rattle.spec_format.specs.Records.{child};
 ghost use Rattle.blk_io.specs.Faults.{IfDamaged, IfDevice};
-ghost use Rattle.blk_volume.specs.Audit as audit;
-ghost use Rattle.blk_volume.specs.Loads as shown;
-ghost use Rattle.blk_volume.specs.Loads.{held_rule};
-ghost use Rattle.blk_volume.specs.View.{store_of};
+ghost use Rattle.spec_folder.specs.Audit as audit;
+ghost use Rattle.spec_folder.specs.Loads as shown;
+ghost use Rattle.spec_folder.specs.Loads.{held_rule};
+ghost use Rattle.spec_folder.specs.View.{store_of};
 ghost use Rattle.blk_disk.specs.Tables.{Agrees};
 ghost use Rattle.blk_audit.specs.Faults.{IsRecordDamage};
 ghost use Rattle.blk_audit.specs.ReadLists.{AreListsOf, IsSaidAt};

@@ -1,10 +1,10 @@
 // The reasons that the words of a node, and of the record that it names, give.
 ghost use Rattle.std.specs.Prelude.{◌≡◌, ◌==◌, if◌then◌else◌, option_map};
-ghost use Rattle.blk_format.specs.Address.{blocks_256, kind_of};
-ghost use Rattle.blk_format.specs.Names.{longest_name};
-ghost use Rattle.blk_format.specs.Records.{child};
+ghost use Rattle.spec_format.specs.Address.{blocks_256, kind_of};
+ghost use Rattle.spec_format.specs.Names.{longest_name};
+ghost use Rattle.spec_format.specs.Records.{child};
 ghost use Rattle.blk_model.specs.Sizes.{longest_key};
-ghost use Rattle.blk_volume.specs.Entries as entries;
+ghost use Rattle.spec_folder.specs.Entries as entries;
 ghost use Rattle.blk_verdict.specs.Reasons.{reason_of};
 ghost use Rattle.blk_audit.specs.Records.{fields_said};
 ghost use Rattle.blk_verdict.specs.Loading as loading;
@@ -53,7 +53,7 @@ pub(crate) fn reason_by_words(
 }
 
 // Whether the key has a length that it may have, and the record as many blocks as it takes.
-#[tactic(auto, using(std::proofs::lemmas::Bool::Decides::nat_tests), unfolding(blk_volume::specs::Entries::is_key_length))]
+#[tactic(auto, using(std::proofs::lemmas::Bool::Decides::nat_tests), unfolding(spec_folder::specs::Entries::is_key_length))]
 fn is_key_length(entry: Addr, words: &RecordWords) -> bool
     requires { kind_of entry ≡ blocks_256 }
     ensures { result ≡ entries.is_key_length entry (fields_said words.now) }

@@ -2,10 +2,10 @@
 use Rattle.std.proofs.Common.{◌≡◌, ℕ, zero, suc, ◌+◌, ◌-◌, ◌*◌, ◌/◌, ◌%◌, ◌≤◌, true, false, ◌||◌, if◌then◌else◌, cond, List, [], ◌∷◌, length, take, drop, min, None, Some, refl, sym, ◌∙◌, ap, subst, arith, ◌⊎◌, inl, inr}
 use Rattle.std.specs.List.{All}
 use Rattle.std.proofs.lemmas.List.Elements.{All-take, All-cons}
-use Rattle.blk_image.specs.Bytes.{range_at}
-use Rattle.blk_image.specs.Image.{File, Image, byte, length_of}
-use Rattle.blk_image.specs.Told.{GivesBytes}
-use Rattle.blk_image.proofs.Words.{length-range}
+use Rattle.spec_image.specs.Bytes.{range_at}
+use Rattle.spec_image.specs.Image.{File, Image, byte, length_of}
+use Rattle.spec_image.specs.Told.{GivesBytes}
+use Rattle.spec_image.proofs.Words.{length-range}
 use Rattle.blk_window.specs.Held.{Page, is_page, page_in, is_held, without, used, dropped, Agrees, IsUsed, page_at}
 use Rattle.blk_window.specs.Slots.{Copies}
 use Rattle.blk_window.proofs.Lists.{pick, none_of}

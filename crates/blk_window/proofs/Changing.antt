@@ -4,17 +4,17 @@ use Rattle.std.specs.Option.{ForSome, option_map, unwrap_or}
 use Rattle.std.specs.List.{All, cons_option}
 use Rattle.std.proofs.lemmas.Bool.Decides.{nat_tests}
 use Rattle.std.proofs.lemmas.List.Elements.{All-cons}
-use Rattle.blk_image.specs.Bytes.{content, range_at, spliced}
-use Rattle.blk_image.specs.Image.{File, Image, same_file, byte, bytes_of, length_of, HasRange}
-use Rattle.blk_image.specs.Steps.{TrailStep, SetLength, Delete, after, words, written_over}
-use Rattle.blk_image.specs.Told.{Told, Applies, AppliesPrefix, Along}
-use Rattle.blk_image.specs.Footprint.{SameOutside, range}
-use Rattle.blk_image.proofs.Cuts.{after-words}
-use Rattle.blk_image.proofs.Footprints.{words_inside, same_file_outside}
-use Rattle.blk_image.proofs.Images.{with_file-other, with_file-same, same_file-swap, same_file-true, bytes-written}
-use Rattle.blk_image.proofs.Runs.{along_front}
-use Rattle.blk_image.proofs.Splices.{length-spliced, spliced-none}
-use Rattle.blk_image.proofs.Words.{range-is, length-range}
+use Rattle.spec_image.specs.Bytes.{content, range_at, spliced}
+use Rattle.spec_image.specs.Image.{File, Image, same_file, byte, bytes_of, length_of, HasRange}
+use Rattle.spec_image.specs.Steps.{TrailStep, SetLength, Delete, after, words, written_over}
+use Rattle.spec_image.specs.Told.{Told, Applies, AppliesPrefix, Along}
+use Rattle.spec_image.specs.Footprint.{SameOutside, range}
+use Rattle.spec_image.proofs.Cuts.{after-words}
+use Rattle.spec_image.proofs.Footprints.{words_inside, same_file_outside}
+use Rattle.spec_image.proofs.Images.{with_file-other, with_file-same, same_file-swap, same_file-true, bytes-written}
+use Rattle.spec_image.proofs.Runs.{along_front}
+use Rattle.spec_image.proofs.Splices.{length-spliced, spliced-none}
+use Rattle.spec_image.proofs.Words.{range-is, length-range}
 use Rattle.blk_window.specs.Held.{Page, Agrees, unless_of, reaches, overwritten, written, rewritten}
 use Rattle.blk_window.proofs.Lists.{pick}
 use Rattle.blk_window.proofs.Overwriting.{take-spliced}

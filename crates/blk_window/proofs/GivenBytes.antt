@@ -3,9 +3,9 @@ use Rattle.std.proofs.Common.{◌≡◌, ℕ, zero, suc, ◌+◌, ◌-◌, ◌<�
 use Rattle.std.proofs.lemmas.List.{length-append, length-take-le, length-drop, drop-drop, take-append-le, drop-append-le}
 use Rattle.std.proofs.Math.Seq.{take-append-add, drop-append-add, drop-append_seam}
 use borrow.Rule.Slice.PartMut.{Post-is, put_mid}
-use Rattle.blk_image.specs.Bytes.{range_at}
-use Rattle.blk_image.specs.Image.{File, Image, byte, length_of}
-use Rattle.blk_image.specs.Told.{GivesBytes}
+use Rattle.spec_image.specs.Bytes.{range_at}
+use Rattle.spec_image.specs.Image.{File, Image, byte, length_of}
+use Rattle.spec_image.specs.Told.{GivesBytes}
 
 -- so many bytes of the file, from a place on, are at the front of the buffer
 pub record Given (image : Image) (file : File) (at given : ℕ) (now : List ℕ) : Type 0 where

@@ -8,8 +8,8 @@ use Rattle.std.proofs.lemmas.List.{length-append, take_all}
 use Rattle.std.proofs.lemmas.List.Elements.{filter_map-append}
 use Rattle.std.proofs.Math.Seq.{take-append_seam}
 use Rattle.std.proofs.lemmas.Map.Keys.{IsDistinct-head, IsDistinct-tail}
-use Rattle.blk_image.specs.Image.{File, same_file}
-use Rattle.blk_image.proofs.Images.{same_file-true}
+use Rattle.spec_image.specs.Image.{File, same_file}
+use Rattle.spec_image.proofs.Images.{same_file-true}
 use Rattle.blk_window.specs.Held.{Page, is_page, page_in, is_held, without, used, dropped}
 use Rattle.std.proofs.lemmas.Map.{keys-set_value}
 use Rattle.blk_window.proofs.Lists.{pick, none_of, is_number, Split, split, AreSlots, Found, found, split_found, apart, lookup-split, moved, moved_and_set, set_in_place, slots_moved, slots_same, keys_moved}

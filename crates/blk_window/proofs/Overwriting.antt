@@ -3,9 +3,9 @@ use Rattle.std.proofs.Common.{◌≡◌, ℕ, zero, suc, ◌+◌, ◌-◌, ◌*�
 use Rattle.std.specs.Option.{ForSome}
 use Rattle.std.proofs.lemmas.Bool.Decides.{nat_tests}
 use Rattle.std.proofs.lemmas.List.{length-take, drop_all}
-use Rattle.blk_image.specs.Bytes.{spliced}
-use Rattle.blk_image.specs.Image.{File, same_file}
-use Rattle.blk_image.proofs.Splices.{spliced-none}
+use Rattle.spec_image.specs.Bytes.{spliced}
+use Rattle.spec_image.specs.Image.{File, same_file}
+use Rattle.spec_image.proofs.Splices.{spliced-none}
 use Rattle.blk_io.proofs.Splicing.{spliced-past}
 use Rattle.blk_window.specs.Held.{Page, reaches, overwritten, written}
 use Rattle.blk_window.proofs.Lists.{pick}

@@ -4,8 +4,8 @@ use Rattle.std.specs.List.{All}
 use Rattle.std.proofs.lemmas.Bool.Decides.{nat_tests}
 use Rattle.std.proofs.lemmas.List.{length-append, take_all}
 use Rattle.std.proofs.lemmas.List.Elements.{All-append, All-cons}
-use Rattle.blk_image.specs.Image.{File, same_file}
-use Rattle.blk_image.proofs.Images.{same_file-refl}
+use Rattle.spec_image.specs.Image.{File, same_file}
+use Rattle.spec_image.proofs.Images.{same_file-refl}
 use Rattle.blk_window.specs.Held.{Page, is_page, is_full, page_in, is_held, without, used, dropped, page_at, pages_of, IsUsed, UsesEach, AreUpTo, ReadsThrough, FailsBehind, AreHeld, HoldsRange}
 use Rattle.blk_window.specs.Reading.{ReadsPage}
 use Rattle.blk_window.proofs.Lists.{pick}

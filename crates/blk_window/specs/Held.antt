@@ -2,8 +2,8 @@
 use Rattle.std.specs.Prelude.{◌≡◌, ℕ, zero, suc, ◌+◌, ◌-◌, ◌*◌, ◌/◌, ◌<◌, ◌==◌, Bool, true, false, ◌&&◌, ◌||◌, nat_le, if◌then◌else◌, List, [], ◌∷◌, ◌++◌, length, take, drop, min, Option, None, Some, slice_get}
 use Rattle.std.specs.Option.{ForSome}
 use Rattle.std.specs.List.{All, find, list_any}
-use Rattle.blk_image.specs.Bytes.{range_at, spliced}
-use Rattle.blk_image.specs.Image.{File, Image, same_file, byte, length_of}
+use Rattle.spec_image.specs.Bytes.{range_at, spliced}
+use Rattle.spec_image.specs.Image.{File, Image, same_file, byte, length_of}
 
 -- how many bytes a page has at the most
 abbrev pub page_size : ℕ

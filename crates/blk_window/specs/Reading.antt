@@ -1,6 +1,6 @@
 -- A read of bytes of one page.
 use Rattle.std.specs.Prelude.{◌≡◌, ℕ, ◌-◌, ◌%◌, List, length, min}
-use Rattle.blk_image.specs.Image.{File}
+use Rattle.spec_image.specs.Image.{File}
 use Rattle.blk_window.specs.Held.{Page, IsUsed, used, page_at, page_size}
 
 -- a read of at most so many bytes of one page from a place of its file on gave n, and the page was used

@@ -2,7 +2,7 @@
 use Rattle.std.specs.Prelude.{◌≡◌, ℕ, ◌-◌, Bool, false, if◌then◌else◌, List, [], ◌∷◌, length, take, drop, min, Option, None, Some, is_some}
 use Rattle.std.specs.Option.{option_map_or}
 use Rattle.std.specs.List.{filter_map}
-use Rattle.blk_image.specs.Image.{File}
+use Rattle.spec_image.specs.Image.{File}
 use Rattle.blk_io.specs.FileNames.{file_of}
 use Rattle.blk_window.specs.Held as held
 use Rattle.blk_window.specs.declared.page.Page.{Page}

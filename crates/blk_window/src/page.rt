@@ -1,9 +1,9 @@
 // A page of a file, with room for its bytes.
 ghost use Rattle.std.specs.Prelude.{◌≡◌, ◌+◌, ◌-◌, ◌*◌, ◌<◌, ◌≤◌, ◌^◌, true, false, not, ◌&&◌, ◌||◌, nat_lt, length, take, drop, min, Some, None, IfOk, OnOk, OnErr, option_and_then, is_some, IsTrue};
 ghost use Rattle.std.specs.Option.{ForSome};
-ghost use Rattle.blk_image.specs.Bytes.{spliced};
-ghost use Rattle.blk_image.specs.Image.{same_file};
-ghost use Rattle.blk_image.specs.Told.{Stays, Rises};
+ghost use Rattle.spec_image.specs.Bytes.{spliced};
+ghost use Rattle.spec_image.specs.Image.{same_file};
+ghost use Rattle.spec_image.specs.Told.{Stays, Rises};
 ghost use Rattle.blk_io.specs.FileNames.{file_of};
 ghost use Rattle.blk_window.specs.Held.{Agrees, start_of, reaches, unless_of, written};
 

@@ -2,10 +2,10 @@
 ghost use Rattle.std.specs.Prelude.{◌≡◌, ◌+◌, ◌-◌, ◌<◌, ◌≤◌, ◌%◌, ◌^◌, true, false, [], ◌∷◌, length, map, Some, None, IfOk, IfErr, OnOk, OnErr, IsOk, IsTrue};
 ghost use Rattle.std.specs.Option.{ForSome, option_map};
 ghost use Rattle.std.specs.List.{All, filter_map};
-ghost use Rattle.blk_image.specs.Image.{HasRange};
-ghost use Rattle.blk_image.specs.Steps.{SetLength, Delete, Note, words};
-ghost use Rattle.blk_image.specs.Order.{IsNextFile, IsAfter};
-ghost use Rattle.blk_image.specs.Told.{Applies, Stays, AppliesPrefix, Rises, GivesBytes};
+ghost use Rattle.spec_image.specs.Image.{HasRange};
+ghost use Rattle.spec_image.specs.Steps.{SetLength, Delete, Note, words};
+ghost use Rattle.spec_image.specs.Order.{IsNextFile, IsAfter};
+ghost use Rattle.spec_image.specs.Told.{Applies, Stays, AppliesPrefix, Rises, GivesBytes};
 ghost use Rattle.blk_io.specs.FileNames.{file_of};
 ghost use Rattle.blk_io.specs.Untold.{untold};
 ghost use Rattle.blk_window.specs.Held.{Agrees, is_held, page_at, dropped, unless_of, written, rewritten, ReadsThrough, FailsBehind, HoldsRange};

@@ -1,6 +1,6 @@
 -- What the words of the command line need of the folder and of the output.
 use Rattle.std.specs.Prelude.{Bool, true, false, Option, None, Some}
-use Rattle.blk_words.specs.Tasks.{Task, do_put, do_doom, do_trim, do_inspect, do_verify}
+use Rattle.blk_args.specs.Tasks.{Task, do_put, do_doom, do_trim, do_inspect, do_verify}
 
 -- the words read the folder and never write it, or are outside the grammar
 abbrev pub only_reads : Option Task → Bool

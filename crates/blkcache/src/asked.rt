@@ -1,11 +1,11 @@
 // What the words of the command line need of the folder and of the output.
 ghost use Rattle.std.specs.Prelude.{◌≡◌, ◌↔◌, IsTrue};
 ghost use Rattle.std.specs.Option.{option_map};
-ghost use Rattle.blk_words.specs.Tasks.{task_given};
+ghost use Rattle.blk_args.specs.Tasks.{task_given};
 ghost use Rattle.blkcache.specs.Needs.{only_reads, changes_first};
 
+use blk_args::Order;
 use blk_host::Access;
-use blk_words::Order;
 
 /// How the words have the folder: alone, unless they only read it. `None` stands for words outside the grammar, which are refused.
 pub fn access_for(order: Option<Order<'_>>) -> Access

@@ -1,7 +1,7 @@
 use Rattle.std.proofs.Common.{IsTrue, ◌≡◌, ◌-◌, ◌<◌, Bool, ◌||◌, List, ℕ, [], ◌∷◌, drop, length, take, refl, sym, ◌∙◌, ap, arith}
 use Rattle.std.specs.List.{list_any}
-use Rattle.blk_format.specs.Address.{is_address}
-use Rattle.blk_format.specs.Claims.{claims_of, claims_of_all, overlap, repeats}
+use Rattle.spec_format.specs.Address.{is_address}
+use Rattle.spec_format.specs.Claims.{claims_of, claims_of_all, overlap, repeats}
 use Rattle.blk_addr.proofs.MeetLemmas.{first_shares, nothing_repeats, one_of, split_first}
 use Rattle.blk_addr.proofs.meeting.any_meet.Goals as goal
 

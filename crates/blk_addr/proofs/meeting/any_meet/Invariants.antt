@@ -1,5 +1,5 @@
 use Rattle.std.proofs.Common.{◌≡◌, length}
-use Rattle.blk_format.specs.Claims.{claims_of_all, repeats}
+use Rattle.spec_format.specs.Claims.{claims_of_all, repeats}
 use Rattle.blk_addr.proofs.meeting.any_meet.Given as goal
 
 abbrev pub invariant-loop-left : goal.invariant-loop-left

@@ -2,8 +2,8 @@ use Rattle.std.proofs.Common.{◌≡◌, ◌≢◌, ◌∙◌, ◌+◌, ℕ, Boo
 use Rattle.std.specs.Prelude.{◌==◌, nat_lt}
 use Rattle.std.proofs.lemmas.Bool.{eq-eqb}
 use Rattle.std.proofs.lemmas.Bool.Decides.{nat_tests}
-use Rattle.blk_format.specs.Address.{block_count, external, file_selector, first_block, is_address, kind_of}
-use Rattle.blk_format.specs.Claims.{claims_of, overlap}
+use Rattle.spec_format.specs.Address.{block_count, external, file_selector, first_block, is_address, kind_of}
+use Rattle.spec_format.specs.Claims.{claims_of, overlap}
 use Rattle.blk_addr.proofs.AddressFields.{address_above_0}
 use Rattle.blk_addr.proofs.MeetLemmas.{blocks_apart, blocks_meet, external_apart, externals_meet, file_block, file_external, file_index, no_file_block, no_file_external}
 use Rattle.blk_addr.proofs.meeting.meet.Goals as goal

@@ -1,8 +1,8 @@
 use Rattle.std.proofs.Common.{◌≡◌, ◌<◌, ℕ, ◌==◌, Bool, true, false, if◌then◌else◌, Some, None, sym, ◌∙◌, arith}
 use Rattle.std.specs.Int.{div_ceil}
 use Rattle.std.proofs.lemmas.Grind.{common_steps}
-use Rattle.blk_format.specs.Address.{block_size, external}
-use Rattle.blk_format.specs.Storage as storage
+use Rattle.spec_format.specs.Address.{block_size, external}
+use Rattle.spec_format.specs.Storage as storage
 use Rattle.blk_addr.proofs.storage.blocks_for.Goals as goal
 
 -- where there are blocks, the kind isn't external and they have this size

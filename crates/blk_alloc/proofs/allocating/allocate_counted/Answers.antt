@@ -1,21 +1,21 @@
 use Rattle.std.proofs.Common.{◌≡◌, ◌⊎◌, inl, inr, refl, ℕ, ◌≢◌, ◌+◌, ◌/◌, ◌%◌, ◌≤◌, ◌<◌, true, false, None, Some, sym, ◌∙◌, ap, subst, arith, ⊎_elim}
 use Rattle.std.specs.Option.{ForSome}
-use Rattle.blk_image.specs.Image.{Block, Image, byte}
-use Rattle.blk_image.specs.Told.{Told}
-use Rattle.blk_image.proofs.Runs.{passes_none, passes_to, passes_weaker, passes_stayed, some_inj}
+use Rattle.spec_image.specs.Image.{Block, Image, byte}
+use Rattle.spec_image.specs.Told.{Told}
+use Rattle.spec_image.proofs.Runs.{passes_none, passes_to, passes_weaker, passes_stayed, some_inj}
 use Rattle.blk_addr.specs.Kind.{kind_number}
-use Rattle.blk_format.specs.Growth.{StaysWhole}
-use Rattle.blk_format.proofs.Growths.{whole_not}
+use Rattle.spec_format.specs.Growth.{StaysWhole}
+use Rattle.spec_format.proofs.Growths.{whole_not}
 use Rattle.blk_disk.specs.Tables.{Agrees, all_files, blocks_of, files_of}
 use Rattle.blk_alloc.specs.Fitting.{HasNoRoom, IsFit, IsMapWord, IsPlace, IsSearchDamage, IsSought}
 use Rattle.blk_alloc.specs.Allocating.{AllocatesIn, AreCounted, ExtendsAnd, HaveNoRoom, Allocates, AllocatesAtLast, AllocatesInProgress, AllocatesOrStops, ExtendsAndAllocates, ExtendsInProgress, IsChosen, IsFoundBy, LiesAtHint, SetsHint, most_words, IsCountedOnce, IsRefusal}
 use Rattle.std.specs.Prelude.{IfOk}
-use Rattle.blk_format.specs.Address.{block_count, block_word, file_selector, first_block, is_address, kind_of}
-use Rattle.blk_format.specs.Headers.{allocations_of, hints_of}
-use Rattle.blk_format.specs.Maps.{groups_of}
+use Rattle.spec_format.specs.Address.{block_count, block_word, file_selector, first_block, is_address, kind_of}
+use Rattle.spec_format.specs.Headers.{allocations_of, hints_of}
+use Rattle.spec_format.specs.Maps.{groups_of}
 use Rattle.blk_alloc.specs.Counting.{IsCounted}
 use Rattle.blk_alloc.specs.Extending.{HasItsBlocks, KeepsBlockCounts, KeepsLinks, KeepsLists}
-use Rattle.blk_format.specs.BlockFiles.{is_among}
+use Rattle.spec_format.specs.BlockFiles.{is_among}
 use Rattle.blk_alloc.specs.Marking.{CanBeMarked, CountsUsed, HasHintAmong, MarksUsed, MarksUsedInProgress, taking_of}
 use Rattle.std.proofs.lemmas.Result.{IfOk-weaker}
 use Rattle.blk_alloc.specs.Owning.{IsCause}

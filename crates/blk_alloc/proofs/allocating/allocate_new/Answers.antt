@@ -3,15 +3,15 @@ use Rattle.std.specs.List.{All}
 use Rattle.std.specs.Option.{ForSome}
 use Rattle.std.specs.Prelude.{IfOk, OnOk, Result, Ok, Err}
 use Rattle.std.proofs.lemmas.Result.{IfOk-weaker}
-use Rattle.blk_image.specs.Image.{Block, Image, byte}
-use Rattle.blk_image.specs.Told.{Told, PassesTo}
-use Rattle.blk_image.proofs.Runs.{passes_end, passes_stayed, passes_then, passes_weaker}
-use Rattle.blk_format.specs.Address.{block_count, block_word, file_selector, first_block, kind_of}
-use Rattle.blk_format.specs.BlockFiles.{is_among}
-use Rattle.blk_format.specs.Growth.{StaysWhole}
-use Rattle.blk_format.specs.Headers.{allocations_of, empty_of}
-use Rattle.blk_format.specs.Maps.{groups_of, EmptyAgrees}
-use Rattle.blk_format.proofs.LinkedHeads.{count_whole}
+use Rattle.spec_image.specs.Image.{Block, Image, byte}
+use Rattle.spec_image.specs.Told.{Told, PassesTo}
+use Rattle.spec_image.proofs.Runs.{passes_end, passes_stayed, passes_then, passes_weaker}
+use Rattle.spec_format.specs.Address.{block_count, block_word, file_selector, first_block, kind_of}
+use Rattle.spec_format.specs.BlockFiles.{is_among}
+use Rattle.spec_format.specs.Growth.{StaysWhole}
+use Rattle.spec_format.specs.Headers.{allocations_of, empty_of}
+use Rattle.spec_format.specs.Maps.{groups_of, EmptyAgrees}
+use Rattle.spec_format.proofs.LinkedHeads.{count_whole}
 use Rattle.blk_addr.specs.Kind.{kind_number}
 use Rattle.blk_disk.specs.Tables.{Agrees, all_files, blocks_of, files_of}
 use Rattle.blk_disk.proofs.KeptOnce.{counts}

@@ -1,11 +1,11 @@
 use Rattle.std.proofs.Common.{◌≡◌, ◌≤◌, true, Some, sym, ◌∙◌, refl, arith}
-use Rattle.blk_image.specs.Image.{Image, Block, length_of}
+use Rattle.spec_image.specs.Image.{Image, Block, length_of}
 use Rattle.blk_io.specs.declared.folder.FileId.TheVariants as names
 use Rattle.blk_io.specs.Faults.{IsShort}
 use Rattle.blk_io.proofs.Carried.{carried, if_damaged_weaker}
 use Rattle.blk_addr.specs.Kind.{kind_number}
 use Rattle.blk_disk.specs.Tables.{files_of}
-use Rattle.blk_format.specs.BlockFiles.{is_among}
+use Rattle.spec_format.specs.BlockFiles.{is_among}
 use Rattle.blk_alloc.specs.Allocating.{IsKindFull}
 use Rattle.blk_alloc.proofs.Members.{member_at, member_head}
 use Rattle.blk_alloc.proofs.allocating.full_damage.Goals as goal

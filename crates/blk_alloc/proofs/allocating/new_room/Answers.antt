@@ -1,20 +1,20 @@
 use Rattle.std.proofs.Common.{◌≡◌, ◌≤◌, ◌<◌, inl, inr, ℕ, ◌+◌, ◌-◌, ◌*◌, ◌/◌, ◌%◌, ◌^◌, [], length, true, false, sym, ◌∙◌, ap, subst, arith}
-use Rattle.blk_image.proofs.Runs.{passes_end, passes_none, passes_weaker, some_inj}
+use Rattle.spec_image.proofs.Runs.{passes_end, passes_none, passes_weaker, some_inj}
 use Rattle.blk_addr.specs.Kind.{kind_number}
-use Rattle.blk_format.specs.BlockFiles.{is_among}
-use Rattle.blk_format.specs.Maps.{AreAllocations, EmptyAgrees}
+use Rattle.spec_format.specs.BlockFiles.{is_among}
+use Rattle.spec_format.specs.Maps.{AreAllocations, EmptyAgrees}
 use Rattle.blk_disk.specs.Tables.{all_files, files_of, blocks_of}
 use Rattle.blk_disk.specs.Growth.{IsLeastFileNumber, free_number, grown, new_groups}
 use Rattle.blk_disk.proofs.KeptOnce.{counts}
-use Rattle.blk_image.specs.Image.{Block, byte}
-use Rattle.blk_format.specs.Headers.{empty_of}
+use Rattle.spec_image.specs.Image.{Block, byte}
+use Rattle.spec_format.specs.Headers.{empty_of}
 use Rattle.blk_alloc.specs.Fitting.{HasNoRoom}
 use Rattle.blk_alloc.proofs.Hinted.{all_member}
 use Rattle.std.specs.List.{All}
 use Rattle.blk_alloc.specs.Extending.{HasMostBlocks, HasNoHints, IsFirstGrowing, KeepsLinks}
 use Rattle.blk_alloc.specs.Allocating.{ExtendsAnd, MakesRoomInProgress, updating_word}
 use Rattle.blk_io.proofs.Carried.{carried}
-use Rattle.blk_format.proofs.LinkedHeads.{count_whole}
+use Rattle.spec_format.proofs.LinkedHeads.{count_whole}
 use Rattle.blk_alloc.proofs.Members.{member_all, member_head, member_split}
 use Rattle.blk_alloc.proofs.Rooms.{has_counters, if_damaged_any, room_added, room_grown}
 use Rattle.blk_alloc.proofs.Moments.{added_moment, grown_count, grown_moment, no_moment}

@@ -1,6 +1,6 @@
 use Rattle.std.proofs.Common.{◌≡◌, ℕ, sym, ◌∙◌, ap, arith}
-use Rattle.blk_format.specs.Address.{file_selector, is_address}
-use Rattle.blk_format.proofs.Words.{AreFields-of}
+use Rattle.spec_format.specs.Address.{file_selector, is_address}
+use Rattle.spec_format.proofs.Words.{AreFields-of}
 use Rattle.blk_addr.specs.declared.file_id.FileId.TheVariants.{Block}
 use Rattle.blk_alloc.proofs.Addresses.{file_word, in_group, first_of, count_of}
 use Rattle.blk_alloc.proofs.blocks.blocks_of.Goals as goal

@@ -1,6 +1,6 @@
 use Rattle.std.proofs.Common.{◌≡◌, ℕ, ◌+◌, ◌*◌, ◌/◌, ◌<◌, ◌≤◌, inl, sym, ◌∙◌, ap, subst, arith}
-use Rattle.blk_image.specs.Told.{Told}
-use Rattle.blk_image.proofs.Runs.{passes_none, passes_stayed, passes_to, part_whole, some_inj}
+use Rattle.spec_image.specs.Told.{Told}
+use Rattle.spec_image.proofs.Runs.{passes_none, passes_stayed, passes_to, part_whole, some_inj}
 use Rattle.blk_alloc.specs.Changes.{IsMapInProgress}
 use Rattle.blk_io.proofs.Carried.{silent_part}
 use Rattle.blk_alloc.proofs.Changing.{midst_begin}

@@ -1,10 +1,10 @@
 use Rattle.std.proofs.Common.{◌≡◌, ℕ, ◌+◌, ◌*◌, inl, inr, refl, None, sym, ◌∙◌, ap, subst, arith}
 use Rattle.std.specs.Prelude.{OnOk}
 use Rattle.std.specs.Option.{ForSome}
-use Rattle.blk_image.specs.Bytes.{range_at}
-use Rattle.blk_image.specs.Image.{Block, byte}
-use Rattle.blk_image.specs.Told.{Stays, Told}
-use Rattle.blk_image.proofs.Runs.{passes_none, passes_stayed, passes_to, some_inj}
+use Rattle.spec_image.specs.Bytes.{range_at}
+use Rattle.spec_image.specs.Image.{Block, byte}
+use Rattle.spec_image.specs.Told.{Stays, Told}
+use Rattle.spec_image.proofs.Runs.{passes_none, passes_stayed, passes_to, some_inj}
 use Rattle.blk_io.specs.declared.folder.FileId.TheVariants as names
 use Rattle.blk_io.specs.Faults.{IfDamaged, IsShort}
 use Rattle.blk_io.proofs.Carried.{carried, if_damaged, if_damaged_weaker}

@@ -1,9 +1,9 @@
 use Rattle.std.proofs.Common.{◌≡◌, ℕ, ◌+◌, sym, ap, arith}
 use Rattle.std.specs.Prelude.{◌==◌}
-use Rattle.blk_format.specs.Maps.{longest_run}
+use Rattle.spec_format.specs.Maps.{longest_run}
 use Rattle.blk_addr.specs.Bits.{has_bit}
 use Rattle.blk_alloc.proofs.Claiming.{groups_more, groups_most, no_groups}
-use Rattle.blk_format.proofs.Groups.{one}
+use Rattle.spec_format.proofs.Groups.{one}
 use Rattle.blk_alloc.proofs.claimed.count_runs.Goals as goal
 
 pub loop-group-init : goal.loop-group-init

@@ -1,6 +1,6 @@
 use Rattle.std.proofs.Common.{◌≡◌, ◌<◌, ◌+◌, ℕ}
 use Rattle.std.specs.Prelude.{slice_index}
-use Rattle.blk_format.specs.Maps.{groups_with}
+use Rattle.spec_format.specs.Maps.{groups_with}
 use Rattle.blk_addr.specs.Bits.{has_bit}
 use Rattle.blk_alloc.proofs.claimed.count_runs.Given as goal
 

@@ -2,8 +2,8 @@ use Rattle.std.proofs.Common.{◌≡◌, ℕ, zero, suc, ◌<◌, List, Bool, tr
 use Rattle.std.specs.Prelude.{◌==◌, slice_index}
 use Rattle.std.proofs.lemmas.Bool.{and_parts, eqb-true}
 use Rattle.std.proofs.lemmas.Bool.Decides.{nat_tests}
-use Rattle.blk_image.specs.Bytes.{content}
-use Rattle.blk_format.specs.Headers.{empty_of}
+use Rattle.spec_image.specs.Bytes.{content}
+use Rattle.spec_format.specs.Headers.{empty_of}
 use Rattle.blk_alloc.specs.Rebuilding.{HasTheseCounters}
 use Rattle.blk_alloc.proofs.comparing.has_counters.Goals as goal
 

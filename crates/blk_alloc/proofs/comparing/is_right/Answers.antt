@@ -1,8 +1,8 @@
 use Rattle.std.proofs.Common.{◌≡◌, ◌≤◌, ℕ, ◌<◌, ◌+◌, List, [], ◌∷◌, true, false, sym, ◌∙◌, subst, arith}
 use Rattle.std.specs.Prelude.{slice_index}
-use Rattle.blk_image.specs.Image.{Block, Image, byte}
-use Rattle.blk_image.specs.Bytes.{range_at}
-use Rattle.blk_format.specs.Maps.{groups_with}
+use Rattle.spec_image.specs.Image.{Block, Image, byte}
+use Rattle.spec_image.specs.Bytes.{range_at}
+use Rattle.spec_format.specs.Maps.{groups_with}
 use Rattle.blk_addr.specs.Bits.{has_bit}
 use Rattle.blk_alloc.specs.Rebuilding.{HasTheseCounters}
 use Rattle.blk_alloc.proofs.Alike.{IsMapRead, compared_right, counters_read, counters_stand, right_bits, right_counters, zeros_at}

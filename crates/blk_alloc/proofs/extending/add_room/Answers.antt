@@ -1,15 +1,15 @@
 use Rattle.std.proofs.Common.{◌≡◌, ℕ, ◌+◌, ◌%◌, ◌^◌, [], None, true, false, sym, ◌∙◌, ap, subst}
 use Rattle.std.specs.Option.{option_map}
-use Rattle.blk_image.specs.Image.{Block, Image, byte}
-use Rattle.blk_image.specs.Steps.{after}
-use Rattle.blk_image.specs.Footprint.{either}
-use Rattle.blk_image.proofs.Footprints.{outside-refl, within_left}
-use Rattle.blk_image.proofs.Runs.{passes_end, passes_weaker}
+use Rattle.spec_image.specs.Image.{Block, Image, byte}
+use Rattle.spec_image.specs.Steps.{after}
+use Rattle.spec_image.specs.Footprint.{either}
+use Rattle.spec_image.proofs.Footprints.{outside-refl, within_left}
+use Rattle.spec_image.proofs.Runs.{passes_end, passes_weaker}
 use Rattle.blk_addr.specs.Kind.{kind_number}
 use Rattle.blk_disk.specs.Tables.{Joins, all_files, blocks_of}
-use Rattle.blk_format.specs.BlockFiles.{is_among}
-use Rattle.blk_format.specs.Headers.{empty_of}
-use Rattle.blk_format.specs.Maps.{EmptyAgrees}
+use Rattle.spec_format.specs.BlockFiles.{is_among}
+use Rattle.spec_format.specs.Headers.{empty_of}
+use Rattle.spec_format.specs.Maps.{EmptyAgrees}
 use Rattle.blk_disk.specs.Growth.{IsLeastFileNumber, addition_of, free_number, grown, growth_of, add_steps, last_file, new_groups, raised}
 use Rattle.blk_alloc.specs.Extending.{HasCounters}
 use Rattle.blk_alloc.proofs.Adding.{added_counters, added_file, new_allocations, new_counts, new_hints, new_among, join_keeps, join_widens, all_kept}

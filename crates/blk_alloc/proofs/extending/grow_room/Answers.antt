@@ -1,16 +1,16 @@
 use Rattle.std.proofs.Common.{◌≡◌, ℕ, ◌+◌, ◌*◌, ◌/◌, ◌%◌, ◌<◌, ◌≤◌, List, min, true, refl, sym, ◌∙◌, ap, subst, arith}
 use Rattle.std.specs.Option.{option_map}
-use Rattle.blk_image.specs.Steps.{after}
-use Rattle.blk_image.specs.Footprint.{SameOutside}
-use Rattle.blk_image.proofs.Runs.{passes_end, some_inj}
-use Rattle.blk_format.specs.Maps.{is_block_marked, are_free}
+use Rattle.spec_image.specs.Steps.{after}
+use Rattle.spec_image.specs.Footprint.{SameOutside}
+use Rattle.spec_image.proofs.Runs.{passes_end, some_inj}
+use Rattle.spec_format.specs.Maps.{is_block_marked, are_free}
 use Rattle.blk_disk.specs.Tables.{blocks_of}
 use Rattle.blk_disk.specs.Growth.{growth_of, grow_steps}
 use Rattle.blk_alloc.specs.Changes.{CanChangeMarks}
 use Rattle.blk_alloc.proofs.Members.{member_all, member_head}
-use Rattle.blk_format.specs.BlockFiles.{is_among}
+use Rattle.spec_format.specs.BlockFiles.{is_among}
 use Rattle.blk_addr.specs.Kind.{kind_number}
-use Rattle.blk_format.proofs.LinkedHeads.{count_whole}
+use Rattle.spec_format.proofs.LinkedHeads.{count_whole}
 use Rattle.blk_alloc.proofs.Growing.{grow_widens}
 use Rattle.blk_alloc.proofs.Kept.{grow_larger, standing_kept, standing_same}
 use Rattle.blk_alloc.proofs.Grown.{grown_ready, grown_free, grown_keeps, raise_is}

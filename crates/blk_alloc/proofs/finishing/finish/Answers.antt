@@ -1,10 +1,10 @@
 use Rattle.std.proofs.Common.{◌≡◌, ℕ, List, [], ◌∷◌, ◌++◌, sym, ◌∙◌, ap, subst, arith}
 use Rattle.std.proofs.lemmas.Result.{on_ok_weaker}
-use Rattle.blk_image.specs.Image.{Block}
-use Rattle.blk_image.specs.Steps.{TrailStep, word_step, word_steps}
-use Rattle.blk_image.specs.Told.{Applies, AppliesPrefix}
-use Rattle.blk_image.proofs.Cuts.{word_steps-append}
-use Rattle.blk_image.proofs.Runs.{grows_then, part_only, part_then}
+use Rattle.spec_image.specs.Image.{Block}
+use Rattle.spec_image.specs.Steps.{TrailStep, word_step, word_steps}
+use Rattle.spec_image.specs.Told.{Applies, AppliesPrefix}
+use Rattle.spec_image.proofs.Cuts.{word_steps-append}
+use Rattle.spec_image.proofs.Runs.{grows_then, part_only, part_then}
 use Rattle.blk_alloc.specs.Changes.{counter_words, finish_words}
 use Rattle.blk_alloc.proofs.Counted.{counters_kept, last_word}
 use Rattle.blk_alloc.proofs.finishing.finish.Goals as goal

@@ -1,9 +1,9 @@
 use Rattle.std.proofs.Common.{◌≡◌, ℕ, List, ◌++◌, length, refl, lit<, ap, subst, arith}
 use Rattle.std.proofs.lemmas.Result.{on_ok_weaker}
-use Rattle.blk_image.specs.Image.{Block}
-use Rattle.blk_image.specs.Steps.{TrailStep, word_step, word_steps}
-use Rattle.blk_image.specs.Told.{Applies, AppliesPrefix}
-use Rattle.blk_image.proofs.Runs.{grows_then, part_only, part_then}
+use Rattle.spec_image.specs.Image.{Block}
+use Rattle.spec_image.specs.Steps.{TrailStep, word_step, word_steps}
+use Rattle.spec_image.specs.Told.{Applies, AppliesPrefix}
+use Rattle.spec_image.proofs.Runs.{grows_then, part_only, part_then}
 use Rattle.blk_io.specs.Neighbours.{run_from}
 use Rattle.blk_alloc.specs.Changes.{counter_words}
 use Rattle.blk_alloc.proofs.SideBySide.{four_run}

@@ -3,9 +3,9 @@ use Rattle.std.specs.List.{All}
 use Rattle.std.specs.Option.{ForSome}
 use Rattle.std.proofs.lemmas.List.{take_all}
 use Rattle.std.proofs.lemmas.List.Elements.{All-more}
-use Rattle.blk_image.specs.Told.{Told}
-use Rattle.blk_format.specs.BlockFiles.{is_among, max_entries_in}
-use Rattle.blk_format.specs.Maps.{groups_of, EmptyAgrees}
+use Rattle.spec_image.specs.Told.{Told}
+use Rattle.spec_format.specs.BlockFiles.{is_among, max_entries_in}
+use Rattle.spec_format.specs.Maps.{groups_of, EmptyAgrees}
 use Rattle.blk_addr.specs.Kind.{kind_number}
 use Rattle.blk_io.specs.Faults.{IfDamaged}
 use Rattle.blk_io.proofs.Carried.{carried}

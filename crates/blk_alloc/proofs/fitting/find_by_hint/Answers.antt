@@ -1,10 +1,10 @@
 use Rattle.std.proofs.Common.{◌≡◌, ℕ, ◌+◌, ◌*◌, ◌/◌, ◌<◌, ◌≤◌, List, inl, inr, refl, None, ◌∙◌, ap, subst, arith}
 use Rattle.std.specs.Option.{ForSome}
-use Rattle.blk_image.specs.Bytes.{word_at, word_bytes}
-use Rattle.blk_image.specs.Image.{Block, byte}
-use Rattle.blk_image.specs.Told.{Told}
-use Rattle.blk_format.specs.Maps.{longest_run}
-use Rattle.blk_format.proofs.LinkedHeads.{count_whole}
+use Rattle.spec_image.specs.Bytes.{word_at, word_bytes}
+use Rattle.spec_image.specs.Image.{Block, byte}
+use Rattle.spec_image.specs.Told.{Told}
+use Rattle.spec_format.specs.Maps.{longest_run}
+use Rattle.spec_format.proofs.LinkedHeads.{count_whole}
 use Rattle.blk_addr.specs.Bits.{has_bit}
 use Rattle.blk_addr.specs.Kind.{kind_number}
 use Rattle.blk_io.specs.declared.folder.FileId.TheVariants as names

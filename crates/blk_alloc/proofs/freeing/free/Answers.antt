@@ -1,15 +1,15 @@
 use Rattle.std.proofs.Common.{◌≡◌, ◌⊎◌, ◌+◌, ◌≤◌, inl, inr, ℕ, false, None, sym, subst, arith, ⊎_elim}
 use Rattle.std.proofs.lemmas.Result.{on_ok_weaker}
-use Rattle.blk_image.specs.Image.{Image, Block, length_of}
-use Rattle.blk_image.specs.Told.{PassesTo}
-use Rattle.blk_image.proofs.Runs.{passes_weaker, passes_end}
-use Rattle.blk_format.specs.Address.{file_selector, first_block, block_count}
+use Rattle.spec_image.specs.Image.{Image, Block, length_of}
+use Rattle.spec_image.specs.Told.{PassesTo}
+use Rattle.spec_image.proofs.Runs.{passes_weaker, passes_end}
+use Rattle.spec_format.specs.Address.{file_selector, first_block, block_count}
 use Rattle.blk_disk.specs.Tables.{Agrees}
 use Rattle.blk_disk.proofs.Ranges.{stands_blocky, stands_linked}
 use Rattle.blk_alloc.specs.Changes.{IsMapInProgress, CanChangeMarks, IsChanged, map_of}
 use Rattle.std.specs.Option.{ForSome}
-use Rattle.blk_image.specs.Footprint.{SameOutside}
-use Rattle.blk_format.specs.BlockFiles.{max_entries_in, most_blocks}
+use Rattle.spec_image.specs.Footprint.{SameOutside}
+use Rattle.spec_format.specs.BlockFiles.{max_entries_in, most_blocks}
 use Rattle.blk_io.specs.Faults.{IfDamaged}
 use Rattle.blk_alloc.specs.Owning.{FreesAtLast, FreesInProgress, IsCause}
 use Rattle.blk_io.proofs.Carried.{if_damaged_weaker, told_at_end}

@@ -1,11 +1,11 @@
 use Rattle.std.proofs.Common.{◌≡◌, ⊎_elim, inl, ℕ, ◌+◌, ◌/◌, ◌%◌, ◌<◌, ◌≤◌, List, true, None, sym, ◌∙◌, ap, subst, arith}
 use Rattle.std.specs.Option.{ForSome}
-use Rattle.blk_image.specs.Told.{Stays, Told}
-use Rattle.blk_format.specs.BlockFiles.{is_among}
+use Rattle.spec_image.specs.Told.{Stays, Told}
+use Rattle.spec_format.specs.BlockFiles.{is_among}
 use Rattle.blk_addr.specs.Kind.{kind_number}
-use Rattle.blk_image.specs.Image.{Image, Block}
-use Rattle.blk_image.specs.Footprint.{SameOutside, size_of}
-use Rattle.blk_image.proofs.Runs.{passes_to, passes_none, passes_end, passes_weaker, some_inj}
+use Rattle.spec_image.specs.Image.{Image, Block}
+use Rattle.spec_image.specs.Footprint.{SameOutside, size_of}
+use Rattle.spec_image.proofs.Runs.{passes_to, passes_none, passes_end, passes_weaker, some_inj}
 use Rattle.blk_disk.specs.Growth.{fit_steps}
 use Rattle.blk_disk.specs.declared.tables.BlockFiles.{BlockFiles}
 use Rattle.blk_alloc.specs.Marking.{CanBeMarked, MarksUsedInProgress, MarksUsed}
@@ -16,11 +16,11 @@ use Rattle.blk_alloc.proofs.Kept.{fit_larger, standing_kept, standing_same}
 use Rattle.blk_alloc.proofs.Taken.{taking_fit}
 use Rattle.blk_alloc.specs.Fitting.{IsPlace}
 use Rattle.blk_alloc.proofs.Placed.{place_resized, place_stands}
-use Rattle.blk_image.proofs.Footprints.{outside-refl}
+use Rattle.spec_image.proofs.Footprints.{outside-refl}
 use Rattle.blk_disk.specs.Tables.{Agrees, stands_among}
 use Rattle.blk_alloc.proofs.Links.{fitted_long}
 use Rattle.blk_alloc.proofs.TakenAfter.{counted_after, hints_after, ready_after, stops_after, taken_after, word_after}
-use Rattle.blk_image.specs.Steps.{after}
+use Rattle.spec_image.specs.Steps.{after}
 use Rattle.blk_alloc.specs.Owning.{IsCause}
 use Rattle.blk_io.proofs.Carried.{carried, if_damaged_weaker, told_at_end}
 use Rattle.blk_alloc.proofs.Causes.{if_damaged_both, none_before}

@@ -1,9 +1,9 @@
 use Rattle.std.proofs.Common.{◌≡◌, ℕ, ◌+◌, ◌-◌, ◌*◌, ◌/◌, ◌<◌, List, length, take, drop, refl, sym, ◌∙◌, ap, subst, arith}
-use Rattle.blk_image.specs.Bytes.{content}
-use Rattle.blk_image.specs.Image.{Block, HasRange, Image, File, byte, length_of}
-use Rattle.blk_image.specs.Footprint.{range}
-use Rattle.blk_image.proofs.Footprints.{outside-refl}
-use Rattle.blk_image.proofs.Runs.{some_inj}
+use Rattle.spec_image.specs.Bytes.{content}
+use Rattle.spec_image.specs.Image.{Block, HasRange, Image, File, byte, length_of}
+use Rattle.spec_image.specs.Footprint.{range}
+use Rattle.spec_image.proofs.Footprints.{outside-refl}
+use Rattle.spec_image.proofs.Runs.{some_inj}
 use Rattle.blk_alloc.specs.Mending.{IsFrontWritten, AreBytesWritten, KeepsLength, StandAt}
 use Rattle.blk_alloc.proofs.Needed.{content_part, long_then, needed_none, needed_then, needed_weaker, part_more, part_written, stands_behind, told_so_far, written_more}
 use Rattle.blk_alloc.proofs.mending.mend.Goals as goal

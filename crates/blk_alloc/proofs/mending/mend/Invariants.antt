@@ -1,6 +1,6 @@
 use Rattle.std.proofs.Common.{◌≡◌, ◌≤◌, ◌*◌, None, length}
 use Rattle.std.specs.Option.{ForSome}
-use Rattle.blk_image.specs.Image.{Block}
+use Rattle.spec_image.specs.Image.{Block}
 use Rattle.blk_alloc.specs.Mending.{IsFrontWritten, AreBytesWritten, KeepsLength, PassesNeeded, StandAt}
 use Rattle.blk_alloc.proofs.mending.mend.Given as goal
 

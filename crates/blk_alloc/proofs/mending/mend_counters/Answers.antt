@@ -2,8 +2,8 @@ use Rattle.std.proofs.Common.{◌≡◌, ℕ, ◌+◌, ◌<◌, ◌≤◌, List,
 use Rattle.std.specs.Prelude.{slice_index}
 use Rattle.std.proofs.lemmas.List.{length-take}
 use Rattle.std.proofs.lemmas.Result.{on_ok_weaker}
-use Rattle.blk_image.specs.Bytes.{word_bytes}
-use Rattle.blk_image.specs.Image.{Block, HasRange, Image, byte, length_of}
+use Rattle.spec_image.specs.Bytes.{word_bytes}
+use Rattle.spec_image.specs.Image.{Block, HasRange, Image, byte, length_of}
 use Rattle.blk_alloc.specs.Mending.{AreBytesWritten, KeepsLength, StandAt}
 use Rattle.blk_alloc.specs.Rebuilding.{HasReadCounters, HasTheseCounters}
 use Rattle.blk_alloc.proofs.Needed.{content_part, long_then, needed_then, needed_weaker, stands_behind, told_so_far}

@@ -1,12 +1,12 @@
 use Rattle.std.proofs.Common.{◌≡◌, ◌⊎◌, ℕ, List, true, false, inl, refl, sym, ◌∙◌, ap, subst}
 use Rattle.std.proofs.lemmas.Result.{on_ok_weaker}
 use Rattle.std.proofs.lemmas.Slice.Eq.{bytes_eq-Decides}
-use Rattle.blk_image.specs.Bytes.{content}
-use Rattle.blk_image.specs.Image.{Block, Image, length_of}
-use Rattle.blk_image.proofs.Footprints.{outside_write}
-use Rattle.blk_image.proofs.Runs.{some_inj, told_rel, told_whole}
-use Rattle.blk_image.specs.Steps.{Word, applied}
-use Rattle.blk_image.specs.Told.{Applies, AppliesPrefix}
+use Rattle.spec_image.specs.Bytes.{content}
+use Rattle.spec_image.specs.Image.{Block, Image, length_of}
+use Rattle.spec_image.proofs.Footprints.{outside_write}
+use Rattle.spec_image.proofs.Runs.{some_inj, told_rel, told_whole}
+use Rattle.spec_image.specs.Steps.{Word, applied}
+use Rattle.spec_image.specs.Told.{Applies, AppliesPrefix}
 use Rattle.blk_io.proofs.Carried.{silent_part}
 use Rattle.blk_alloc.specs.Mending.{AreBytesWritten, KeepsLength}
 use Rattle.blk_alloc.proofs.Needed.{needed_none, one_step, word_needed, written_same, written_step}

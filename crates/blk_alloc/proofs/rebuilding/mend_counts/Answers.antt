@@ -1,10 +1,10 @@
 use Rattle.std.proofs.Common.{◌≡◌, ℕ, ◌+◌, ◌<◌, ◌≤◌, List, [], ◌∷◌, length, inl, sym, ◌∙◌, subst, arith}
 use Rattle.std.specs.Prelude.{slice_index}
 use Rattle.std.proofs.lemmas.Result.{on_ok_weaker}
-use Rattle.blk_image.specs.Image.{Block, Image, byte, length_of}
-use Rattle.blk_image.specs.Footprint.{SameOutside, range}
-use Rattle.blk_format.specs.Maps.{groups_with}
-use Rattle.blk_format.proofs.Groups.{groups_same}
+use Rattle.spec_image.specs.Image.{Block, Image, byte, length_of}
+use Rattle.spec_image.specs.Footprint.{SameOutside, range}
+use Rattle.spec_format.specs.Maps.{groups_with}
+use Rattle.spec_format.proofs.Groups.{groups_same}
 use Rattle.blk_addr.specs.Bits.{has_bit}
 use Rattle.blk_addr.specs.declared.claim_set.Claims.{Claims}
 use Rattle.blk_alloc.specs.Mending.{AreBytesWritten, KeepsLength, StandAt}

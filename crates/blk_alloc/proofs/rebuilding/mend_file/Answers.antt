@@ -1,9 +1,9 @@
 use Rattle.std.proofs.Common.{◌≡◌, ◌≤◌, ℕ, List, Bool, length, take, drop, false, true, sym, ◌∙◌, ap, arith}
 use Rattle.std.proofs.lemmas.Result.{on_ok_weaker}
-use Rattle.blk_image.specs.Bytes.{content, word_bytes}
-use Rattle.blk_image.specs.Image.{Block, Image, byte, length_of}
-use Rattle.blk_format.specs.BlockFiles.{max_entries_in}
-use Rattle.blk_format.specs.Maps.{groups_of}
+use Rattle.spec_image.specs.Bytes.{content, word_bytes}
+use Rattle.spec_image.specs.Image.{Block, Image, byte, length_of}
+use Rattle.spec_format.specs.BlockFiles.{max_entries_in}
+use Rattle.spec_format.specs.Maps.{groups_of}
 use Rattle.blk_addr.specs.declared.claim_set.Claims.{Claims}
 use Rattle.blk_alloc.specs.Mending.{AreBytesWritten, KeepsLength, StandAt}
 use Rattle.blk_alloc.specs.Rebuilding.{AreCountsRead, AreHeaderBytes, HasMarksOf, IsRebuilt}

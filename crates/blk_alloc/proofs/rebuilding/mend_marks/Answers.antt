@@ -1,7 +1,7 @@
 use Rattle.std.proofs.Common.{◌≡◌, ◌≤◌, ℕ, List, sym, ◌∙◌, ap, arith}
 use Rattle.std.proofs.lemmas.Result.{on_ok_weaker}
-use Rattle.blk_image.specs.Bytes.{content, word_bytes}
-use Rattle.blk_image.specs.Image.{Block, HasRange, Image, length_of}
+use Rattle.spec_image.specs.Bytes.{content, word_bytes}
+use Rattle.spec_image.specs.Image.{Block, HasRange, Image, length_of}
 use Rattle.blk_addr.specs.declared.claim_set.Claims.{Claims}
 use Rattle.blk_alloc.specs.Mending.{AreBytesWritten, KeepsLength, StandAt}
 use Rattle.blk_alloc.specs.Rebuilding.{HasMarksOf, IsMending, IsRebuilt}

@@ -1,22 +1,22 @@
 use Rattle.std.proofs.Common.{◌≡◌, ℕ, ◌/◌, List, [], ◌∷◌, None, Some, sym, ◌∙◌, ap, subst, arith}
 use Rattle.std.proofs.lemmas.Result.{on_ok_weaker}
-use Rattle.blk_image.specs.Image.{Image}
-use Rattle.blk_image.proofs.Runs.{some_inj}
+use Rattle.spec_image.specs.Image.{Image}
+use Rattle.spec_image.proofs.Runs.{some_inj}
 use Rattle.blk_alloc.proofs.Needed.{needed_end, needed_none, needed_then, needed_weaker}
-use Rattle.blk_format.specs.BlockFiles.{is_among, max_entries_in}
-use Rattle.blk_format.specs.Maps.{groups_of}
+use Rattle.spec_format.specs.BlockFiles.{is_among, max_entries_in}
+use Rattle.spec_format.specs.Maps.{groups_of}
 use Rattle.blk_disk.specs.declared.tables.BlockFiles.{BlockFiles}
 use Rattle.blk_disk.specs.Tables.{Agrees, files_of}
 use Rattle.blk_alloc.specs.Rebuilding.{IsRebuilding, IsRebuilt, RemakesInProgress}
 use Rattle.blk_alloc.specs.declared.blocks.Blocks.{Blocks}
 use Rattle.blk_io.proofs.Carried.{if_damaged_weaker, told_at_end}
-use Rattle.blk_image.specs.Steps.{after}
+use Rattle.spec_image.specs.Steps.{after}
 use Rattle.blk_disk.specs.Growth.{fit_steps}
 use Rattle.blk_alloc.proofs.Causes.{none_before}
 use Rattle.blk_alloc.proofs.Rebuilt.{fit_needed, fitted_none}
-use Rattle.blk_image.specs.Told.{Told}
+use Rattle.spec_image.specs.Told.{Told}
 use Rattle.blk_alloc.proofs.Formed.{agrees_kept}
-use Rattle.blk_format.proofs.LinkedHeads.{count_whole}
+use Rattle.spec_format.proofs.LinkedHeads.{count_whole}
 use Rattle.blk_alloc.proofs.Kept.{fit_larger, standing_kept, standing_same}
 use Rattle.blk_disk.proofs.WholeHeaders.{all_head}
 use Rattle.blk_alloc.proofs.Remade.{lengthened_is, rebuilding_begin, remade_is}

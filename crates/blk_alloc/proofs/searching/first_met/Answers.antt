@@ -1,7 +1,7 @@
 use Rattle.std.proofs.Common.{◌≡◌, ◌≢◌, Bool, ℕ, ◌+◌, ◌*◌, ◌/◌, ◌%◌, ◌<◌, List, None, sym, ◌∙◌, ap, subst, arith}
 use Rattle.std.specs.Option.{ForSome}
-use Rattle.blk_image.specs.Told.{Told}
-use Rattle.blk_format.specs.Maps.{is_block_marked, longest_run}
+use Rattle.spec_image.specs.Told.{Told}
+use Rattle.spec_format.specs.Maps.{is_block_marked, longest_run}
 use Rattle.blk_addr.specs.Bits.{has_bit}
 use Rattle.blk_io.specs.Faults.{IfDamaged}
 use Rattle.blk_io.proofs.Carried.{carried}

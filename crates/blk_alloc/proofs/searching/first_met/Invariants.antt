@@ -1,6 +1,6 @@
 use Rattle.std.proofs.Common.{◌≡◌, ◌≤◌, ◌+◌}
 use Rattle.std.specs.Option.{ForSome}
-use Rattle.blk_format.specs.Maps.{is_block_marked}
+use Rattle.spec_format.specs.Maps.{is_block_marked}
 use Rattle.blk_alloc.proofs.Rounds.{Seen}
 use Rattle.blk_alloc.proofs.searching.first_met.Given as goal
 

@@ -1,5 +1,5 @@
 use Rattle.std.proofs.Common.{◌≢◌, ◌≤◌, ◌<◌, ℕ}
-use Rattle.blk_format.specs.Maps.{longest_run}
+use Rattle.spec_format.specs.Maps.{longest_run}
 use Rattle.blk_addr.specs.Bits.{has_bit}
 use Rattle.blk_alloc.proofs.searching.group_in.Given as goal
 

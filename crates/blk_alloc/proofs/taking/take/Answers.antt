@@ -1,11 +1,11 @@
 use Rattle.std.proofs.Common.{◌≡◌, inl, inr, ⊎_elim, ℕ, ◌/◌, None, ◌∙◌, ap}
 use Rattle.std.specs.Option.{ForSome}
 use Rattle.std.proofs.lemmas.Result.{on_ok_weaker}
-use Rattle.blk_image.specs.Footprint.{SameOutside, one_word}
-use Rattle.blk_image.specs.Image.{Block, Image}
-use Rattle.blk_image.proofs.Runs.{passes_end, passes_then, passes_weaker}
-use Rattle.blk_format.specs.Address.{block_word, file_selector}
-use Rattle.blk_format.specs.BlockFiles.{is_among}
+use Rattle.spec_image.specs.Footprint.{SameOutside, one_word}
+use Rattle.spec_image.specs.Image.{Block, Image}
+use Rattle.spec_image.proofs.Runs.{passes_end, passes_then, passes_weaker}
+use Rattle.spec_format.specs.Address.{block_word, file_selector}
+use Rattle.spec_format.specs.BlockFiles.{is_among}
 use Rattle.blk_addr.specs.Kind.{kind_number}
 use Rattle.blk_io.proofs.Carried.{if_damaged_weaker, told_at_end}
 use Rattle.blk_disk.specs.Tables.{Agrees, all_files}

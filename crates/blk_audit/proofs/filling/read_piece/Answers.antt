@@ -1,5 +1,5 @@
 use Rattle.std.proofs.Common.{◌≡◌, ℕ, ◌+◌, ◌*◌, ◌++◌, ◌≤◌, List, length, ⊎_elim, ap, ◌∙◌, arith}
-use Rattle.blk_image.specs.Image.{Block, byte, length_of}
+use Rattle.spec_image.specs.Image.{Block, byte, length_of}
 use Rattle.blk_io.specs.declared.folder.FileId.TheVariants as names
 use Rattle.blk_audit.specs.declared.nodes.Node.{Node}
 use Rattle.blk_audit.proofs.Carrying.{converted, untold_piece}

@@ -1,5 +1,5 @@
 use Rattle.std.proofs.Common.{◌≡◌, ℕ, true, None, Some, sym, subst, ◌∙◌}
-use Rattle.blk_format.specs.Address.{is_address}
+use Rattle.spec_format.specs.Address.{is_address}
 use Rattle.blk_audit.specs.Nodes.{node_of}
 use Rattle.blk_audit.proofs.Truths.{none_by, test_by, value_by}
 use Rattle.blk_audit.proofs.Steps.{node_named, node_unnamed, node_word_of}

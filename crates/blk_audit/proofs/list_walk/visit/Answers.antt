@@ -1,7 +1,7 @@
 use Rattle.std.proofs.Common.{◌≡◌, ℕ, suc, ◌++◌, ◌∷◌, [], Bool, true, false, List, sym, ap, subst, map, ◌∙◌}
 use Rattle.std.proofs.lemmas.Bool.{ne_eqb}
-use Rattle.blk_format.specs.BlockFiles.{is_among}
-use Rattle.blk_volume.specs.Walk.{walk_from}
+use Rattle.spec_format.specs.BlockFiles.{is_among}
+use Rattle.spec_folder.specs.Walk.{walk_from}
 use Rattle.blk_lru.specs.Writes.{meant}
 use Rattle.blk_audit.specs.Walking.{IsNodeWord, IsAdded}
 use Rattle.blk_audit.proofs.Truths.{true_not, false_not}

@@ -1,5 +1,5 @@
 use Rattle.std.proofs.Common.{◌≡◌, suc, ◌+◌, ◌-◌, Option, sym, subst, map, ◌∙◌, arith}
-use Rattle.blk_volume.specs.ListView.{ListView}
+use Rattle.spec_folder.specs.ListView.{ListView}
 use Rattle.blk_lru.specs.Writes.{meant}
 use Rattle.blk_audit.specs.Walking.{IsWalkStep}
 use Rattle.blk_audit.specs.declared.list_walk.Link.{Link}

@@ -1,5 +1,5 @@
 use Rattle.std.proofs.Common.{map, ◌-◌}
-use Rattle.blk_volume.specs.ListView.{after_writes}
+use Rattle.spec_folder.specs.ListView.{after_writes}
 use Rattle.blk_lru.specs.Writes.{meant}
 use Rattle.blk_audit.specs.Nodes.{list_in}
 use Rattle.blk_audit.proofs.Walks.{IsOn}

@@ -3,7 +3,7 @@ use Rattle.blk_disk.specs.Open.{IsOpen}
 use Rattle.blk_disk.specs.Tables.{Agrees}
 use Rattle.blk_entry.proofs.KeyPlaces.{ok_weaker}
 use Rattle.blk_lru.proofs.Conditions.{told_now, told_stays}
-use Rattle.blk_volume.specs.View.{store_of}
+use Rattle.spec_folder.specs.View.{store_of}
 use Rattle.blk_audit.specs.Chaining.{AreBucketsOf, AreChainsThere, words_reached}
 use Rattle.blk_audit.specs.Records.{AreRecordsOf}
 use Rattle.blk_audit.proofs.Carrying.{untold_last, untold_on}

@@ -1,7 +1,7 @@
 use Rattle.std.proofs.Common.{◌≡◌, ℕ, ◌+◌, ◌*◌, List, length, refl, ap, subst, ◌∙◌, arith}
 use Rattle.blk_disk.specs.Open.{IsOpen}
-use Rattle.blk_volume.specs.View.{store_of}
-use Rattle.blk_image.specs.Image.{Image}
+use Rattle.spec_folder.specs.View.{store_of}
+use Rattle.spec_image.specs.Image.{Image}
 use Rattle.blk_lru.proofs.Conditions.{told_now, told_stays}
 use Rattle.blk_disk.specs.Tables.{Agrees}
 use Rattle.blk_audit.specs.Chaining.{AreFirstReached, HasFirst, words_reached}

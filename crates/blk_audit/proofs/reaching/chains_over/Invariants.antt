@@ -1,8 +1,8 @@
 use Rattle.std.proofs.Common.{◌≡◌, ◌*◌, ◌<◌, ◌≤◌, length}
 use Rattle.std.specs.Option.{ForSome}
-use Rattle.blk_image.specs.Image.{HasRange, Index}
-use Rattle.blk_image.specs.Told.{Stays}
-use Rattle.blk_volume.specs.View.{store_of}
+use Rattle.spec_image.specs.Image.{HasRange, Index}
+use Rattle.spec_image.specs.Told.{Stays}
+use Rattle.spec_folder.specs.View.{store_of}
 use Rattle.blk_audit.specs.Chaining.{AreFirstReached, AreReached, HasFirst, RecordsStand, words_reached}
 use Rattle.blk_disk.specs.Tables.{Agrees}
 use Rattle.blk_audit.proofs.reaching.chains_over.Given as goal

@@ -1,7 +1,7 @@
 use Rattle.std.proofs.Common.{◌≡◌, ◌≤◌, ℕ, suc, ◌+◌, ◌-◌, Option, refl, subst, ◌∙◌, arith}
-use Rattle.blk_volume.specs.View.{store_of}
+use Rattle.spec_folder.specs.View.{store_of}
 use Rattle.blk_audit.specs.Records.{AreRecordsOf}
-use Rattle.blk_image.specs.Image.{Image}
+use Rattle.spec_image.specs.Image.{Image}
 use Rattle.blk_lru.proofs.Conditions.{told_now, told_stays}
 use Rattle.blk_audit.specs.Chaining.{AreReachedThere, IsReach, IsStepTaken}
 use Rattle.blk_audit.proofs.Chained.{begins, goes_on, ends, ends_at, full_at, is_full}

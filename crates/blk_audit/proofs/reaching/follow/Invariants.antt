@@ -1,7 +1,7 @@
 use Rattle.std.proofs.Common.{◌-◌, ◌≤◌}
 use Rattle.std.specs.Option.{ForSome}
-use Rattle.blk_image.specs.Told.{Stays}
-use Rattle.blk_volume.specs.View.{store_of}
+use Rattle.spec_image.specs.Told.{Stays}
+use Rattle.spec_folder.specs.View.{store_of}
 use Rattle.blk_audit.specs.Chaining.{AreReached, KeepsEnds, RecordsStand, words_reached}
 use Rattle.blk_disk.specs.Tables.{Agrees}
 use Rattle.blk_audit.proofs.Chained.{IsFollowed}

@@ -1,9 +1,9 @@
 use Rattle.std.proofs.Common.{◌≡◌, ℕ, suc, ◌+◌, ◌++◌, [], List, length, refl, sym, ap, ap₂, subst, ◌∙◌, arith}
 use Rattle.std.specs.Prelude.{◌==◌, slice_index}
-use Rattle.blk_volume.specs.Chains.{Chain, chain, chain_from, most_records}
-use Rattle.blk_volume.specs.View.{store_of}
+use Rattle.spec_folder.specs.Chains.{Chain, chain, chain_from, most_records}
+use Rattle.spec_folder.specs.View.{store_of}
 use Rattle.blk_audit.specs.Records.{AreRecordsOf}
-use Rattle.blk_image.specs.Image.{Image}
+use Rattle.spec_image.specs.Image.{Image}
 use Rattle.blk_lru.proofs.Conditions.{told_before, told_now, told_stays}
 use Rattle.blk_audit.specs.Chaining.{AreFirstReached, AreOfFirst, HasFirst, HasRecords, RecordsStand, words_reached}
 use Rattle.blk_audit.proofs.Chained.{first_of_all}

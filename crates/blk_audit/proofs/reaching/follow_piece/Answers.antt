@@ -1,11 +1,11 @@
 use Rattle.std.proofs.Common.{refl, sym}
-use Rattle.blk_format.specs.Headers.{HasWholeIndex}
+use Rattle.spec_format.specs.Headers.{HasWholeIndex}
 use Rattle.blk_disk.specs.Open.{IsOpen}
 use Rattle.blk_disk.specs.Tables.{Agrees}
 use Rattle.blk_audit.specs.Records.{AreRecordsOf}
-use Rattle.blk_volume.specs.View.{store_of}
+use Rattle.spec_folder.specs.View.{store_of}
 use Rattle.blk_audit.specs.Chaining.{AreFirstReached, HasFirst, words_reached}
-use Rattle.blk_image.specs.Image.{Image}
+use Rattle.spec_image.specs.Image.{Image}
 use Rattle.blk_lru.proofs.Conditions.{told_stays}
 use Rattle.blk_audit.proofs.Carrying.{untold_converted, untold_on}
 use Rattle.blk_audit.proofs.reaching.follow_piece.Goals as goal

@@ -1,9 +1,9 @@
 use Rattle.std.proofs.Common.{◌≡◌, ℕ, ◌%◌, ◌++◌, ◌∷◌, [], Bool, true, false, ◌&&◌, map, refl, sym, ap, subst, ◌∙◌}
 use Rattle.std.specs.Prelude.{◌==◌}
 use Rattle.std.proofs.lemmas.Bool.{ne_eqb, eq-eqb}
-use Rattle.blk_format.specs.Address.{blocks_256}
-use Rattle.blk_volume.specs.Chains.{file_and_block, is_of_bucket}
-use Rattle.blk_volume.specs.View.{stands_as, store_of}
+use Rattle.spec_format.specs.Address.{blocks_256}
+use Rattle.spec_folder.specs.Chains.{file_and_block, is_of_bucket}
+use Rattle.spec_folder.specs.View.{stands_as, store_of}
 use Rattle.blk_disk.specs.Tables.{is_record_among}
 use Rattle.blk_audit.specs.Chaining.{is_met, words_reached}
 use Rattle.blk_audit.specs.Records.{IsSaidBy}

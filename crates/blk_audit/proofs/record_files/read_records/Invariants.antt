@@ -1,6 +1,6 @@
 use Rattle.std.proofs.Common.{◌≤◌}
 use Rattle.std.specs.Option.{ForSome}
-use Rattle.blk_image.specs.Told.{Stays}
+use Rattle.spec_image.specs.Told.{Stays}
 use Rattle.blk_audit.specs.Records.{AreRecordsOf}
 use Rattle.blk_audit.proofs.record_files.read_records.Given as goal
 

@@ -1,6 +1,6 @@
 use Rattle.std.proofs.Common.{ℕ, add-zero, sym, subst, ◌≡◌, ◌+◌, ◌≤◌, ⊎_elim, arith}
-use Rattle.blk_image.specs.Image.{Block, length_of}
-use Rattle.blk_format.specs.Address.{file_selector, place}
+use Rattle.spec_image.specs.Image.{Block, length_of}
+use Rattle.spec_format.specs.Address.{file_selector, place}
 use Rattle.blk_io.specs.declared.folder.FileId.TheVariants as FileId
 use Rattle.blk_io.specs.Faults.{IsShort}
 use Rattle.blk_io.proofs.Carried.{carried, if_damaged_weaker}

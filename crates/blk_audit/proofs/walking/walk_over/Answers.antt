@@ -1,7 +1,7 @@
 use Rattle.std.proofs.Common.{map, ap, refl, ◌∙◌}
-use Rattle.blk_format.specs.Headers.{HasWholeIndex}
+use Rattle.spec_format.specs.Headers.{HasWholeIndex}
 use Rattle.blk_disk.specs.Open.{IsOpen}
-use Rattle.blk_volume.specs.View.{list_of}
+use Rattle.spec_folder.specs.View.{list_of}
 use Rattle.blk_lru.specs.Writes.{meant}
 use Rattle.blk_lru.proofs.Conditions.{told_now}
 use Rattle.blk_audit.specs.Walking.{nodes_walked}

@@ -1,7 +1,7 @@
 use Rattle.std.proofs.Common.{inr, sym, ap, ◌∙◌}
-use Rattle.blk_image.specs.Image.{Index, byte}
-use Rattle.blk_image.specs.Told.{Told}
-use Rattle.blk_format.specs.Headers.{this_id_of}
+use Rattle.spec_image.specs.Image.{Index, byte}
+use Rattle.spec_image.specs.Told.{Told}
+use Rattle.spec_format.specs.Headers.{this_id_of}
 use Rattle.blk_repair.specs.Repair.{next_id}
 use Rattle.blk_repair.proofs.Endings.{either-pass, ends-stay}
 use Rattle.blk_repair.proofs.RepairRuns.{none-before, still-told}

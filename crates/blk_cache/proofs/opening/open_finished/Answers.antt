@@ -1,10 +1,10 @@
 use Rattle.std.proofs.Common.{◌≡◌, Some, inl, sym, ap, subst, ◌∙◌}
 use Rattle.std.specs.Option.{ForSome}
 use Rattle.std.proofs.lemmas.Result.{IfOk-weaker, on_ok_weaker}
-use Rattle.blk_image.specs.Image.{Image}
-use Rattle.blk_image.specs.Told.{Stays, Told}
-use Rattle.blk_image.proofs.Runs.{some_inj}
-use Rattle.blk_format.specs.BlockFiles.{first_damage, IsWellFormed}
+use Rattle.spec_image.specs.Image.{Image}
+use Rattle.spec_image.specs.Told.{Stays, Told}
+use Rattle.spec_image.proofs.Runs.{some_inj}
+use Rattle.spec_format.specs.BlockFiles.{first_damage, IsWellFormed}
 use Rattle.blk_io.specs.declared.fault.Damage.{Damage}
 use Rattle.blk_io.specs.Faults.{damage_of}
 use Rattle.blk_index.specs.Start.{IsFinished}

@@ -1,6 +1,6 @@
 use Rattle.std.proofs.Common.{inl, inr, sym, ap, ◌∙◌}
 use Rattle.std.proofs.lemmas.Result.{IfOk-weaker, on_ok_weaker}
-use Rattle.blk_image.specs.Told.{Told, Stays}
+use Rattle.spec_image.specs.Told.{Told, Stays}
 use Rattle.blk_repair.proofs.Endings.{either-stayed, ends-stayed}
 use Rattle.blk_cache.specs.Opened.{IsFirstDamage}
 use Rattle.blk_cache.proofs.CarriedFaults.{damaged-on, if-damaged, if-memory, no-memory, open-damaged-weaker, open-memory-weaker}

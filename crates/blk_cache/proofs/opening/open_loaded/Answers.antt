@@ -1,5 +1,5 @@
 use Rattle.std.proofs.Common.{inr, inl, sym, ap, ◌∙◌}
-use Rattle.blk_image.specs.Told.{Told}
+use Rattle.spec_image.specs.Told.{Told}
 use Rattle.blk_repair.proofs.Endings.{either-stayed, ends-stayed}
 use Rattle.blk_cache.specs.Opened.{IsOpeningDamage}
 use Rattle.blk_cache.proofs.CarriedFaults.{damaged-on, if-memory, open-damaged-weaker, scan-damaged-on}

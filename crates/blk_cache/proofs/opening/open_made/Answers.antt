@@ -1,6 +1,6 @@
 use Rattle.std.proofs.Common.{inl, sym, ap, ◌∙◌}
 use Rattle.std.proofs.lemmas.Result.{IfOk-weaker, on_ok_weaker}
-use Rattle.blk_image.specs.Told.{Told}
+use Rattle.spec_image.specs.Told.{Told}
 use Rattle.blk_io.proofs.Carried.{if_damaged_weaker}
 use Rattle.blk_repair.proofs.Endings.{either-stayed, ends-stayed}
 use Rattle.blk_cache.proofs.CreationTimes.{made-needs}

@@ -2,13 +2,13 @@ use Rattle.std.proofs.Common.{◌≡◌, ◌%◌, ℕ, None, Some, inl, inr, sym
 use Rattle.std.specs.Prelude.{IfOk, IfSome}
 use Rattle.std.specs.Option.{ForSome}
 use Rattle.std.proofs.lemmas.Result.{on_ok_weaker}
-use Rattle.blk_image.specs.Image.{HasRange, Index}
-use Rattle.blk_image.specs.Told.{Told}
+use Rattle.spec_image.specs.Image.{HasRange, Index}
+use Rattle.spec_image.specs.Told.{Told}
 use Rattle.blk_disk.specs.Tables.{Agrees}
 use Rattle.blk_io.proofs.Carried.{carried, if_damaged_weaker}
 use Rattle.blk_io.specs.Faults.{IfDamaged, IsShort}
 use Rattle.blk_io.specs.declared.folder.FileId.TheVariants as names
-use Rattle.blk_format.specs.Headers.{place_of_bucket}
+use Rattle.spec_format.specs.Headers.{place_of_bucket}
 use Rattle.blk_entry.proofs.KeyPlaces.{ok_there}
 use Rattle.blk_chain.specs.Finding.{CanBeSearched, IsAnswer, IsChainDamage, IsOutcome, IsSearchDamage}
 use Rattle.blk_chain.specs.Unlinking.{CanBeUnlinked}

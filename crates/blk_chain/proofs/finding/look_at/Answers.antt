@@ -1,9 +1,9 @@
 use Rattle.std.proofs.Common.{◌≡◌, ℕ, length, None, Some, inl, inr, sym, ◌∙◌, ap, subst}
 use Rattle.std.specs.Option.{ForSome}
-use Rattle.blk_image.specs.Told.{Told}
+use Rattle.spec_image.specs.Told.{Told}
 use Rattle.blk_io.specs.Faults.{IfDamaged}
 use Rattle.blk_io.proofs.Carried.{carried, if_damaged_weaker, untold_where}
-use Rattle.blk_volume.specs.Chains.{bucket_of_hash}
+use Rattle.spec_folder.specs.Chains.{bucket_of_hash}
 use Rattle.blk_entry.specs.Keys.{CanBeRead, IsRecordHead, IsPlaceDamage}
 use Rattle.blk_chain.specs.Finding.{IsDanglingLink, IsChainDamage, IsSought}
 use Rattle.blk_chain.specs.Unlinking.{next_record}

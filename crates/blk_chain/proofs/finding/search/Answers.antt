@@ -1,9 +1,9 @@
 use Rattle.std.proofs.Common.{◌≡◌, inr, refl, ◌+◌, ◌-◌, ℕ, [], Option, None, Some, true, sym, ◌∙◌, ap, subst, arith}
 use Rattle.std.specs.Prelude.{IfSome, IsTrue}
 use Rattle.std.specs.Option.{ForSome}
-use Rattle.blk_image.specs.Told.{Told}
-use Rattle.blk_format.specs.Address.{kind_of}
-use Rattle.blk_volume.specs.Chains.{bucket_of_hash}
+use Rattle.spec_image.specs.Told.{Told}
+use Rattle.spec_format.specs.Address.{kind_of}
+use Rattle.spec_folder.specs.Chains.{bucket_of_hash}
 use Rattle.blk_disk.specs.Tables.{is_record_among, Agrees, stands_among}
 use Rattle.blk_io.specs.Faults.{IfDamaged}
 use Rattle.blk_io.proofs.Carried.{carried, if_damaged_weaker, untold_where}
@@ -11,7 +11,7 @@ use Rattle.blk_entry.proofs.KeyPlaces.{err_damaged}
 use Rattle.blk_chain.specs.declared.found.Found.{Found}
 use Rattle.blk_chain.specs.declared.finding.Step.{Step}
 use Rattle.blk_chain.specs.Finding.{HasPassed, IsChainDamage, IsFollowed, IsTooLong, IsOfLink, IsSought, IsSearchStep, StandsAt, StandsBefore}
-use Rattle.blk_volume.specs.Searches.{bucket_of_key}
+use Rattle.spec_folder.specs.Searches.{bucket_of_key}
 use Rattle.blk_chain.specs.Unlinking.{next_record}
 use Rattle.blk_chain.proofs.Heads.{names-parts}
 use Rattle.blk_chain.proofs.Searches.{found-linked, outcome-answer, passed-on, way-keyed, way-left, way-passed}

@@ -1,7 +1,7 @@
 use Rattle.std.specs.Prelude.{◌≡◌, ◌+◌, ◌-◌, ◌≤◌, IfSome, IsTrue, None}
 use Rattle.std.specs.Option.{ForSome}
-use Rattle.blk_image.specs.Told.{Stays}
-use Rattle.blk_format.specs.Address.{blocks_256, kind_of}
+use Rattle.spec_image.specs.Told.{Stays}
+use Rattle.spec_format.specs.Address.{blocks_256, kind_of}
 use Rattle.blk_disk.specs.Tables.{stands_among}
 use Rattle.blk_chain.specs.Finding.{HasPassed, StandsBefore, most_searched}
 use Rattle.blk_chain.proofs.finding.search.Given as goal

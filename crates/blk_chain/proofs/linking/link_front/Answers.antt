@@ -1,8 +1,8 @@
 use Rattle.std.proofs.Common.{sym, subst, None, ◌≡◌, rules}
 use Rattle.blk_io.proofs.Carried.{carried}
 use Rattle.std.specs.Option.{ForSome}
-use Rattle.blk_image.specs.Told.{Told}
-use Rattle.blk_image.proofs.Runs.{part_whole}
+use Rattle.spec_image.specs.Told.{Told}
+use Rattle.spec_image.proofs.Runs.{part_whole}
 use Rattle.blk_chain.proofs.Links.{IsPut, link_not_yet, put_by, whole_by, linked_by}
 use Rattle.blk_chain.proofs.linking.link_front.Given as given
 use Rattle.blk_chain.proofs.Pairs.{gains-one}

@@ -1,7 +1,7 @@
 use Rattle.std.proofs.Common.{ℕ, Option, sym, subst}
 use Rattle.std.specs.Option.{ForSome}
 use Rattle.std.specs.Prelude.{OnOk}
-use Rattle.blk_image.specs.Told.{Applies}
+use Rattle.spec_image.specs.Told.{Applies}
 use Rattle.blk_chain.specs.Unlinking.{BeforeChecks, CanBeUnlinked, IsSealedAgain, IsUnlinked, unlink_steps}
 use Rattle.std.proofs.lemmas.Result.{on_ok_weaker}
 use Rattle.blk_chain.proofs.Pairs.{loses-one}

@@ -1,12 +1,12 @@
 use Rattle.std.proofs.Common.{◌≡◌, ℕ, None, sym, ◌∙◌, subst}
 use Rattle.std.specs.Option.{ForSome}
 use Rattle.std.proofs.lemmas.Result.{on_ok_weaker}
-use Rattle.blk_image.specs.Image.{Image, Index, length_of}
-use Rattle.blk_format.specs.Headers.{index_length, HasWholeIndex}
+use Rattle.spec_image.specs.Image.{Image, Index, length_of}
+use Rattle.spec_format.specs.Headers.{index_length, HasWholeIndex}
 use Rattle.blk_io.proofs.Carried.{carried, if_damaged_weaker, told_at_end}
 use Rattle.blk_io.specs.Faults.{IfDamaged}
-use Rattle.blk_image.specs.Told.{Told, Applies, AppliesPrefix, Passes}
-use Rattle.blk_format.specs.Sealed.{IsMidUpdate, IsUpdated, RecordChecks, sealed_steps}
+use Rattle.spec_image.specs.Told.{Told, Applies, AppliesPrefix, Passes}
+use Rattle.spec_format.specs.Sealed.{IsMidUpdate, IsUpdated, RecordChecks, sealed_steps}
 use Rattle.blk_disk.specs.Tables.{Agrees}
 use Rattle.blk_chain.specs.Unlinking.{next_record}
 use Rattle.blk_chain.proofs.Unlinks.{next_changes, moved, with_next, turns_yet, turns_then, unlinked_then, still_complete}

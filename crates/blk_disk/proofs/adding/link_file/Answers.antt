@@ -1,7 +1,7 @@
 use Rattle.std.proofs.Common.{List, subst}
 use Rattle.std.specs.Prelude.{OnOk}
-use Rattle.blk_image.specs.Steps.{TrailStep}
-use Rattle.blk_image.specs.Told.{Applies, AppliesPrefix}
+use Rattle.spec_image.specs.Steps.{TrailStep}
+use Rattle.spec_image.specs.Told.{Applies, AppliesPrefix}
 use Rattle.blk_disk.proofs.Additions.{link_is}
 use Rattle.blk_disk.proofs.adding.link_file.Goals as goal
 

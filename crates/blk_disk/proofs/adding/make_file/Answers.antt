@@ -1,12 +1,12 @@
 use Rattle.std.proofs.Common.{◌≡◌, ℕ, List, [], ◌∷◌, refl, lit<, subst, arith}
 use Rattle.std.proofs.lemmas.Result.{on_ok_weaker}
-use Rattle.blk_image.specs.Image.{Block, length_of}
-use Rattle.blk_image.specs.Steps.{word_steps}
-use Rattle.blk_image.specs.Told.{Applies, AppliesPrefix}
-use Rattle.blk_image.proofs.Images.{length-after_set_len}
-use Rattle.blk_image.proofs.Runs.{grows_then, part_then, told_whole}
+use Rattle.spec_image.specs.Image.{Block, length_of}
+use Rattle.spec_image.specs.Steps.{word_steps}
+use Rattle.spec_image.specs.Told.{Applies, AppliesPrefix}
+use Rattle.spec_image.proofs.Images.{length-after_set_len}
+use Rattle.spec_image.proofs.Runs.{grows_then, part_then, told_whole}
 use Rattle.blk_addr.specs.Kind.{kind_number}
-use Rattle.blk_format.specs.Address.{block_size}
+use Rattle.spec_format.specs.Address.{block_size}
 use Rattle.blk_disk.specs.Growth.{header_words}
 use Rattle.blk_disk.proofs.adding.make_file.Goals as goal
 

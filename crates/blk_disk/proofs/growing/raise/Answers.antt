@@ -1,10 +1,10 @@
 use Rattle.std.proofs.Common.{ℕ, [], ◌∷◌, ap, subst, ◌∙◌}
 use Rattle.std.specs.Option.{option_map}
 use Rattle.std.proofs.lemmas.Result.{on_ok_weaker}
-use Rattle.blk_image.specs.Bytes.{zeros}
-use Rattle.blk_image.specs.Image.{Block}
-use Rattle.blk_image.specs.Steps.{after, word_steps}
-use Rattle.blk_image.specs.Told.{Told, Applies, AppliesPrefix, GivesBytes}
+use Rattle.spec_image.specs.Bytes.{zeros}
+use Rattle.spec_image.specs.Image.{Block}
+use Rattle.spec_image.specs.Steps.{after, word_steps}
+use Rattle.spec_image.specs.Told.{Told, Applies, AppliesPrefix, GivesBytes}
 use Rattle.blk_disk.specs.Growth.{raised}
 use Rattle.blk_disk.proofs.Raising.{raised_is}
 use Rattle.blk_disk.proofs.growing.raise.Goals as goal

@@ -1,5 +1,5 @@
 use Rattle.std.proofs.Common.{◌≡◌, take}
-use Rattle.blk_image.specs.Steps.{with_words}
+use Rattle.spec_image.specs.Steps.{with_words}
 use Rattle.blk_disk.proofs.sealed.change.Given as goal
 
 abbrev pub invariant-loop-at : goal.invariant-loop-at

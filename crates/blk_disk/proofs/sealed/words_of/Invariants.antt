@@ -1,5 +1,5 @@
 use Rattle.std.proofs.Common.{◌≡◌, ◌∷◌, take}
-use Rattle.blk_format.specs.Sealed.{placed}
+use Rattle.spec_format.specs.Sealed.{placed}
 use Rattle.blk_disk.proofs.sealed.words_of.Given as goal
 
 abbrev pub invariant-loop-at : goal.invariant-loop-at

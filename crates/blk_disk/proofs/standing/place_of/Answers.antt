@@ -1,5 +1,5 @@
 use Rattle.std.proofs.Common.{◌≤◌, ◌∙◌, ap, arith}
-use Rattle.blk_format.specs.Address.{block_size}
+use Rattle.spec_format.specs.Address.{block_size}
 use Rattle.blk_disk.proofs.Standings.{start_is, start_small, product_small, place_is}
 use Rattle.blk_disk.proofs.standing.place_of.Goals as goal
 

@@ -1,5 +1,5 @@
 use Rattle.std.proofs.Common.{◌≤◌, ◌∙◌, ap, arith}
-use Rattle.blk_format.specs.Address.{block_size}
+use Rattle.spec_format.specs.Address.{block_size}
 use Rattle.blk_disk.proofs.Standings.{count_is, count_small, product_small, room_is}
 use Rattle.blk_disk.proofs.standing.room_of.Goals as goal
 

@@ -1,7 +1,7 @@
 use Rattle.std.proofs.Common.{◌≡◌, None, inl, inr, ⊎_elim, ◌+◌, ◌-◌, ◌%◌, ◌<◌, ◌≤◌, length, Some, sym, ◌∙◌, ap, subst, refl, arith}
 use Rattle.std.specs.Option.{ForSome}
-use Rattle.blk_image.specs.Image.{HasRange, byte}
-use Rattle.blk_image.specs.Told.{Told}
+use Rattle.spec_image.specs.Image.{HasRange, byte}
+use Rattle.spec_image.specs.Told.{Told}
 use Rattle.blk_disk.specs.Tables.{Agrees}
 use Rattle.std.proofs.lemmas.Bool.{eqb-true}
 use Rattle.blk_io.specs.Faults.{IfDamaged}

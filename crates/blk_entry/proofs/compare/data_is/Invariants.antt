@@ -1,7 +1,7 @@
 use Rattle.std.proofs.Common.{◌≡◌, ◌⊎◌, ◌+◌, ◌-◌, ◌%◌, ◌≤◌, ◌↔◌, length}
 use Rattle.std.specs.Option.{ForSome}
-use Rattle.blk_image.specs.Image.{HasRange}
-use Rattle.blk_image.specs.Told.{Stays}
+use Rattle.spec_image.specs.Image.{HasRange}
+use Rattle.spec_image.specs.Told.{Stays}
 use Rattle.blk_entry.specs.Keys.{IsInside, data_at, data_file, data_start}
 use Rattle.blk_entry.proofs.compare.data_is.Given as goal
 

@@ -2,9 +2,9 @@ use Rattle.std.proofs.Common.{◌≡◌, ◌↔◌, ℕ, None, Some, length, inr
 use Rattle.std.specs.Prelude.{IsTrue}
 use Rattle.std.specs.Option.{ForSome}
 use Rattle.std.proofs.lemmas.Result.{on_ok_weaker}
-use Rattle.blk_image.specs.Told.{Told}
-use Rattle.blk_format.specs.Hash.{hash as hash_of}
-use Rattle.blk_volume.specs.View.{entry_at}
+use Rattle.spec_image.specs.Told.{Told}
+use Rattle.spec_format.specs.Hash.{hash as hash_of}
+use Rattle.spec_folder.specs.View.{entry_at}
 use Rattle.blk_io.specs.Faults.{IfDamaged}
 use Rattle.blk_io.proofs.Carried.{carried, if_damaged_weaker}
 use Rattle.blk_entry.specs.Keys.{AreKeyBytes, CanBeRead, HasBytesOf, HasData, HasKeyBytes, HasReadableKey, IsEntryOf, IsRecordHead, IsPlaceDamage, IsPlaced, bytes_before, key_address, key_at}

@@ -1,9 +1,9 @@
 use Rattle.std.proofs.Common.{◌≡◌, ◌≢◌, ◌⊎◌, ℕ, length, sym, ◌∙◌, ap, subst, arith}
 use Rattle.std.proofs.lemmas.Bool.{eqb-true}
 use Rattle.std.proofs.lemmas.Result.{on_ok_weaker}
-use Rattle.blk_image.specs.Bytes.{range_at}
-use Rattle.blk_image.specs.Image.{External, HasRange, byte}
-use Rattle.blk_format.specs.Address.{kind_of, external, external_number}
+use Rattle.spec_image.specs.Bytes.{range_at}
+use Rattle.spec_image.specs.Image.{External, HasRange, byte}
+use Rattle.spec_format.specs.Address.{kind_of, external, external_number}
 use Rattle.blk_io.proofs.Carried.{if_damaged_weaker}
 use Rattle.blk_external.specs.Reading.{IsFew}
 use Rattle.blk_entry.proofs.KeyPlaces.{of_other, data_of_blocks, data_of_external, few_is_cut, short_is_cut, data_in_blocks, data_in_external}

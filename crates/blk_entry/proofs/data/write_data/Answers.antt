@@ -1,12 +1,12 @@
 use Rattle.std.proofs.Common.{◌≡◌, ◌≢◌, ◌+◌, ℕ, List, length, sym, ◌∙◌, ap, subst}
 use Rattle.std.proofs.lemmas.Bool.{eqb-true}
 use Rattle.std.proofs.lemmas.Result.{on_ok_weaker}
-use Rattle.blk_image.specs.Image.{Block, External}
-use Rattle.blk_image.specs.Steps.{TrailStep, words}
-use Rattle.blk_image.specs.Footprint.{Footprint, SameOutside, range}
-use Rattle.blk_image.specs.Told.{Applies, AppliesPrefix, Passes}
-use Rattle.blk_image.proofs.Runs.{passes_weaker}
-use Rattle.blk_format.specs.Address.{kind_of, external, external_number, file_selector, place}
+use Rattle.spec_image.specs.Image.{Block, External}
+use Rattle.spec_image.specs.Steps.{TrailStep, words}
+use Rattle.spec_image.specs.Footprint.{Footprint, SameOutside, range}
+use Rattle.spec_image.specs.Told.{Applies, AppliesPrefix, Passes}
+use Rattle.spec_image.proofs.Runs.{passes_weaker}
+use Rattle.spec_format.specs.Address.{kind_of, external, external_number, file_selector, place}
 use Rattle.blk_entry.specs.Steps.{data_steps}
 use Rattle.blk_entry.proofs.KeyPlaces.{of_other, range_of_blocks, range_of_external}
 use Rattle.blk_entry.proofs.DataSteps.{steps_of_blocks, steps_of_external, agrees_outside}

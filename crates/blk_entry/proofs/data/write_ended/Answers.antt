@@ -1,6 +1,6 @@
 use Rattle.std.proofs.Common.{◌+◌, ◌∷◌, [], length}
 use Rattle.std.proofs.lemmas.Result.{on_ok_weaker}
-use Rattle.blk_image.proofs.Runs.{grows_then, part_then, part_only}
+use Rattle.spec_image.proofs.Runs.{grows_then, part_then, part_only}
 use Rattle.blk_entry.specs.Steps.{data_steps, ended_steps}
 use Rattle.blk_entry.proofs.DataSteps.{room_kept}
 use Rattle.blk_entry.proofs.data.write_ended.Goals as goal

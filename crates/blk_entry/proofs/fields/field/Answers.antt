@@ -1,6 +1,6 @@
 use Rattle.std.proofs.Common.{◌+◌, ◌∙◌, arith}
-use Rattle.blk_image.specs.Image.{Block, byte}
-use Rattle.blk_format.specs.Address.{file_selector, place}
+use Rattle.spec_image.specs.Image.{Block, byte}
+use Rattle.spec_format.specs.Address.{file_selector, place}
 use Rattle.blk_entry.proofs.Windows.{entry_room_least, word_read}
 use Rattle.blk_entry.proofs.fields.field.Goals as goal
 

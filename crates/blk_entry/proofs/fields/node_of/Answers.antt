@@ -1,6 +1,6 @@
 use Rattle.std.proofs.Common.{◌≡◌, ◌+◌, ℕ, true, false, None, inr, sym, ◌∙◌, subst}
-use Rattle.blk_format.specs.Address.{file_selector, place}
-use Rattle.blk_volume.specs.View.{entry_at}
+use Rattle.spec_format.specs.Address.{file_selector, place}
+use Rattle.spec_folder.specs.View.{entry_at}
 use Rattle.blk_io.specs.declared.folder.FileId.TheVariants as FileId
 use Rattle.blk_io.proofs.Carried.{untold_where}
 use Rattle.blk_disk.specs.Tables.{is_node_among}

@@ -1,5 +1,5 @@
 use Rattle.std.proofs.Common.{◌≡◌, ◌+◌, ℕ, [], ◌∷◌, ◌∙◌, ap, arith}
-use Rattle.blk_image.specs.Bytes.{content, word_at, words_at}
+use Rattle.spec_image.specs.Bytes.{content, word_at, words_at}
 use Rattle.blk_record.specs.Views.{entry_window}
 use Rattle.blk_entry.proofs.keys.four_words.Goals as goal
 

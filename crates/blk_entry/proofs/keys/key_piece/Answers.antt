@@ -1,11 +1,11 @@
 use Rattle.std.proofs.Common.{◌≡◌, ◌+◌, ℕ, List, inl, inr, length, take, drop, length-take, None, Some, sym, ◌∙◌, ap, ap₂, subst, arith}
 use Rattle.std.specs.Prelude.{min, ◌++◌}
 use Rattle.std.specs.Option.{ForSome}
-use Rattle.blk_image.specs.Bytes.{range_at}
-use Rattle.blk_image.specs.Image.{byte}
-use Rattle.blk_image.specs.Told.{Told}
+use Rattle.spec_image.specs.Bytes.{range_at}
+use Rattle.spec_image.specs.Image.{byte}
+use Rattle.spec_image.specs.Told.{Told}
 use Rattle.blk_disk.specs.Tables.{Agrees}
-use Rattle.blk_volume.specs.View.{entry_at}
+use Rattle.spec_folder.specs.View.{entry_at}
 use Rattle.blk_io.specs.Faults.{IfDamaged}
 use Rattle.blk_io.proofs.Carried.{carried, if_damaged_weaker, untold_where}
 use Rattle.blk_entry.specs.Keys.{HasData, IsCutPart, IsPartDamage, IsPiece, IsPlaced, bytes_before, data_file, data_start, key_address, key_bytes}

@@ -1,11 +1,11 @@
 use Rattle.std.proofs.Common.{◌≡◌, ◌⊎◌, ◌+◌, ◌≤◌, ⊎_elim, true, subst, ℕ, List, inr, None, Some, false, Bool, if◌then◌else◌, sym, ◌∙◌, ap, arith}
-use Rattle.blk_image.specs.Bytes.{content, word_at, words_at}
-use Rattle.blk_image.specs.Image.{Block, length_of}
-use Rattle.blk_format.specs.Address.{file_selector, place}
-use Rattle.blk_format.specs.Records.{checks}
-use Rattle.blk_format.specs.Sealed.{seal_place}
+use Rattle.spec_image.specs.Bytes.{content, word_at, words_at}
+use Rattle.spec_image.specs.Image.{Block, length_of}
+use Rattle.spec_format.specs.Address.{file_selector, place}
+use Rattle.spec_format.specs.Records.{checks}
+use Rattle.spec_format.specs.Sealed.{seal_place}
 use Rattle.blk_disk.specs.Unsealed.{IsUnsealed}
-use Rattle.blk_format.proofs.SealedRecords.{entry_bytes, entry_seal}
+use Rattle.spec_format.proofs.SealedRecords.{entry_bytes, entry_seal}
 use Rattle.blk_disk.proofs.SealedReads.{record_read, unsealed_is, untold_unsealed}
 use Rattle.blk_entry.specs.declared.keys.Head.{Head}
 use Rattle.blk_entry.specs.Keys.{IsHeadDamage}

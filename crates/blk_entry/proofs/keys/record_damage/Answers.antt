@@ -1,5 +1,5 @@
 use Rattle.std.proofs.Common.{◌≡◌, ◌≢◌, ℕ, ◌+◌, ◌*◌, ap₂, sym, ◌∙◌, refl}
-use Rattle.blk_format.specs.Address.{kind_of, external, place}
+use Rattle.spec_format.specs.Address.{kind_of, external, place}
 use Rattle.blk_disk.proofs.Ranges.{name_is}
 use Rattle.blk_disk.proofs.Standings.{start_is, place_is}
 use Rattle.blk_entry.proofs.Windows.{size_of_entry, not_external}

@@ -2,8 +2,8 @@ use Rattle.std.proofs.Common.{◌≡◌, ◌≢◌, ℕ, Bool, true, false, sym,
 use Rattle.std.specs.Prelude.{◌==◌, ◌&&◌, ◌||◌}
 use Rattle.std.proofs.lemmas.Bool.{eqb-true}
 use Rattle.std.proofs.lemmas.Bool.Decides.{nat_tests}
-use Rattle.blk_format.specs.Address.{kind_of, block_count, external}
-use Rattle.blk_format.specs.Storage.{kind_for, blocks_for}
+use Rattle.spec_format.specs.Address.{kind_of, block_count, external}
+use Rattle.spec_format.specs.Storage.{kind_for, blocks_for}
 use Rattle.blk_disk.specs.Tables.{stands_among}
 use Rattle.blk_disk.proofs.Standings.{count_is}
 use Rattle.blk_entry.proofs.KeyPlaces.{of_other, stores_is, stores_stand, stores_none}

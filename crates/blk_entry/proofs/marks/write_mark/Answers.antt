@@ -1,10 +1,10 @@
 use Rattle.std.proofs.Common.{◌≡◌, ℕ, ◌<◌, ◌^◌, true, Some, subst, arith}
-use Rattle.blk_image.specs.Image.{Image}
-use Rattle.blk_format.specs.Address.{is_address}
-use Rattle.blk_format.specs.Sealed.{IsMidUpdate, RecordChecks}
+use Rattle.spec_image.specs.Image.{Image}
+use Rattle.spec_format.specs.Address.{is_address}
+use Rattle.spec_format.specs.Sealed.{IsMidUpdate, RecordChecks}
 use Rattle.blk_entry.specs.Marks.{SetsDirtyInProgress, dirty_change}
 use Rattle.std.proofs.lemmas.Result.{on_ok_weaker}
-use Rattle.blk_image.proofs.Runs.{passes_weaker}
+use Rattle.spec_image.proofs.Runs.{passes_weaker}
 use Rattle.blk_entry.proofs.Marking.{mark_changes, marking_at, marked_at}
 use Rattle.blk_entry.proofs.marks.write_mark.Given as given
 use Rattle.blk_entry.proofs.marks.write_mark.Goals as goal

@@ -1,5 +1,5 @@
 use Rattle.std.proofs.Common.{sym, ◌∙◌, ap}
-use Rattle.blk_image.specs.Steps.{with_word}
+use Rattle.spec_image.specs.Steps.{with_word}
 use Rattle.blk_entry.proofs.NewRecords.{with_words-more}
 use Rattle.blk_entry.proofs.writing.fill.Goals as goal
 

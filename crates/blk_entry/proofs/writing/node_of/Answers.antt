@@ -1,7 +1,7 @@
 use Rattle.std.proofs.Common.{ℕ, ◌∙◌, ap}
-use Rattle.blk_image.specs.Bytes.{zeros}
-use Rattle.blk_image.specs.Steps.{with_words}
-use Rattle.blk_format.specs.Sealed.{sealed}
+use Rattle.spec_image.specs.Bytes.{zeros}
+use Rattle.spec_image.specs.Steps.{with_words}
+use Rattle.spec_format.specs.Sealed.{sealed}
 use Rattle.blk_entry.specs.Writing.{new_node}
 use Rattle.blk_entry.proofs.NewRecords.{filled_node, node_words, plain_node}
 use Rattle.blk_entry.proofs.writing.node_of.Goals as goal

@@ -1,9 +1,9 @@
 use Rattle.std.proofs.Common.{◌≡◌, ℕ, length, if◌then◌else◌, unwrap_or, ◌∙◌}
-use Rattle.blk_image.specs.Bytes.{zeros}
-use Rattle.blk_image.specs.Steps.{with_words}
-use Rattle.blk_format.specs.Hash.{hash as hash_of}
-use Rattle.blk_format.specs.Records.{child, plain}
-use Rattle.blk_format.specs.Sealed.{sealed}
+use Rattle.spec_image.specs.Bytes.{zeros}
+use Rattle.spec_image.specs.Steps.{with_words}
+use Rattle.spec_format.specs.Hash.{hash as hash_of}
+use Rattle.spec_format.specs.Records.{child, plain}
+use Rattle.spec_format.specs.Sealed.{sealed}
 use Rattle.blk_entry.specs.Writing.{new_record}
 use Rattle.blk_entry.proofs.NewRecords.{filled_record, plain_record, record_words}
 use Rattle.blk_entry.proofs.writing.record_of.Goals as goal

@@ -1,5 +1,5 @@
 use Rattle.std.proofs.Common.{arith}
-use Rattle.blk_image.proofs.Runs.{part_whole}
+use Rattle.spec_image.proofs.Runs.{part_whole}
 use Rattle.blk_entry.proofs.NewPlaces.{at_each, complete_after, agrees_after}
 use Rattle.blk_entry.proofs.NewImages.{written_there}
 use Rattle.blk_entry.proofs.NewShown.{shown_there, loads_there}

@@ -1,7 +1,7 @@
 use Rattle.std.proofs.Common.{◌+◌, ℕ, List, length, Option, subst}
 use Rattle.std.proofs.lemmas.Result.{on_ok_weaker}
-use Rattle.blk_image.specs.Steps.{TrailStep}
-use Rattle.blk_image.specs.Told.{Applies, AppliesPrefix}
+use Rattle.spec_image.specs.Steps.{TrailStep}
+use Rattle.spec_image.specs.Told.{Applies, AppliesPrefix}
 use Rattle.blk_entry.specs.Keys.{IsInside, IsInFile}
 use Rattle.blk_entry.specs.Writing.{address_of_key, before_key}
 use Rattle.blk_entry.proofs.NewPlaces.{key_is_inside, key_is_there}

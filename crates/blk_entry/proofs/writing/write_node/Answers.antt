@@ -1,8 +1,8 @@
 use Rattle.std.proofs.Common.{◌≡◌, inl, List, length, ◌∙◌, ap, subst, arith}
 use Rattle.std.proofs.lemmas.Result.{on_ok_weaker}
-use Rattle.blk_image.specs.Steps.{TrailStep}
-use Rattle.blk_image.specs.Told.{Applies, AppliesPrefix}
-use Rattle.blk_format.proofs.SealedRecords.{node_bytes as node_size_is, record_inside}
+use Rattle.spec_image.specs.Steps.{TrailStep}
+use Rattle.spec_image.specs.Told.{Applies, AppliesPrefix}
+use Rattle.spec_format.proofs.SealedRecords.{node_bytes as node_size_is, record_inside}
 use Rattle.blk_entry.proofs.NewSteps.{node_length, steps_of_node}
 use Rattle.blk_entry.proofs.writing.write_node.Goals as goal
 

@@ -1,6 +1,6 @@
 use Rattle.std.proofs.Common.{◌++◌}
 use Rattle.std.proofs.lemmas.Result.{on_ok_weaker}
-use Rattle.blk_image.proofs.Runs.{grows_then, part_then, part_only}
+use Rattle.spec_image.proofs.Runs.{grows_then, part_then, part_only}
 use Rattle.blk_entry.specs.Writing.{entry_steps, node_steps, record_steps}
 use Rattle.blk_entry.proofs.writing.write_places.Goals as goal
 

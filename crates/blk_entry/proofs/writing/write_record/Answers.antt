@@ -1,7 +1,7 @@
 use Rattle.std.proofs.Common.{List, length-take, subst, arith}
 use Rattle.std.proofs.lemmas.Result.{on_ok_weaker}
-use Rattle.blk_image.specs.Steps.{TrailStep}
-use Rattle.blk_image.specs.Told.{Applies, AppliesPrefix}
+use Rattle.spec_image.specs.Steps.{TrailStep}
+use Rattle.spec_image.specs.Told.{Applies, AppliesPrefix}
 use Rattle.blk_entry.proofs.NewSteps.{steps_of_long, steps_of_short}
 use Rattle.blk_entry.proofs.Windows.{entry_room_least}
 use Rattle.blk_entry.proofs.writing.write_record.Goals as goal

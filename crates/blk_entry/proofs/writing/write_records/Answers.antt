@@ -1,5 +1,5 @@
 use Rattle.std.proofs.lemmas.Result.{on_ok_weaker}
-use Rattle.blk_image.proofs.Runs.{grows_then, part_then, part_only}
+use Rattle.spec_image.proofs.Runs.{grows_then, part_then, part_only}
 use Rattle.blk_entry.specs.Writing.{node_steps}
 use Rattle.blk_entry.proofs.writing.write_records.Goals as goal
 

@@ -1,8 +1,8 @@
 use Rattle.std.proofs.Common.{◌≡◌, ℕ, ◌+◌, ◌-◌, ◌*◌, min, refl, sym, ◌∙◌, ap, subst, arith}
-use Rattle.blk_image.specs.Bytes.{zeros}
-use Rattle.blk_image.specs.Steps.{words}
-use Rattle.blk_image.specs.Told.{Applies}
-use Rattle.blk_image.proofs.Runs.{grows_none}
+use Rattle.spec_image.specs.Bytes.{zeros}
+use Rattle.spec_image.specs.Steps.{words}
+use Rattle.spec_image.specs.Told.{Applies}
+use Rattle.spec_image.proofs.Runs.{grows_none}
 use Rattle.blk_io.specs.FileNames.{file_of}
 use Rattle.blk_eraser.proofs.ZeroWords.{no_words, told_length}
 use Rattle.blk_eraser.proofs.freeing.erase_block.Goals as goal

@@ -1,8 +1,8 @@
 use Rattle.std.proofs.Common.{subst}
 use Rattle.std.proofs.lemmas.Result.{on_ok_weaker}
-use Rattle.blk_image.specs.Bytes.{content}
-use Rattle.blk_image.specs.Told.{Told, Applies, AppliesPrefix}
-use Rattle.blk_format.specs.Headers.{entry_size_of}
+use Rattle.spec_image.specs.Bytes.{content}
+use Rattle.spec_image.specs.Told.{Told, Applies, AppliesPrefix}
+use Rattle.spec_format.specs.Headers.{entry_size_of}
 use Rattle.blk_io.specs.FileNames.{file_of}
 use Rattle.blk_io.proofs.Carried.{silent_part}
 use Rattle.blk_eraser.specs.Erasing.{frees, zeros_over_blocks}

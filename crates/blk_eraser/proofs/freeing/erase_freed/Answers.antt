@@ -1,6 +1,6 @@
 use Rattle.std.proofs.Common.{◌≡◌, ◌+◌, ◌-◌, ◌*◌, ◌≤◌, ℕ, true, min, length, refl, sym, ◌∙◌, ap, subst, arith}
-use Rattle.blk_image.specs.Told.{Applies, AppliesPrefix}
-use Rattle.blk_image.proofs.Runs.{grows_none, grows_then, part_then, part_whole}
+use Rattle.spec_image.specs.Told.{Applies, AppliesPrefix}
+use Rattle.spec_image.proofs.Runs.{grows_none, grows_then, part_then, part_whole}
 use Rattle.blk_io.specs.FileNames.{file_of}
 use Rattle.blk_eraser.specs.Erasing.{frees, zeros_over_blocks}
 use Rattle.blk_eraser.proofs.MapWrites.{none_before, none_behind, over_one, over_not, part_of_blocks}

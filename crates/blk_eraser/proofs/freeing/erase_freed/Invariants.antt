@@ -1,7 +1,7 @@
 use Rattle.std.proofs.Common.{◌≡◌, ◌-◌, ◌≤◌}
 use Rattle.std.specs.Option.{ForSome}
-use Rattle.blk_image.specs.Image.{length_of}
-use Rattle.blk_image.specs.Told.{Applies}
+use Rattle.spec_image.specs.Image.{length_of}
+use Rattle.spec_image.specs.Told.{Applies}
 use Rattle.blk_io.specs.FileNames.{file_of}
 use Rattle.blk_eraser.specs.Erasing.{frees, zeros_over_blocks}
 use Rattle.blk_eraser.proofs.freeing.erase_freed.Given as goal

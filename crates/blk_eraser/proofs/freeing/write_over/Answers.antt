@@ -1,8 +1,8 @@
 use Rattle.std.proofs.Common.{subst}
 use Rattle.std.specs.Option.{ForSome}
 use Rattle.std.proofs.lemmas.Result.{on_ok_weaker}
-use Rattle.blk_image.specs.Told.{Told, Applies, MakesPartOf}
-use Rattle.blk_image.proofs.Runs.{grows_then, part_then}
+use Rattle.spec_image.specs.Told.{Told, Applies, MakesPartOf}
+use Rattle.spec_image.proofs.Runs.{grows_then, part_then}
 use Rattle.blk_io.specs.FileNames.{file_of}
 use Rattle.blk_io.proofs.Carried.{silent_part}
 use Rattle.blk_eraser.specs.Erasing.{zeros_before_write}

@@ -1,5 +1,5 @@
 use Rattle.std.proofs.Common.{◌≡◌, ℕ, ◌+◌, ◌-◌, ◌/◌, ◌<◌, ◌≤◌, inl, inr, Bool, true, false, not, ◌&&◌, List, length, sym, ◌∙◌, ap, arith}
-use Rattle.blk_image.specs.Bytes.{content}
+use Rattle.spec_image.specs.Bytes.{content}
 use Rattle.blk_eraser.specs.Erasing.{frees}
 use Rattle.blk_eraser.proofs.MapWrites.{frees_none, frees_some, is_one}
 use Rattle.blk_eraser.proofs.map.is_freed.Goals as goal

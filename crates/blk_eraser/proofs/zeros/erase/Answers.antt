@@ -1,8 +1,8 @@
 use Rattle.std.proofs.Common.{refl, ◌≡◌, ◌-◌, ◌≤◌, inl, inr, ℕ, List, sym, ◌∙◌, ap, subst, arith}
-use Rattle.blk_image.specs.Bytes.{zeros}
-use Rattle.blk_image.specs.Steps.{TrailStep, words}
-use Rattle.blk_image.specs.Told.{Applies, AppliesPrefix}
-use Rattle.blk_image.proofs.Runs.{grows_none, grows_then, part_then, part_only}
+use Rattle.spec_image.specs.Bytes.{zeros}
+use Rattle.spec_image.specs.Steps.{TrailStep, words}
+use Rattle.spec_image.specs.Told.{Applies, AppliesPrefix}
+use Rattle.spec_image.proofs.Runs.{grows_none, grows_then, part_then, part_only}
 use Rattle.blk_io.specs.FileNames.{file_of}
 use Rattle.blk_eraser.proofs.ZeroWords.{no_words, piece_edge, zeros_on, zeros_split, told_length}
 use Rattle.blk_eraser.proofs.zeros.erase.Goals as goal

@@ -1,9 +1,9 @@
 use Rattle.std.proofs.Common.{◌≡◌, ◌-◌, ◌%◌, ◌≤◌, ◌⊎◌}
 use Rattle.std.specs.Option.{ForSome}
-use Rattle.blk_image.specs.Bytes.{zeros}
-use Rattle.blk_image.specs.Image.{length_of}
-use Rattle.blk_image.specs.Steps.{words}
-use Rattle.blk_image.specs.Told.{Applies}
+use Rattle.spec_image.specs.Bytes.{zeros}
+use Rattle.spec_image.specs.Image.{length_of}
+use Rattle.spec_image.specs.Steps.{words}
+use Rattle.spec_image.specs.Told.{Applies}
 use Rattle.blk_io.specs.FileNames.{file_of}
 use Rattle.blk_eraser.proofs.zeros.erase.Given as goal
 

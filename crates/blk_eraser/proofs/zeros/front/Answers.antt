@@ -1,6 +1,6 @@
 use Rattle.std.proofs.Common.{◌≡◌, length, ◌∙◌, ap, arith}
 use Rattle.std.proofs.lemmas.List.{length-take}
-use Rattle.blk_image.proofs.Splices.{length-zeros}
+use Rattle.spec_image.proofs.Splices.{length-zeros}
 use Rattle.blk_eraser.proofs.zeros.front.Goals as goal
 
 pub slice_bounds-result-end : goal.slice_bounds-result-end

@@ -1,9 +1,9 @@
 use Rattle.std.proofs.Common.{◌-◌, ◌∷◌, [], subst}
 use Rattle.std.proofs.lemmas.Result.{on_ok_weaker}
-use Rattle.blk_image.specs.Bytes.{zeros}
-use Rattle.blk_image.specs.Steps.{Delete, words}
-use Rattle.blk_image.specs.Told.{Told, Applies, AppliesPrefix}
-use Rattle.blk_image.proofs.Runs.{grows_then, part_of_one, part_then}
+use Rattle.spec_image.specs.Bytes.{zeros}
+use Rattle.spec_image.specs.Steps.{Delete, words}
+use Rattle.spec_image.specs.Told.{Told, Applies, AppliesPrefix}
+use Rattle.spec_image.proofs.Runs.{grows_then, part_of_one, part_then}
 use Rattle.blk_io.specs.FileNames.{file_of}
 use Rattle.blk_io.proofs.Carried.{silent_part}
 use Rattle.blk_eraser.proofs.ZeroWords.{delete_all}

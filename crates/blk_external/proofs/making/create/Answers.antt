@@ -1,11 +1,11 @@
 use Rattle.std.proofs.Common.{◌≡◌, ℕ, Option, None, Some, refl, sym, ◌∙◌, ap, subst, arith}
 use Rattle.std.specs.Option.{ForSome}
-use Rattle.blk_image.specs.Image.{Index, length_of}
-use Rattle.blk_image.specs.Told.{Told}
+use Rattle.spec_image.specs.Image.{Index, length_of}
+use Rattle.spec_image.specs.Told.{Told}
 use Rattle.blk_io.specs.declared.folder.FileId.TheVariants as names
 use Rattle.blk_io.proofs.Shorts.{untold_if}
-use Rattle.blk_image.proofs.Runs.{told_whole, part_whole}
-use Rattle.blk_format.specs.Headers.{index_length}
+use Rattle.spec_image.proofs.Runs.{told_whole, part_whole}
+use Rattle.spec_format.specs.Headers.{index_length}
 use Rattle.blk_external.specs.Numbers.{IsSearched}
 use Rattle.blk_external.specs.Making.{Creates}
 use Rattle.blk_io.proofs.Carried.{carried, untold_where}

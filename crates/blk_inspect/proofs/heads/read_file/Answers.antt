@@ -1,8 +1,8 @@
 use Rattle.std.proofs.Common.{◌≡◌, List, ℕ, true, sym, ap, ◌∙◌}
 use Rattle.std.proofs.lemmas.List.Folds.{flat_map-map}
-use Rattle.blk_image.specs.Bytes.{content}
-use Rattle.blk_image.specs.Image.{Block, byte}
-use Rattle.blk_format.specs.BlockFiles.{is_among}
+use Rattle.spec_image.specs.Bytes.{content}
+use Rattle.spec_image.specs.Image.{Block, byte}
+use Rattle.spec_format.specs.BlockFiles.{is_among}
 use Rattle.blk_io.specs.declared.folder.FileId.TheVariants as names
 use Rattle.blk_io.proofs.Shorts.{untold_if}
 use Rattle.blk_disk.specs.Tables.{all_files, blocks_of}

@@ -1,8 +1,8 @@
 use Rattle.std.proofs.Common.{List, ℕ, inl, sym, ap, subst, ◌∙◌, arith}
 use Rattle.std.proofs.lemmas.List.Folds.{flat_map-map}
-use Rattle.blk_image.specs.Bytes.{content}
-use Rattle.blk_image.specs.Image.{Index, byte}
-use Rattle.blk_image.specs.Told.{Told}
+use Rattle.spec_image.specs.Bytes.{content}
+use Rattle.spec_image.specs.Image.{Index, byte}
+use Rattle.spec_image.specs.Told.{Told}
 use Rattle.blk_io.specs.declared.folder.FileId.TheVariants as names
 use Rattle.blk_io.specs.Faults.{IsShort}
 use Rattle.blk_io.proofs.Carried.{if_damaged_weaker}

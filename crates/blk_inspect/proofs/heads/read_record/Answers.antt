@@ -1,10 +1,10 @@
 use Rattle.std.proofs.Common.{List, ℕ, add-zero, sym, ap, subst, ◌∙◌}
 use Rattle.std.proofs.lemmas.List.Folds.{flat_map-map}
-use Rattle.blk_image.specs.Bytes.{content}
-use Rattle.blk_image.specs.Told.{Told}
-use Rattle.blk_format.specs.Address.{file_selector, place}
-use Rattle.blk_format.specs.Records.{entry_in}
-use Rattle.blk_volume.specs.View.{entry_at}
+use Rattle.spec_image.specs.Bytes.{content}
+use Rattle.spec_image.specs.Told.{Told}
+use Rattle.spec_format.specs.Address.{file_selector, place}
+use Rattle.spec_format.specs.Records.{entry_in}
+use Rattle.spec_folder.specs.View.{entry_at}
 use Rattle.blk_io.specs.declared.folder.FileId.TheVariants as names
 use Rattle.blk_io.specs.Faults.{IsShort}
 use Rattle.blk_io.proofs.Carried.{if_damaged_weaker}

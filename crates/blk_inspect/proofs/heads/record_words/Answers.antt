@@ -1,6 +1,6 @@
 use Rattle.std.proofs.Common.{ℕ, [], ◌∷◌, map, codes, ap, ◌∙◌}
-use Rattle.blk_image.specs.Bytes.{words_at}
-use Rattle.blk_format.specs.Records.{entry_in}
+use Rattle.spec_image.specs.Bytes.{words_at}
+use Rattle.spec_format.specs.Records.{entry_in}
 use Rattle.blk_inspect.specs.Findings.{word_said}
 use Rattle.blk_inspect.specs.Texts.{record_words}
 use Rattle.blk_inspect.proofs.heads.record_words.Goals as goal

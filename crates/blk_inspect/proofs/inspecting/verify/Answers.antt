@@ -1,6 +1,6 @@
 use Rattle.std.proofs.Common.{◌≡◌, ◌++◌, List, ℕ, ap, subst, ◌∙◌}
 use Rattle.std.specs.Option.{option_map}
-use Rattle.blk_image.specs.Told.{Rises}
+use Rattle.spec_image.specs.Told.{Rises}
 use Rattle.blk_io.specs.Streams.{Appends}
 use Rattle.blk_inspect.specs.Inspecting.{AnswersFor, IfInspectDamaged, IfInspectDevice, IfInspectSink, IsInspectDamage, PrintsAt, UnlessSink}
 use Rattle.blk_inspect.specs.Texts.{verify_text}

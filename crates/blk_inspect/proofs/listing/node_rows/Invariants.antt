@@ -1,5 +1,5 @@
 use Rattle.std.proofs.Common.{◌≡◌, map, take}
-use Rattle.blk_image.specs.Image.{Image}
+use Rattle.spec_image.specs.Image.{Image}
 use Rattle.blk_audit.specs.ReadLists.{AreListsOf}
 use Rattle.blk_audit.specs.Walking.{nodes_walked}
 use Rattle.blk_inspect.specs.Findings.{node_row_at}

@@ -1,6 +1,6 @@
 use Rattle.std.proofs.Common.{◌≡◌, ◌≤◌, map, take}
 use Rattle.std.specs.Option.{ForSome}
-use Rattle.blk_image.specs.Told.{Stays}
+use Rattle.spec_image.specs.Told.{Stays}
 use Rattle.blk_audit.specs.ReadLists.{AreListsOf}
 use Rattle.blk_inspect.specs.Findings.{record_row_at}
 use Rattle.blk_inspect.proofs.listing.record_rows.Given as goal

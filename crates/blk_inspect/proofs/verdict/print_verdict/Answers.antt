@@ -1,7 +1,7 @@
 use Rattle.std.proofs.Common.{◌++◌, length, subst}
 use Rattle.std.specs.List.{flat_map}
 use Rattle.blk_io.specs.Streams.{Appends}
-use Rattle.blk_headline.specs.Script.{totals_line}
+use Rattle.spec_run.specs.Script.{totals_line}
 use Rattle.blk_inspect.specs.Findings.{dropped_line_told}
 use Rattle.blk_inspect.specs.Texts.{kept_line}
 use Rattle.blk_inspect.proofs.Lines.{first_front, said, then_front, then_said}

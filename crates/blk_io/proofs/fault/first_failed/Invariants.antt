@@ -1,6 +1,6 @@
 use Rattle.std.proofs.Common.{◌≡◌, drop, map}
 use Rattle.std.specs.Option.{option_map}
-use Rattle.blk_image.specs.Checks.{first_of}
+use Rattle.spec_image.specs.Checks.{first_of}
 use Rattle.blk_io.specs.Faults.{damage_of}
 use Rattle.blk_io.proofs.fault.first_failed.Given as goal
 

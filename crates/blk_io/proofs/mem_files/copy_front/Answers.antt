@@ -1,6 +1,6 @@
 use Rattle.std.proofs.Common.{◌≤◌, length, take, drop, arith, ap, ◌∙◌}
 use Rattle.std.proofs.lemmas.List.{length-take-le}
-use Rattle.blk_image.proofs.Splices.{front_spliced}
+use Rattle.spec_image.proofs.Splices.{front_spliced}
 use Rattle.blk_io.proofs.mem_files.copy_front.Goals as goal
 
 pub returns-clause-front : goal.returns-clause-front

@@ -1,6 +1,6 @@
 use Rattle.std.proofs.Common.{◌≡◌, ◌-◌, ◌+◌, ◌≤◌, ℕ, List, length, take, min, sym, ap, ◌∙◌, arith}
 use Rattle.std.proofs.lemmas.List.{take_min}
-use Rattle.blk_image.specs.Bytes.{spliced}
+use Rattle.spec_image.specs.Bytes.{spliced}
 use Rattle.blk_io.proofs.Splicing.{spliced-past, spliced-take}
 use Rattle.blk_io.proofs.mem_files.copy_inside.Goals as goal
 

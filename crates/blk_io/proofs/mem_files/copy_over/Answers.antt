@@ -1,6 +1,6 @@
 use Rattle.std.proofs.Common.{◌+◌, ◌-◌, ◌++◌, ℕ, List, length, take, ◌∙◌, ap, sym, arith}
 use borrow.Rule.Slice.PartMut.{Post-is, put_mid}
-use Rattle.blk_image.proofs.Splices.{spliced-is}
+use Rattle.spec_image.proofs.Splices.{spliced-is}
 use Rattle.blk_io.proofs.mem_files.copy_over.Goals as goal
 
 pub returns : goal.returns

@@ -1,7 +1,7 @@
 use Rattle.std.proofs.Common.{take}
 use Rattle.std.specs.Option.{option_map}
 use Rattle.blk_io.specs.Files.{image_of}
-use Rattle.blk_image.specs.Order.{IsNextFile}
+use Rattle.spec_image.specs.Order.{IsNextFile}
 use Rattle.blk_io.specs.FileNames.{file_of}
 use Rattle.blk_io.proofs.mem_files.next_file.Given as goal
 

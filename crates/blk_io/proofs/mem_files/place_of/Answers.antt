@@ -1,6 +1,6 @@
 use Rattle.std.proofs.Common.{rules, ap, sym, ◌∙◌, true, false, ◌≡◌}
-use Rattle.blk_image.specs.Image.{same_file}
-use Rattle.blk_image.proofs.Images.{same_file-true, same_file-refl}
+use Rattle.spec_image.specs.Image.{same_file}
+use Rattle.spec_image.proofs.Images.{same_file-true, same_file-refl}
 use Rattle.blk_io.specs.FileNames.{file_of}
 use Rattle.blk_io.proofs.FileLists.{image_of-more}
 use Rattle.blk_io.proofs.mem_files.place_of.Goals as goal

@@ -1,5 +1,5 @@
 use Rattle.std.proofs.Common.{refl, ap, sym, ◌∙◌, ◌≡◌, ℕ, List, unwrap_or, Option, []}
-use Rattle.blk_image.specs.Image.{bytes_of}
+use Rattle.spec_image.specs.Image.{bytes_of}
 use Rattle.blk_io.specs.FileNames.{file_of}
 use Rattle.blk_io.specs.Files.{image_of}
 use Rattle.blk_io.proofs.FileLists.{place_is}

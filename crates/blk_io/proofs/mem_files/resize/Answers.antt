@@ -1,7 +1,7 @@
 use Rattle.std.proofs.Common.{ap, sym, ◌∙◌, ◌≡◌, ◌-◌, ◌++◌, ℕ, List, [], take, replicate, length, unwrap_or, Option, Some, None, refl}
 use Rattle.blk_io.specs.declared.mem_files.MemFile.{MemFile}
-use Rattle.blk_image.specs.Bytes.{zeros, resized}
-use Rattle.blk_image.specs.Image.{with_file}
+use Rattle.spec_image.specs.Bytes.{zeros, resized}
+use Rattle.spec_image.specs.Image.{with_file}
 use Rattle.blk_io.specs.FileNames.{file_of}
 use Rattle.blk_io.specs.Files.{image_of}
 use Rattle.blk_io.proofs.FileLists.{set_is, place_is, push_is, put_back, on_err_any}

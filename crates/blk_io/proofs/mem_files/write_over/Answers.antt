@@ -1,13 +1,13 @@
 use Rattle.std.proofs.Common.{ap, sym, ◌∙◌, ℕ, List, length, Option, None, Some, ◌≡◌}
-use Rattle.blk_image.specs.Bytes.{spliced}
-use Rattle.blk_image.specs.Image.{with_file}
-use Rattle.blk_image.specs.Steps.{written_over}
-use Rattle.blk_image.proofs.Images.{with_file-id}
+use Rattle.spec_image.specs.Bytes.{spliced}
+use Rattle.spec_image.specs.Image.{with_file}
+use Rattle.spec_image.specs.Steps.{written_over}
+use Rattle.spec_image.proofs.Images.{with_file-id}
 use Rattle.blk_io.specs.declared.mem_files.MemFile.{MemFile}
 use Rattle.blk_io.specs.FileNames.{file_of}
 use Rattle.blk_io.specs.Files.{image_of}
-use Rattle.blk_image.proofs.Splices.{length-spliced}
-use Rattle.blk_image.proofs.Cuts.{after-words}
+use Rattle.spec_image.proofs.Splices.{length-spliced}
+use Rattle.spec_image.proofs.Cuts.{after-words}
 use Rattle.blk_io.proofs.FileLists.{set_is, place_is, with_is}
 use Rattle.blk_io.proofs.mem_files.write_over.Goals as goal
 

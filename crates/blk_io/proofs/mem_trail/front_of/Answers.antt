@@ -1,5 +1,5 @@
 use Rattle.std.proofs.Common.{ℕ, take, ap, ◌∙◌}
-use Rattle.blk_image.specs.Steps.{words}
+use Rattle.spec_image.specs.Steps.{words}
 use Rattle.blk_io.proofs.WordCounts.{take-words}
 use Rattle.blk_io.proofs.mem_trail.front_of.Goals as goal
 

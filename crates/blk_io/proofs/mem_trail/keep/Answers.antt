@@ -1,7 +1,7 @@
 use Rattle.std.proofs.Common.{ap, sym, ◌∙◌, ◌++◌, List, Option, Some, Vec, Global}
 use Rattle.std.specs.Option.{option_map}
 use Rattle.blk_io.specs.declared.mem_trail.Change.{Change}
-use Rattle.blk_image.specs.Steps.{TrailStep}
+use Rattle.spec_image.specs.Steps.{TrailStep}
 use Rattle.blk_io.specs.Trail.{steps_of, steps_of_call, kept_steps}
 use Rattle.blk_io.proofs.Trails.{steps_of-push}
 use Rattle.blk_io.proofs.mem_trail.keep.Goals as goal

@@ -1,6 +1,6 @@
 use Rattle.std.proofs.Common.{◌≡◌, ℕ, ◌+◌, ◌-◌, ◌++◌, List, length, take, ap, sym, ◌∙◌, arith, length-append}
-use Rattle.blk_image.specs.Image.{Image}
-use Rattle.blk_image.specs.Steps.{TrailStep, image_at}
+use Rattle.spec_image.specs.Image.{Image}
+use Rattle.spec_image.specs.Steps.{TrailStep, image_at}
 use Rattle.blk_io.specs.Files.{image_of}
 use Rattle.blk_io.specs.Trail.{steps_of, steps_of_call}
 use Rattle.blk_io.proofs.Trails.{steps_of-more, image_at-append}

@@ -1,5 +1,5 @@
 use Rattle.std.proofs.Common.{◌≡◌, ◌-◌, length, take}
-use Rattle.blk_image.specs.Steps.{image_at}
+use Rattle.spec_image.specs.Steps.{image_at}
 use Rattle.blk_io.specs.Files.{image_of}
 use Rattle.blk_io.specs.Trail.{steps_of}
 use Rattle.blk_io.proofs.mem_trail.replay.Given as goal

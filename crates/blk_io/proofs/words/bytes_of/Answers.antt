@@ -1,6 +1,6 @@
 use Rattle.std.proofs.Common.{◌≡◌, ◌+◌, ◌<◌, ◌≤◌, ℕ, map, length, take, List, [], ◌∷◌, ◌++◌, get_or, set, sym, ◌∙◌, ap, arith}
 use Rattle.std.proofs.lemmas.List.{take_more, take_more_set, take_all, map-append, length-set}
-use Rattle.blk_image.specs.Bytes.{word_bytes}
+use Rattle.spec_image.specs.Bytes.{word_bytes}
 use Rattle.blk_io.proofs.words.bytes_of.Goals as goal
 
 -- one word's bytes more

@@ -1,5 +1,5 @@
 use Rattle.std.proofs.Common.{◌≡◌, length, take, map}
-use Rattle.blk_image.specs.Bytes.{word_bytes}
+use Rattle.spec_image.specs.Bytes.{word_bytes}
 use Rattle.blk_io.proofs.words.bytes_of.Given as goal
 
 abbrev pub invariant-loop-i : goal.invariant-loop-i

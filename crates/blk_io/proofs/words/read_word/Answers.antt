@@ -1,7 +1,7 @@
 use Rattle.std.proofs.Common.{◌≡◌, length, ap, ◌∙◌, arith}
 use Rattle.std.proofs.lemmas.List.{take_all}
-use Rattle.blk_image.specs.Image.{byte}
-use Rattle.blk_image.proofs.Words.{word-from_bytes, length-range}
+use Rattle.spec_image.specs.Image.{byte}
+use Rattle.spec_image.proofs.Words.{word-from_bytes, length-range}
 use Rattle.blk_io.specs.FileNames.{file_of}
 use Rattle.blk_io.proofs.words.read_word.Goals as goal
 

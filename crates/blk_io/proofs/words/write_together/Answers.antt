@@ -1,9 +1,9 @@
 use Rattle.std.proofs.Common.{◌≡◌, ◌≤◌, ◌+◌, ◌*◌, length, take, get_or, ◌∙◌, ap, subst, arith}
 use Rattle.std.proofs.lemmas.Result.{on_ok_weaker}
-use Rattle.blk_image.specs.Told.{Applies, AppliesPrefix}
+use Rattle.spec_image.specs.Told.{Applies, AppliesPrefix}
 use Rattle.std.proofs.lemmas.List.{length-map}
-use Rattle.blk_image.specs.Bytes.{word_bytes}
-use Rattle.blk_image.specs.Image.{length_of}
+use Rattle.spec_image.specs.Bytes.{word_bytes}
+use Rattle.spec_image.specs.Image.{length_of}
 use Rattle.blk_io.specs.FileNames.{file_of}
 use Rattle.blk_io.proofs.Adjoining.{words-together, together-inside}
 use Rattle.blk_io.proofs.words.write_together.Goals as goal

@@ -1,8 +1,8 @@
 use Rattle.std.proofs.Common.{subst, ap, ◌∙◌}
 use Rattle.std.proofs.lemmas.Result.{on_ok_weaker}
-use Rattle.blk_image.specs.Told.{Applies, AppliesPrefix}
-use Rattle.blk_image.specs.Steps.{words}
-use Rattle.blk_image.proofs.Cuts.{words-word}
+use Rattle.spec_image.specs.Told.{Applies, AppliesPrefix}
+use Rattle.spec_image.specs.Steps.{words}
+use Rattle.spec_image.proofs.Cuts.{words-word}
 use Rattle.blk_io.proofs.words.write_word.Goals as goal
 
 pub returns-clause-steps : goal.returns-clause-steps

@@ -1,9 +1,9 @@
 use Rattle.std.proofs.Common.{◌≡◌, ◌+◌, ◌-◌, ◌≤◌, ℕ, List, take, drop, length, get_or, sym, ◌∙◌, ap, subst, arith, All}
 use Rattle.std.proofs.lemmas.List.{length-drop, take_rest}
-use Rattle.blk_image.specs.Image.{HasRange}
+use Rattle.spec_image.specs.Image.{HasRange}
 use Rattle.blk_io.specs.FileNames.{file_of}
-use Rattle.blk_image.specs.Told.{Applies, AppliesPrefix}
-use Rattle.blk_image.proofs.Runs.{grows_then, part_then, part_only, told_part}
+use Rattle.spec_image.specs.Told.{Applies, AppliesPrefix}
+use Rattle.spec_image.proofs.Runs.{grows_then, part_then, part_only, told_part}
 use Rattle.blk_io.proofs.Adjoining.{along-words, run-more, run-split}
 use Rattle.blk_io.proofs.words.write_words.Goals as goal
 

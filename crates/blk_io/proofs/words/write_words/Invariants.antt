@@ -1,9 +1,9 @@
 use Rattle.std.proofs.Common.{take, length, ◌≤◌, ◌-◌, All}
 use Rattle.std.specs.Option.{ForSome}
-use Rattle.blk_image.specs.Image.{HasRange}
+use Rattle.spec_image.specs.Image.{HasRange}
 use Rattle.blk_io.specs.FileNames.{file_of}
-use Rattle.blk_image.specs.Told.{Applies}
-use Rattle.blk_image.specs.Steps.{word_steps}
+use Rattle.spec_image.specs.Told.{Applies}
+use Rattle.spec_image.specs.Steps.{word_steps}
 use Rattle.blk_io.proofs.words.write_words.Given as goal
 
 abbrev pub invariant-loop-start : goal.invariant-loop-start

@@ -1,10 +1,10 @@
 use Rattle.std.proofs.Common.{◌≡◌, [], None, Some, Bool, subst}
-use Rattle.blk_image.specs.Told.{Passes}
+use Rattle.spec_image.specs.Told.{Passes}
 use Rattle.blk_io.proofs.Carried.{carried}
 use Rattle.blk_model.specs.Effects.{doomed}
 use Rattle.blk_model.specs.Items.{main}
 use Rattle.blk_model.specs.State.{State}
-use Rattle.blk_volume.specs.Removal.{is_of_another}
+use Rattle.spec_folder.specs.Removal.{is_of_another}
 use Rattle.blk_object.specs.RemovingObjects.{FindsEither}
 use Rattle.blk_items.specs.DoomingObjects.{LiesAsTarget}
 use Rattle.blk_items.proofs.DoomedTargets.{alone-is, can-be-doomed, goes-alone, loads, parts-none, plain-held, plain-unheld}

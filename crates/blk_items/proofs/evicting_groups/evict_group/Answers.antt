@@ -1,7 +1,7 @@
 use Rattle.std.proofs.Common.{rules, ◌≡◌, [], ◌∷◌, None, sym, subst}
 use Rattle.std.proofs.lemmas.Result.{on_ok_weaker}
-use Rattle.blk_image.specs.Told.{Told}
-use Rattle.blk_image.proofs.Runs.{passes_stayed}
+use Rattle.spec_image.specs.Told.{Told}
+use Rattle.spec_image.proofs.Runs.{passes_stayed}
 use Rattle.blk_io.specs.Faults.{IfDamaged}
 use Rattle.blk_lru.proofs.Conditions.{told_now}
 use Rattle.blk_lru.proofs.Results.{if_ok_weaker}

@@ -1,8 +1,8 @@
 use Rattle.std.proofs.Common.{rules, ◌≡◌, [], ◌∷◌, ℕ, List, None, length, refl, ap, sym, ◌∙◌, subst, arith, true, false}
 use Rattle.std.proofs.lemmas.Bool.Decides.{nat_tests}
 use Rattle.std.proofs.lemmas.Result.{on_ok_weaker}
-use Rattle.blk_image.specs.Told.{Passes, Told}
-use Rattle.blk_image.proofs.Runs.{passes_stayed}
+use Rattle.spec_image.specs.Told.{Passes, Told}
+use Rattle.spec_image.proofs.Runs.{passes_stayed}
 use Rattle.blk_io.specs.Faults.{IfDamaged}
 use Rattle.blk_io.specs.Streams.{Appends}
 use Rattle.blk_io.proofs.Carried.{carried}

@@ -4,7 +4,7 @@ use Rattle.blk_io.specs.Streams.{Appends}
 use Rattle.blk_model.specs.Items.{part}
 use Rattle.blk_model.specs.Room.{without}
 use Rattle.blk_script.specs.Reply.{evicted_line}
-use Rattle.blk_format.specs.Names.{read_name}
+use Rattle.spec_format.specs.Names.{read_name}
 use Rattle.blk_ranges.specs.ChildNames.{name_within}
 use Rattle.blk_ranges.specs.declared.names.ChildName.{ChildName}
 use Rattle.blk_chain.proofs.Heads.{names-parts}

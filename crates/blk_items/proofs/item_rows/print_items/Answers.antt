@@ -1,7 +1,7 @@
 use Rattle.std.proofs.Common.{rules, inl, IsTrue, ◌≡◌, ◌∙◌, None, Some, Option, ℕ, true, false, refl, sym, ap, subst, arith}
 use Rattle.std.specs.Prelude.{IfSome}
 use Rattle.std.proofs.lemmas.Result.{on_ok_weaker}
-use Rattle.blk_image.specs.Told.{Told}
+use Rattle.spec_image.specs.Told.{Told}
 use Rattle.blk_io.specs.Faults.{IfDamaged}
 use Rattle.blk_io.proofs.Carried.{carried, if_damaged_weaker, untold_where}
 use Rattle.blk_record.specs.declared.node.TheConstants.NodeView as NodeView

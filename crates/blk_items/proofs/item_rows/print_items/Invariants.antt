@@ -1,6 +1,6 @@
 use Rattle.std.proofs.Common.{◌≤◌, IfSome, IsTrue, None, length}
 use Rattle.std.specs.Option.{ForSome}
-use Rattle.blk_image.specs.Told.{Stays}
+use Rattle.spec_image.specs.Told.{Stays}
 use Rattle.blk_disk.specs.Tables.{is_node_among}
 use Rattle.blk_record.specs.declared.node.TheConstants.NodeView as NodeView
 use Rattle.blk_entry.specs.Keys.{most_key}

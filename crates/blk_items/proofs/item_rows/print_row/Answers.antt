@@ -1,9 +1,9 @@
 use Rattle.std.proofs.Common.{◌≡◌, ◌∙◌, None, Some, sym, ap, subst}
 use Rattle.std.proofs.lemmas.Result.{on_ok_weaker}
-use Rattle.blk_image.specs.Told.{Told}
+use Rattle.spec_image.specs.Told.{Told}
 use Rattle.blk_io.specs.Faults.{IfDamaged}
 use Rattle.blk_io.proofs.Carried.{carried, if_damaged_weaker, untold_where}
-use Rattle.blk_format.specs.Names.{read_name}
+use Rattle.spec_format.specs.Names.{read_name}
 use Rattle.blk_object.proofs.DamageChecks.{handed, head-checked, moved, part-checked, whole-key, within-checked}
 use Rattle.blk_object.proofs.OwnedPlaces.{loaded-checks}
 use Rattle.blk_object.specs.FailedChecks.{WrongName}

@@ -1,10 +1,10 @@
 use Rattle.std.proofs.Common.{◌≡◌, false, None, Option, Some, refl, sym, ◌∙◌, ap, subst}
-use Rattle.blk_image.specs.Told.{Told}
+use Rattle.spec_image.specs.Told.{Told}
 use Rattle.blk_io.proofs.Carried.{carried, if_damaged_weaker}
 use Rattle.blk_chain.specs.declared.found.Found.{Found}
 use Rattle.blk_chain.specs.Finding.{IsAnswer, IsFound}
-use Rattle.blk_volume.specs.View.{view_of}
-use Rattle.blk_laws.proofs.chains.Searches.{none-missing}
+use Rattle.spec_folder.specs.View.{view_of}
+use Rattle.law_folder.proofs.chains.Searches.{none-missing}
 use Rattle.blk_items.specs.Looking.{KeepsSomeState}
 use Rattle.blk_items.proofs.Looks.{can-search, found-loads, found-is-live, found-names}
 use Rattle.blk_items.proofs.looking.find_live.Goals as goal

@@ -1,6 +1,6 @@
 use Rattle.std.proofs.Common.{◌≡◌, ◌+◌, true, false, None, inr, refl, sym, ◌∙◌, subst, ℕ}
-use Rattle.blk_image.specs.Image.{Block as block, word}
-use Rattle.blk_format.specs.Address.{file_selector, place}
+use Rattle.spec_image.specs.Image.{Block as block, word}
+use Rattle.spec_format.specs.Address.{file_selector, place}
 use Rattle.blk_io.proofs.Carried.{untold_where, carried}
 use Rattle.blk_disk.specs.Tables.{is_node_among}
 use Rattle.blk_entry.specs.Keys.{node_place}

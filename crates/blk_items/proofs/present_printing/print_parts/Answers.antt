@@ -2,7 +2,7 @@ use Rattle.std.proofs.Common.{◌≡◌, ◌+◌, ℕ, List, None, Option, Some,
 use Rattle.std.specs.Prelude.{IfSome}
 use Rattle.std.proofs.lemmas.Result.{on_ok_weaker}
 use Rattle.blk_model.specs.Reply.{gave}
-use Rattle.blk_format.specs.Address.{blocks_256, kind_of}
+use Rattle.spec_format.specs.Address.{blocks_256, kind_of}
 use Rattle.blk_disk.specs.Tables.{is_record_among, stands_among}
 use Rattle.blk_script.specs.Reply.{reply_text}
 use Rattle.blk_items.specs.RoomPrinting.{Prints, PrintsInPart}

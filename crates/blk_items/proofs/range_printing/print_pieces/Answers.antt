@@ -1,5 +1,5 @@
 use Rattle.std.proofs.Common.{◌≡◌, true, false, None, refl, sym, ◌∙◌, ap, arith}
-use Rattle.blk_image.specs.Told.{Told}
+use Rattle.spec_image.specs.Told.{Told}
 use Rattle.blk_io.proofs.Carried.{carried, if_damaged_weaker}
 use Rattle.blk_items.proofs.PrintedRanges.{a-piece, all-printed, none-yet, one-more, some-printed}
 use Rattle.blk_items.proofs.RoomTexts.{faults-on, part-whole}

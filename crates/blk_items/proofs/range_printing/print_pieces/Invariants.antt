@@ -1,7 +1,7 @@
 use Rattle.std.proofs.Common.{◌≤◌, ◌-◌, take}
 use Rattle.std.specs.Option.{ForSome}
 use Rattle.hex.specs.Hex.{encode_lower}
-use Rattle.blk_image.specs.Told.{Stays}
+use Rattle.spec_image.specs.Told.{Stays}
 use Rattle.blk_items.specs.RangePrinting.{HasBytes}
 use Rattle.blk_items.specs.RoomPrinting.{FailsWhereItRose, Prints}
 use Rattle.blk_items.proofs.range_printing.print_pieces.Given as goal

@@ -2,10 +2,10 @@ use Rattle.std.proofs.Common.{◌≡◌, Some, map, sym, ap, ◌∙◌, subst, t
 use Rattle.std.specs.Prelude.{OnOk}
 use Rattle.std.specs.Option.{ForSome}
 use Rattle.std.proofs.lemmas.Result.{on_ok_weaker}
-use Rattle.blk_volume.specs.ListPlans.{writes_of}
-use Rattle.blk_volume.specs.View.{list_of}
-use Rattle.blk_volume.specs.ListImages.{CanBeMade}
-use Rattle.blk_laws.proofs.lists.WriteWords.{Each, Good, each_nodes, each_words}
+use Rattle.spec_folder.specs.ListPlans.{writes_of}
+use Rattle.spec_folder.specs.View.{list_of}
+use Rattle.spec_folder.specs.ListImages.{CanBeMade}
+use Rattle.law_folder.proofs.lists.WriteWords.{Each, Good, each_nodes, each_words}
 use Rattle.blk_disk.specs.Tables.{is_node_among}
 use Rattle.blk_lru.specs.declared.plans.Operation.TheVariants as operations
 use Rattle.blk_lru.specs.Plans.{whole_plan}
@@ -13,7 +13,7 @@ use Rattle.blk_lru.specs.Writes.{meant}
 use Rattle.blk_lru.proofs.Operating.{checked_as, part_as, untold_as, whole_as}
 use Rattle.blk_lru.proofs.PlanNodes.{whole_good}
 use Rattle.blk_lru.proofs.PlanWords.{whole_is}
-use Rattle.blk_laws.proofs.lists.WordTurns.{moves-can}
+use Rattle.law_folder.proofs.lists.WordTurns.{moves-can}
 use Rattle.blk_lru.proofs.Beside.{move_linked}
 use Rattle.blk_lru.proofs.Conditions.{around, told_stays}
 use Rattle.blk_lru.proofs.changing.move_behind.Given as given

@@ -3,14 +3,14 @@ use Rattle.std.specs.Prelude.{◌==◌}
 use Rattle.std.specs.Option.{option_eq, ForSome}
 use Rattle.std.proofs.lemmas.Bool.{eq-eqb, eqb-true, ne_eqb}
 use Rattle.std.proofs.lemmas.Result.{on_ok_weaker}
-use Rattle.blk_image.specs.Image.{Image}
-use Rattle.blk_image.specs.Told.{Told, Applies, AppliesPrefix}
-use Rattle.blk_image.proofs.Runs.{grows_none}
-use Rattle.blk_volume.specs.ListPlans.{touch_writes, writes_of}
-use Rattle.blk_volume.specs.ListView.{ListView, ListWrite}
-use Rattle.blk_volume.specs.View.{list_of}
-use Rattle.blk_volume.specs.ListImages.{CanBeMade}
-use Rattle.blk_volume.specs.ListSteps.{steps_of_writes}
+use Rattle.spec_image.specs.Image.{Image}
+use Rattle.spec_image.specs.Told.{Told, Applies, AppliesPrefix}
+use Rattle.spec_image.proofs.Runs.{grows_none}
+use Rattle.spec_folder.specs.ListPlans.{touch_writes, writes_of}
+use Rattle.spec_folder.specs.ListView.{ListView, ListWrite}
+use Rattle.spec_folder.specs.View.{list_of}
+use Rattle.spec_folder.specs.ListImages.{CanBeMade}
+use Rattle.spec_folder.specs.ListSteps.{steps_of_writes}
 use Rattle.blk_io.proofs.Carried.{carried}
 use Rattle.blk_io.specs.Faults.{IfDamaged}
 use Rattle.blk_disk.specs.declared.tables.BlockFiles.{BlockFiles}

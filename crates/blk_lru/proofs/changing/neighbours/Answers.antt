@@ -1,8 +1,8 @@
 use Rattle.std.proofs.Common.{◌≡◌, None, subst, sym, ◌∙◌}
-use Rattle.blk_image.specs.Told.{Told}
+use Rattle.spec_image.specs.Told.{Told}
 use Rattle.blk_io.proofs.Carried.{carried}
 use Rattle.blk_io.specs.Faults.{IfDamaged}
-use Rattle.blk_volume.specs.View.{list_of}
+use Rattle.spec_folder.specs.View.{list_of}
 use Rattle.blk_disk.specs.Tables.{Agrees}
 use Rattle.blk_lru.proofs.Conditions.{next_names, prev_names, told_before, told_now, told_stays}
 use Rattle.blk_lru.proofs.NodeWords.{stands_as_node, next_link, prev_link}

@@ -2,14 +2,14 @@ use Rattle.std.proofs.Common.{◌≡◌, List, ◌∷◌, ◌++◌, Some, map, s
 use Rattle.std.specs.Prelude.{OnOk}
 use Rattle.std.specs.Option.{ForSome}
 use Rattle.std.proofs.lemmas.Result.{on_ok_weaker}
-use Rattle.blk_volume.specs.ListView.{ListWrite}
-use Rattle.blk_volume.specs.ListPlans.{writes_of}
-use Rattle.blk_volume.specs.View.{list_of}
-use Rattle.blk_volume.specs.ListImages.{CanBeMade, HasListAtRest}
-use Rattle.blk_volume.specs.ListSteps.{Seals, steps_of_writes}
-use Rattle.blk_laws.proofs.updates.Sealing.{writes_seal}
-use Rattle.blk_laws.proofs.lists.WriteSteps.{quiet-writes, writes-in_turn}
-use Rattle.blk_laws.proofs.lists.WriteWords.{Each, Good, each_nodes, each_words}
+use Rattle.spec_folder.specs.ListView.{ListWrite}
+use Rattle.spec_folder.specs.ListPlans.{writes_of}
+use Rattle.spec_folder.specs.View.{list_of}
+use Rattle.spec_folder.specs.ListImages.{CanBeMade, HasListAtRest}
+use Rattle.spec_folder.specs.ListSteps.{Seals, steps_of_writes}
+use Rattle.law_folder.proofs.updates.Sealing.{writes_seal}
+use Rattle.law_folder.proofs.lists.WriteSteps.{quiet-writes, writes-in_turn}
+use Rattle.law_folder.proofs.lists.WriteWords.{Each, Good, each_nodes, each_words}
 use Rattle.blk_disk.specs.Tables.{is_node_among}
 use Rattle.blk_lru.specs.declared.plans.Operation.TheVariants as operations
 use Rattle.blk_lru.specs.Moments.{IsMidOperation}
@@ -21,8 +21,8 @@ use Rattle.blk_lru.proofs.Performing.{IsReady, ready_writable, told_ready}
 use Rattle.blk_lru.proofs.PlanNodes.{whole_good}
 use Rattle.blk_lru.proofs.PlanWords.{whole_is}
 use Rattle.blk_lru.proofs.Results.{on_ok_both}
-use Rattle.blk_laws.proofs.lists.AtRest.{removals-turn}
-use Rattle.blk_laws.proofs.lists.WordTurns.{removals-can, removals-rest}
+use Rattle.law_folder.proofs.lists.AtRest.{removals-turn}
+use Rattle.law_folder.proofs.lists.WordTurns.{removals-can, removals-rest}
 use Rattle.blk_lru.proofs.Beside.{removal_linked}
 use Rattle.blk_lru.proofs.Conditions.{around, told_stays}
 use Rattle.blk_lru.proofs.changing.remove.Given as given

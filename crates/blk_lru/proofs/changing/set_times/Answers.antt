@@ -1,9 +1,9 @@
 use Rattle.std.proofs.Common.{inl}
 use Rattle.std.proofs.lemmas.Result.{on_ok_weaker}
-use Rattle.blk_laws.proofs.updates.NodeRecords.{record_checks}
-use Rattle.blk_laws.proofs.lists.WordTurns.{times_are}
-use Rattle.blk_format.specs.Sealed.{sealed_steps}
-use Rattle.blk_volume.specs.ListSteps.{times_of}
+use Rattle.law_folder.proofs.updates.NodeRecords.{record_checks}
+use Rattle.law_folder.proofs.lists.WordTurns.{times_are}
+use Rattle.spec_format.specs.Sealed.{sealed_steps}
+use Rattle.spec_folder.specs.ListSteps.{times_of}
 use Rattle.blk_lru.proofs.FailedChecks.{short_or_unsealed}
 use Rattle.blk_lru.proofs.Kept.{kept_sealed}
 use Rattle.blk_lru.proofs.NodeRecords.{checks_back}

@@ -2,19 +2,19 @@ use Rattle.std.proofs.Common.{arith, ◌≡◌, ℕ, Bool, List, ◌∷◌, ◌+
 use Rattle.std.specs.Prelude.{OnOk}
 use Rattle.std.specs.Option.{ForSome, option_map}
 use Rattle.std.proofs.lemmas.Result.{on_ok_weaker}
-use Rattle.blk_image.specs.Image.{Image}
-use Rattle.blk_image.specs.Steps.{after}
-use Rattle.blk_image.specs.Told.{Told, AppliesPrefix, Passes}
-use Rattle.blk_image.proofs.Runs.{grows_then, part_only, part_then}
-use Rattle.blk_volume.specs.ListPlans.{touch_writes}
-use Rattle.blk_volume.specs.ListView.{ListWrite}
-use Rattle.blk_volume.specs.View.{list_of}
-use Rattle.blk_volume.specs.ListSteps.{AreTimes, IsSealed, Seals, steps_of_writes}
-use Rattle.blk_volume.specs.ListImages.{IsWritable, HasListAtRest, steps_of_touch}
-use Rattle.blk_laws.proofs.lists.AtRest.{touches-turn}
-use Rattle.blk_laws.proofs.updates.Sealing.{touch_seals}
-use Rattle.blk_laws.proofs.lists.WriteSteps.{still_check, writes_show}
-use Rattle.blk_laws.proofs.lists.WordTurns.{still_checks, touch_quiet, touch_times, touches-can, touches-in_turn, touches-rest}
+use Rattle.spec_image.specs.Image.{Image}
+use Rattle.spec_image.specs.Steps.{after}
+use Rattle.spec_image.specs.Told.{Told, AppliesPrefix, Passes}
+use Rattle.spec_image.proofs.Runs.{grows_then, part_only, part_then}
+use Rattle.spec_folder.specs.ListPlans.{touch_writes}
+use Rattle.spec_folder.specs.ListView.{ListWrite}
+use Rattle.spec_folder.specs.View.{list_of}
+use Rattle.spec_folder.specs.ListSteps.{AreTimes, IsSealed, Seals, steps_of_writes}
+use Rattle.spec_folder.specs.ListImages.{IsWritable, HasListAtRest, steps_of_touch}
+use Rattle.law_folder.proofs.lists.AtRest.{touches-turn}
+use Rattle.law_folder.proofs.updates.Sealing.{touch_seals}
+use Rattle.law_folder.proofs.lists.WriteSteps.{still_check, writes_show}
+use Rattle.law_folder.proofs.lists.WordTurns.{still_checks, touch_quiet, touch_times, touches-can, touches-in_turn, touches-rest}
 use Rattle.blk_disk.specs.declared.tables.BlockFiles.{BlockFiles}
 use Rattle.blk_lru.specs.Moments.{IsMidTouch}
 use Rattle.blk_lru.specs.Lists.{CanBeTouched}

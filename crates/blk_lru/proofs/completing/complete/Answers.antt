@@ -2,16 +2,16 @@ use Rattle.std.proofs.Common.{◌≡◌, ◌∙◌, List, map, sym, ap, subst, t
 use Rattle.std.specs.Prelude.{OnOk}
 use Rattle.std.specs.Option.{ForSome}
 use Rattle.std.proofs.lemmas.Result.{on_ok_weaker}
-use Rattle.blk_image.specs.Image.{Image}
-use Rattle.blk_image.specs.Steps.{after}
-use Rattle.blk_volume.specs.ListView.{ListWrite}
-use Rattle.blk_volume.specs.View.{list_of}
-use Rattle.blk_volume.specs.ListPlans.{completion_writes}
-use Rattle.blk_volume.specs.ListSteps.{AreOf, AllWriteWords, Seals}
-use Rattle.blk_volume.specs.ListImages.{IsCompleted, completion_steps}
-use Rattle.blk_laws.proofs.updates.Sealing.{writes_seal}
-use Rattle.blk_laws.proofs.lists.WordStops.{completions-can, completions-done}
-use Rattle.blk_laws.proofs.lists.WriteSteps.{quiet-writes, writes-in_turn}
+use Rattle.spec_image.specs.Image.{Image}
+use Rattle.spec_image.specs.Steps.{after}
+use Rattle.spec_folder.specs.ListView.{ListWrite}
+use Rattle.spec_folder.specs.View.{list_of}
+use Rattle.spec_folder.specs.ListPlans.{completion_writes}
+use Rattle.spec_folder.specs.ListSteps.{AreOf, AllWriteWords, Seals}
+use Rattle.spec_folder.specs.ListImages.{IsCompleted, completion_steps}
+use Rattle.law_folder.proofs.updates.Sealing.{writes_seal}
+use Rattle.law_folder.proofs.lists.WordStops.{completions-can, completions-done}
+use Rattle.law_folder.proofs.lists.WriteSteps.{quiet-writes, writes-in_turn}
 use Rattle.blk_disk.specs.Tables.{is_node_among}
 use Rattle.blk_lru.specs.Moments.{IsMidCompletion}
 use Rattle.blk_lru.specs.Writes.{meant}

@@ -1,5 +1,5 @@
 use Rattle.std.proofs.Common.{◌∙◌, Option, refl, sym, subst}
-use Rattle.blk_volume.specs.View.{list_of}
+use Rattle.spec_folder.specs.View.{list_of}
 use Rattle.blk_lru.specs.declared.nodes.Links.{Links}
 use Rattle.blk_lru.specs.Nodes.{list_among, FindsNode}
 use Rattle.blk_lru.proofs.Conditions.{told_before, told_now, untold_last, untold_on}
@@ -7,7 +7,7 @@ use Rattle.blk_lru.proofs.Flights.{bad_in_flight, good_in_flight}
 use Rattle.blk_lru.proofs.Counting.{node_bad}
 use Rattle.blk_lru.proofs.completing.in_flight.Goals as goal
 use Rattle.std.proofs.lemmas.Result.{on_ok_weaker}
-use Rattle.blk_format.specs.Headers.{HasWholeIndex}
+use Rattle.spec_format.specs.Headers.{HasWholeIndex}
 use Rattle.blk_disk.specs.Open.{IsOpen}
 use Rattle.blk_disk.specs.Tables.{Agrees}
 

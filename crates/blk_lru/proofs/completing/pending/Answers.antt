@@ -1,11 +1,11 @@
 use Rattle.std.proofs.Common.{rules, ◌≡◌, ◌∙◌, ℕ, Option, Some, ap, map, true, refl, sym, subst}
 use Rattle.std.proofs.lemmas.Bool.{eq-eqb, ne_eqb}
-use Rattle.blk_image.specs.Image.{Image}
-use Rattle.blk_volume.specs.ListView.{ListView}
-use Rattle.blk_volume.specs.View.{list_of}
-use Rattle.blk_volume.specs.ListSteps.{AreOf, AllWriteWords}
-use Rattle.blk_laws.proofs.lists.ListCompletions.{completion_false, completion_none}
-use Rattle.blk_laws.proofs.lists.WriteWords.{Each, Good, each_nodes, each_words}
+use Rattle.spec_image.specs.Image.{Image}
+use Rattle.spec_folder.specs.ListView.{ListView}
+use Rattle.spec_folder.specs.View.{list_of}
+use Rattle.spec_folder.specs.ListSteps.{AreOf, AllWriteWords}
+use Rattle.law_folder.proofs.lists.ListCompletions.{completion_false, completion_none}
+use Rattle.law_folder.proofs.lists.WriteWords.{Each, Good, each_nodes, each_words}
 use Rattle.blk_disk.specs.declared.tables.BlockFiles.{BlockFiles}
 use Rattle.blk_disk.specs.Tables.{Agrees, is_node_among}
 use Rattle.blk_lru.specs.declared.completing.InFlight.{InFlight}
@@ -15,7 +15,7 @@ use Rattle.blk_lru.specs.Writes.{meant}
 use Rattle.blk_lru.proofs.Conditions.{told_before, told_now, untold_on}
 use Rattle.blk_lru.specs.Nodes.{list_among}
 use Rattle.blk_lru.proofs.Flights.{among_is, none_in_flight}
-use Rattle.blk_format.specs.Headers.{HasWholeIndex}
+use Rattle.spec_format.specs.Headers.{HasWholeIndex}
 use Rattle.blk_lru.proofs.Counting.{found_writes}
 use Rattle.blk_lru.proofs.PlanNodes.{pending_good}
 use Rattle.blk_lru.proofs.completing.pending.Given as given

@@ -1,8 +1,8 @@
 use Rattle.std.proofs.Common.{◌∙◌, Option, refl, sym, subst}
-use Rattle.blk_volume.specs.View.{list_of}
+use Rattle.spec_folder.specs.View.{list_of}
 use Rattle.blk_disk.specs.Open.{IsOpen}
 use Rattle.blk_disk.specs.Tables.{Agrees}
-use Rattle.blk_format.specs.Headers.{HasWholeIndex}
+use Rattle.spec_format.specs.Headers.{HasWholeIndex}
 use Rattle.blk_lru.specs.declared.nodes.Links.{Links}
 use Rattle.blk_lru.specs.Nodes.{list_among, FindsNode}
 use Rattle.blk_lru.proofs.Conditions.{told_now, untold_on}

@@ -1,11 +1,11 @@
 use Rattle.std.proofs.Common.{◌≡◌, ◌∙◌, List, map, sym, ap, subst, true, rules}
 use Rattle.std.specs.Option.{ForSome}
 use Rattle.std.proofs.lemmas.Result.{on_ok_weaker}
-use Rattle.blk_volume.specs.ListView.{ListWrite}
-use Rattle.blk_volume.specs.View.{list_of}
-use Rattle.blk_volume.specs.ListPlans.{ending_writes}
-use Rattle.blk_volume.specs.ListSteps.{AreOf, AllWriteWords, Seals, steps_of_writes}
-use Rattle.blk_laws.proofs.updates.Sealing.{writes_seal}
+use Rattle.spec_folder.specs.ListView.{ListWrite}
+use Rattle.spec_folder.specs.View.{list_of}
+use Rattle.spec_folder.specs.ListPlans.{ending_writes}
+use Rattle.spec_folder.specs.ListSteps.{AreOf, AllWriteWords, Seals, steps_of_writes}
+use Rattle.law_folder.proofs.updates.Sealing.{writes_seal}
 use Rattle.blk_disk.specs.Open.{IsOpen}
 use Rattle.blk_disk.specs.Tables.{is_node_among}
 use Rattle.blk_lru.specs.Writes.{meant}

@@ -1,7 +1,7 @@
 use Rattle.std.proofs.Common.{◌∙◌, ap, ap₂}
-use Rattle.blk_image.specs.Told.{Told}
-use Rattle.blk_volume.specs.ListPlans.{ending_by}
-use Rattle.blk_volume.specs.View.{list_of}
+use Rattle.spec_image.specs.Told.{Told}
+use Rattle.spec_folder.specs.ListPlans.{ending_by}
+use Rattle.spec_folder.specs.View.{list_of}
 use Rattle.blk_lru.proofs.ending.ending_of.Goals as goal
 
 pub returns-clause-plan : goal.returns-clause-plan

@@ -1,7 +1,7 @@
 use Rattle.std.proofs.Common.{◌≡◌, ◌∙◌, ℕ, Option, sym, ap, subst, true}
 use Rattle.std.specs.Option.{IfSome}
-use Rattle.blk_volume.specs.ListPlans.{front_of}
-use Rattle.blk_volume.specs.View.{list_of}
+use Rattle.spec_folder.specs.ListPlans.{front_of}
+use Rattle.spec_folder.specs.View.{list_of}
 use Rattle.blk_disk.specs.Tables.{is_node_among}
 use Rattle.blk_lru.proofs.NodeWords.{stands_as_node, next_link}
 use Rattle.blk_lru.proofs.Results.{if_ok_weaker}

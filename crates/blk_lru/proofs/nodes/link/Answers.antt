@@ -1,13 +1,13 @@
 use Rattle.blk_disk.specs.Tables.{is_node_among}
 use Rattle.blk_disk.specs.Damages.{NamesNoNode}
 use Rattle.std.proofs.Common.{rules, inr, ⊎_elim, ◌≡◌, ◌+◌, ◌*◌, ◌≤◌, ◌∙◌, sym, ap, ap₂, arith, ℕ, true, false}
-use Rattle.blk_format.specs.Address.{place, byte_size}
+use Rattle.spec_format.specs.Address.{place, byte_size}
 use Rattle.blk_lru.specs.Nodes.{link_at}
 use Rattle.blk_disk.proofs.Ranges.{name_is, stands_blocky}
 use Rattle.blk_lru.proofs.NodeWords.{node_kind, node_stands, node_room, node_place}
 use Rattle.blk_lru.proofs.LinkReads.{read_link, dangling_untold}
 use Rattle.blk_io.specs.declared.folder.FileId.TheVariants as names
-use Rattle.blk_format.specs.Address.{file_selector}
+use Rattle.spec_format.specs.Address.{file_selector}
 use Rattle.blk_lru.proofs.nodes.link.Given as given
 use Rattle.blk_lru.proofs.nodes.link.Goals as goal
 

@@ -1,5 +1,5 @@
 use Rattle.std.proofs.Common.{⊎_elim, ◌≡◌, ◌+◌, ◌≤◌, arith}
-use Rattle.blk_format.specs.Address.{byte_size}
+use Rattle.spec_format.specs.Address.{byte_size}
 use Rattle.blk_lru.proofs.NodeWords.{node_kind, node_stands, node_room}
 use Rattle.blk_lru.proofs.LinkReads.{read_link}
 use Rattle.blk_lru.proofs.nodes.link_word.Goals as goal

@@ -1,7 +1,7 @@
 use Rattle.std.proofs.Common.{◌≡◌, ℕ, [], ◌∷◌, Option, ap, ap₂, sym, ◌∙◌, subst, true}
-use Rattle.blk_format.specs.Address.{is_address}
-use Rattle.blk_volume.specs.Completion.{putting_in_front}
-use Rattle.blk_volume.specs.ListView.{Next, Prev, Head, Tail}
+use Rattle.spec_format.specs.Address.{is_address}
+use Rattle.spec_folder.specs.Completion.{putting_in_front}
+use Rattle.spec_folder.specs.ListView.{Next, Prev, Head, Tail}
 use Rattle.blk_lru.specs.Plans.{word_or_zero}
 use Rattle.blk_lru.proofs.PlanWords.{added, front_none, front_some, none_word}
 use Rattle.blk_lru.proofs.plans.put_front.Goals as goal

@@ -1,6 +1,6 @@
 use Rattle.std.proofs.Common.{◌≡◌, ◌∙◌, sym, ap, ℕ, if◌then◌else◌, None, Some}
 use Rattle.std.specs.Prelude.{◌==◌}
-use Rattle.blk_volume.specs.View.{list_of}
+use Rattle.spec_folder.specs.View.{list_of}
 use Rattle.blk_io.proofs.Carried.{carried}
 use Rattle.blk_lru.proofs.Conditions.{prev_names}
 use Rattle.blk_lru.proofs.Listed.{linked}

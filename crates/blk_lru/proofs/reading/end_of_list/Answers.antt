@@ -1,6 +1,6 @@
 use Rattle.blk_disk.specs.Tables.{is_node_among}
 use Rattle.std.proofs.Common.{rules, ⊎_elim, ◌≡◌, ◌∙◌, sym, ap, true, false}
-use Rattle.blk_image.specs.Image.{Index, word}
+use Rattle.spec_image.specs.Image.{Index, word}
 use Rattle.blk_lru.specs.Nodes.{IsNodeOrNone}
 use Rattle.blk_lru.proofs.LinkReads.{dangling_untold}
 use Rattle.blk_lru.proofs.reading.end_of_list.Goals as goal

@@ -1,5 +1,5 @@
 use Rattle.std.proofs.Common.{◌∙◌, ap}
-use Rattle.blk_volume.specs.View.{list_of}
+use Rattle.spec_folder.specs.View.{list_of}
 use Rattle.blk_lru.specs.Plans.{word_or_zero}
 use Rattle.blk_lru.proofs.Listed.{tail_names, tail_checks, word_back}
 use Rattle.blk_lru.proofs.NodeWords.{names_or_zero}

@@ -1,6 +1,6 @@
 use Rattle.blk_disk.specs.Tables.{is_node_among}
 use Rattle.std.proofs.Common.{◌≡◌, ◌∷◌, [], ◌+◌, List, None, drop, map, sym, subst, true, refl, arith, rules}
-use Rattle.blk_volume.specs.ListView.{ListWrite}
+use Rattle.spec_folder.specs.ListView.{ListWrite}
 use Rattle.blk_io.proofs.Carried.{carried}
 use Rattle.blk_lru.specs.Writes.{meant}
 use Rattle.blk_lru.proofs.FailedChecks.{if_damaged_weaker}

@@ -1,6 +1,6 @@
 use Rattle.std.proofs.Common.{inl, ⊎_elim, ◌≡◌, arith, refl, ◌<◌, ◌%◌}
 use Rattle.std.proofs.lemmas.Result.{on_ok_weaker}
-use Rattle.blk_laws.proofs.updates.NodeRecords.{record_checks, one_change}
+use Rattle.law_folder.proofs.updates.NodeRecords.{record_checks, one_change}
 use Rattle.blk_lru.proofs.FailedChecks.{short_or_unsealed}
 use Rattle.blk_lru.proofs.NodeRecords.{checks_back}
 use Rattle.blk_lru.proofs.NodeWords.{node_kind, node_stands}

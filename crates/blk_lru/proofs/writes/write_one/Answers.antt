@@ -2,9 +2,9 @@ use Rattle.std.proofs.Common.{◌≡◌, ◌∷◌, [], sym, subst, true}
 use Rattle.std.specs.Prelude.{OnOk}
 use Rattle.std.specs.Option.{ForSome}
 use Rattle.std.proofs.lemmas.Result.{on_ok_weaker}
-use Rattle.blk_image.specs.Told.{Applies}
-use Rattle.blk_volume.specs.View.{list_of}
-use Rattle.blk_volume.specs.ListSteps.{AreOf, write_steps}
+use Rattle.spec_image.specs.Told.{Applies}
+use Rattle.spec_folder.specs.View.{list_of}
+use Rattle.spec_folder.specs.ListSteps.{AreOf, write_steps}
 use Rattle.blk_lru.specs.declared.writes.Write.{Write}
 use Rattle.blk_lru.specs.Writes.{meant}
 use Rattle.blk_lru.proofs.writes.write_one.Goals as goal

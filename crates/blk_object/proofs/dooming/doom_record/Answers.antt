@@ -1,7 +1,7 @@
 use Rattle.std.proofs.Common.{inr, sym, subst, ◌∙◌}
 use Rattle.std.proofs.lemmas.Result.{on_ok_weaker}
-use Rattle.blk_image.proofs.Runs.{passes_weaker, some_inj}
-use Rattle.blk_format.specs.Sealed.{RecordChecks, sealed_steps}
+use Rattle.spec_image.proofs.Runs.{passes_weaker, some_inj}
+use Rattle.spec_format.specs.Sealed.{RecordChecks, sealed_steps}
 use Rattle.blk_lru.proofs.Kept.{kept_sealed}
 use Rattle.blk_lru.proofs.Performing.{part_kept}
 use Rattle.blk_object.specs.Dooming.{doomed_change}

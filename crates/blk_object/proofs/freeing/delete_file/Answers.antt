@@ -1,13 +1,13 @@
 use Rattle.std.proofs.Common.{◌≡◌, inr, refl, subst, sym, ◌∙◌, true}
 use Rattle.std.proofs.lemmas.Result.{on_ok_weaker}
-use Rattle.blk_image.proofs.Runs.{passes_end, passes_weaker, some_inj}
-use Rattle.blk_image.specs.Image.{Index}
-use Rattle.blk_format.specs.Address.{external_number}
-use Rattle.blk_format.specs.BlockFiles.{stands_in, IsWellFormed}
+use Rattle.spec_image.proofs.Runs.{passes_end, passes_weaker, some_inj}
+use Rattle.spec_image.specs.Image.{Index}
+use Rattle.spec_format.specs.Address.{external_number}
+use Rattle.spec_format.specs.BlockFiles.{stands_in, IsWellFormed}
 use Rattle.blk_io.proofs.Carried.{silent_part}
 use Rattle.blk_object.proofs.KeptExternalFiles.{deletions-remove}
 use Rattle.blk_stream.proofs.PlacesFreed.{agrees_deleted}
-use Rattle.blk_image.specs.Footprint.{whole}
+use Rattle.spec_image.specs.Footprint.{whole}
 use Rattle.blk_external.specs.Changes.{ChangesExternal}
 use Rattle.blk_external.specs.Numbers.{named_file}
 use Rattle.blk_object.proofs.FreeingRuns.{still-open}

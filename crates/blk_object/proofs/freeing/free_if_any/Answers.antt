@@ -1,5 +1,5 @@
 use Rattle.std.proofs.lemmas.Result.{on_ok_weaker}
-use Rattle.blk_image.proofs.Runs.{passes_weaker}
+use Rattle.spec_image.proofs.Runs.{passes_weaker}
 use Rattle.blk_stream.proofs.PlacesLeft.{told_back}
 use Rattle.blk_object.specs.Freeing.{IsPlaceGoing}
 use Rattle.blk_object.proofs.FreedPlaces.{first-may, one-freed, one-going, one-may}

@@ -1,8 +1,8 @@
 use Rattle.std.proofs.Common.{◌≢◌, false, inl, refl, sym, ◌∙◌}
 use Rattle.std.proofs.lemmas.Result.{on_ok_weaker}
-use Rattle.blk_image.specs.Image.{Index}
-use Rattle.blk_image.proofs.Runs.{passes_end, passes_weaker}
-use Rattle.blk_format.specs.Address.{external, kind_of}
+use Rattle.spec_image.specs.Image.{Index}
+use Rattle.spec_image.proofs.Runs.{passes_end, passes_weaker}
+use Rattle.spec_format.specs.Address.{external, kind_of}
 use Rattle.blk_entry.proofs.KeyPlaces.{of_other}
 use Rattle.blk_object.proofs.KeptFreeing.{frees-remove, frees-stay}
 use Rattle.blk_alloc.specs.Owning.{FreesOrStops}

@@ -1,5 +1,5 @@
 use Rattle.std.proofs.Common.{◌≡◌, ◌≢◌, ℕ, ◌+◌, ◌*◌, ap₂, refl, ◌∙◌}
-use Rattle.blk_format.specs.Address.{external, kind_of, place}
+use Rattle.spec_format.specs.Address.{external, kind_of, place}
 use Rattle.blk_disk.proofs.Ranges.{name_is}
 use Rattle.blk_lru.proofs.NodeWords.{node_place}
 use Rattle.blk_object.proofs.ListWalks.{block-kind}

@@ -3,12 +3,12 @@ use Rattle.blk_disk.specs.Tables.{is_record_among}
 use Rattle.blk_lru.proofs.NodeWords.{node_kind, node_room, node_stands}
 use Rattle.blk_lru.proofs.LinkReads.{dangling_untold, read_link}
 use Rattle.blk_object.specs.ListedParts.{LoadsAt}
-use Rattle.blk_volume.specs.Loads.{Loaded}
+use Rattle.spec_folder.specs.Loads.{Loaded}
 use Rattle.blk_object.proofs.PartNames.{contents-word, record-named}
 use Rattle.blk_object.proofs.DamageChecks.{handed, moved, short-checked}
 use Rattle.blk_entry.proofs.KeyPlaces.{err_damaged}
 use Rattle.blk_object.specs.FailedChecks.{FailsPlace, IsFailedCheck, NamesNoRecord, OfRecord}
-use Rattle.blk_format.specs.Address.{file_selector, place}
+use Rattle.spec_format.specs.Address.{file_selector, place}
 use Rattle.blk_io.specs.declared.folder.FileId.TheVariants as names
 use Rattle.blk_object.proofs.listed_parts.entry_named.Given as given
 use Rattle.blk_object.proofs.listed_parts.entry_named.Goals as goal

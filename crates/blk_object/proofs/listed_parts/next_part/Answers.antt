@@ -1,13 +1,13 @@
 use Rattle.std.proofs.Common.{rules, inl, refl, ◌≡◌, ◌∙◌, None, Option, ℕ, IsTrue, true, false, sym, ap, subst, arith}
 use Rattle.std.specs.Option.{ForSome}
 use Rattle.std.specs.Prelude.{IfSome, filter, is_some}
-use Rattle.blk_image.specs.Image.{Image}
-use Rattle.blk_image.specs.Told.{Told}
-use Rattle.blk_image.proofs.Runs.{some_inj}
+use Rattle.spec_image.specs.Image.{Image}
+use Rattle.spec_image.specs.Told.{Told}
+use Rattle.spec_image.proofs.Runs.{some_inj}
 use Rattle.blk_io.specs.Faults.{IfDamaged}
 use Rattle.blk_io.proofs.Carried.{carried}
-use Rattle.blk_volume.specs.Loads.{Loaded}
-use Rattle.blk_volume.specs.View.{node_at}
+use Rattle.spec_folder.specs.Loads.{Loaded}
+use Rattle.spec_folder.specs.View.{node_at}
 use Rattle.blk_record.specs.declared.node.TheConstants.NodeView as NodeView
 use Rattle.blk_disk.specs.Tables.{Agrees, is_node_among}
 use Rattle.blk_lru.specs.Lists.{IsListed}

@@ -1,10 +1,10 @@
 use Rattle.std.proofs.Common.{sym, ◌∙◌, subst, Option, ℕ}
 use Rattle.std.specs.Prelude.{filter}
 use Rattle.blk_lru.proofs.Results.{if_ok_weaker}
-use Rattle.blk_image.specs.Image.{Image}
-use Rattle.blk_image.proofs.Runs.{some_inj}
-use Rattle.blk_volume.specs.Layout.{nodes_of}
-use Rattle.blk_volume.specs.ListImages.{HasListAtRest}
+use Rattle.spec_image.specs.Image.{Image}
+use Rattle.spec_image.proofs.Runs.{some_inj}
+use Rattle.spec_folder.specs.Layout.{nodes_of}
+use Rattle.spec_folder.specs.ListImages.{HasListAtRest}
 use Rattle.blk_object.specs.ListedParts.{AreSearched}
 use Rattle.blk_object.proofs.WalkedParts.{begins-behind, begins-listed, list-rests, starts-first}
 use Rattle.blk_object.proofs.DamageChecks.{moved, node-word-checked}

@@ -1,8 +1,8 @@
 use Rattle.std.proofs.Common.{rules, ◌≡◌, ◌∙◌, None, Some, sym, ap, subst, List, ℕ}
-use Rattle.blk_image.specs.Told.{Told}
+use Rattle.spec_image.specs.Told.{Told}
 use Rattle.blk_io.specs.Faults.{IfDamaged}
 use Rattle.blk_io.proofs.Carried.{carried}
-use Rattle.blk_format.specs.Names.{read_name}
+use Rattle.spec_format.specs.Names.{read_name}
 use Rattle.blk_object.specs.ListedParts.{number_said}
 use Rattle.blk_object.proofs.OwnedPlaces.{loaded-checks}
 use Rattle.blk_object.proofs.PartNames.{key-readable, not-a-part, part-read}

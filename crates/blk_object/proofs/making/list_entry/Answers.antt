@@ -1,8 +1,8 @@
 use Rattle.std.proofs.Common.{◌≡◌, None}
 use Rattle.std.proofs.lemmas.Result.{on_ok_weaker}
 use Rattle.blk_io.proofs.Carried.{carried, if_damaged_weaker}
-use Rattle.blk_volume.specs.Completion.{insert}
-use Rattle.blk_volume.specs.ListImages.{operation_steps}
+use Rattle.spec_folder.specs.Completion.{insert}
+use Rattle.spec_folder.specs.ListImages.{operation_steps}
 use Rattle.blk_object.proofs.MakingListed.{can-insert, inserting-finds, listing-finds, listing-listed, part-tells, record-parts}
 use Rattle.blk_object.proofs.MakingTimes.{listing-times, node-kind}
 use Rattle.blk_object.proofs.DamageChecks.{checked-where-stays, handed, insert-checked, short-checked}

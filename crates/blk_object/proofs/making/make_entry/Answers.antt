@@ -1,10 +1,10 @@
 use Rattle.std.proofs.Common.{◌≡◌, None, refl, sym, ◌∙◌, ap, subst}
 use Rattle.std.specs.Option.{ForSome}
-use Rattle.blk_image.specs.Image.{Index, byte}
-use Rattle.blk_image.specs.Told.{Passes, Told}
+use Rattle.spec_image.specs.Image.{Index, byte}
+use Rattle.spec_image.specs.Told.{Passes, Told}
 use Rattle.blk_io.proofs.Carried.{carried, if_damaged_weaker}
-use Rattle.blk_format.specs.Address.{blocks_256, rankings}
-use Rattle.blk_format.specs.Headers.{this_id_of}
+use Rattle.spec_format.specs.Address.{blocks_256, rankings}
+use Rattle.spec_format.specs.Headers.{this_id_of}
 use Rattle.blk_disk.specs.Open.{IsOpen}
 use Rattle.blk_object.specs.Making.{FindsWhileMade, HasNewObjects, HasRoomForNew}
 use Rattle.blk_object.specs.Counters.{AreCounters}

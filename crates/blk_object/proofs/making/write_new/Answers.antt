@@ -1,11 +1,11 @@
 use Rattle.std.proofs.Common.{◌≡◌, refl, sym, subst}
 use Rattle.std.specs.Option.{ForSome}
-use Rattle.blk_image.specs.Image.{Image}
-use Rattle.blk_volume.specs.Searches.{bucket_of_key}
-use Rattle.blk_volume.specs.View.{store_of}
-use Rattle.blk_image.specs.Told.{Passes, Told}
+use Rattle.spec_image.specs.Image.{Image}
+use Rattle.spec_folder.specs.Searches.{bucket_of_key}
+use Rattle.spec_folder.specs.View.{store_of}
+use Rattle.spec_image.specs.Told.{Passes, Told}
 use Rattle.blk_disk.specs.Open.{IsOpen}
-use Rattle.blk_kept.specs.Changes.{StillFinds}
+use Rattle.law_state.specs.Changes.{StillFinds}
 use Rattle.std.proofs.lemmas.Result.{on_ok_weaker}
 use Rattle.blk_object.specs.Making.{IsEntryOfKept, words_of_places, new_entry}
 use Rattle.blk_object.proofs.MakingTaken.{nothing-finds}

@@ -1,8 +1,8 @@
 use Rattle.std.proofs.Common.{◌≡◌, ℕ, List, [], length, Option, None, Some, refl, sym, subst, ◌∙◌, ◌%◌, ap}
 use Rattle.std.specs.Prelude.{◌^◌, unwrap_or}
 use Rattle.std.specs.Option.{option_map}
-use Rattle.blk_image.specs.Image.{Image, Index, length_of}
-use Rattle.blk_image.specs.Told.{Told}
+use Rattle.spec_image.specs.Image.{Image, Index, length_of}
+use Rattle.spec_image.specs.Told.{Told}
 use Rattle.blk_object.specs.FailedChecks.{HasOtherLength}
 use Rattle.blk_io.specs.declared.folder.FileId.TheVariants as names
 use Rattle.blk_io.proofs.Carried.{untold_where}

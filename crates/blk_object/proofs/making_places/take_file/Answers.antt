@@ -1,8 +1,8 @@
 use Rattle.std.proofs.Common.{◌≡◌, ℕ, None, sym, ◌∙◌, ap, subst}
 use Rattle.std.specs.Option.{ForSome}
-use Rattle.blk_image.specs.Image.{length_of}
+use Rattle.spec_image.specs.Image.{length_of}
 use Rattle.blk_external.specs.Numbers.{named_file}
-use Rattle.blk_format.specs.Address.{is_address}
+use Rattle.spec_format.specs.Address.{is_address}
 use Rattle.blk_io.proofs.Carried.{carried, silent_part}
 use Rattle.blk_object.proofs.MakingRoom.{free-with-room}
 use Rattle.blk_object.proofs.MakingTaken.{creating-finds, file-open, file-taken, sized-long, sizing-finds}

@@ -1,9 +1,9 @@
 use Rattle.std.proofs.Common.{◌≡◌, ◌≢◌, ◌<◌, ◌≤◌, ℕ, [], ◌∷◌, None, sym, ◌∙◌, subst}
 use Rattle.std.specs.Option.{ForSome}
-use Rattle.blk_image.specs.Told.{Passes, Told}
-use Rattle.blk_format.specs.Address.{external, kind_of}
+use Rattle.spec_image.specs.Told.{Passes, Told}
+use Rattle.spec_format.specs.Address.{external, kind_of}
 use Rattle.blk_io.proofs.Carried.{carried, if_damaged_weaker}
-use Rattle.blk_kept.specs.Changes.{StillFinds}
+use Rattle.law_state.specs.Changes.{StillFinds}
 use Rattle.blk_object.specs.Making.{LeavesRoom, Takes}
 use Rattle.blk_object.specs.declared.making_places.Places.{Places}
 use Rattle.blk_object.proofs.MakingTaken.{room-for-one}

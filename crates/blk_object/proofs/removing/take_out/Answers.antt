@@ -1,8 +1,8 @@
 use Rattle.std.proofs.Common.{inl, None, ◌≡◌}
-use Rattle.blk_image.proofs.Runs.{passes_weaker}
+use Rattle.spec_image.proofs.Runs.{passes_weaker}
 use Rattle.blk_io.proofs.Carried.{carried, if_damaged_weaker}
-use Rattle.blk_volume.specs.Completion.{remove}
-use Rattle.blk_volume.specs.ListImages.{operation_steps}
+use Rattle.spec_folder.specs.Completion.{remove}
+use Rattle.spec_folder.specs.ListImages.{operation_steps}
 use Rattle.blk_lru.proofs.Results.{on_ok_both}
 use Rattle.blk_object.proofs.TakingOut.{amid-listed, before-good, listing-stops, part-back, part-told, taken-out, taking-stops}
 use Rattle.blk_object.proofs.DamageChecks.{checked-where-stays, handed, of-some, removal-checked, unlink-checked}

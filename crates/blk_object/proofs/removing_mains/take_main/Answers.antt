@@ -1,6 +1,6 @@
 use Rattle.std.proofs.Common.{◌≡◌, None, sym, subst, ◌∙◌}
 use Rattle.std.proofs.lemmas.Result.{on_ok_weaker}
-use Rattle.blk_image.proofs.Runs.{some_inj}
+use Rattle.spec_image.proofs.Runs.{some_inj}
 use Rattle.blk_io.proofs.Carried.{carried, if_damaged_weaker}
 use Rattle.blk_object.specs.Removing.{MayGoOut}
 use Rattle.blk_object.proofs.GoingNext.{main-counted, main-may-go, main-session, main-stops, main-taking, main-told}

@@ -2,9 +2,9 @@ use Rattle.std.proofs.Common.{◌≡◌, ◌%◌, None, true}
 use Rattle.std.specs.Prelude.{◌^◌}
 use Rattle.std.proofs.lemmas.Result.{on_ok_weaker}
 use Rattle.blk_io.proofs.Carried.{carried, if_damaged_weaker}
-use Rattle.blk_kept.proofs.PartlyOut.{kept-begin}
+use Rattle.law_state.proofs.PartlyOut.{kept-begin}
 use Rattle.blk_model.specs.Items.{Item}
-use Rattle.blk_volume.specs.Removal.{without_items}
+use Rattle.spec_folder.specs.Removal.{without_items}
 use Rattle.blk_object.specs.RemovingObjects.{FindsEither}
 use Rattle.blk_object.proofs.GoingNext.{behind-next}
 use Rattle.blk_object.proofs.RemovedObjects.{counting-removed, counting-stops, counting-told}

@@ -1,13 +1,13 @@
 use Rattle.std.proofs.Common.{inl, ◌≡◌, ◌∙◌, None, sym, subst}
 use Rattle.std.specs.Option.{ForSome}
-use Rattle.blk_image.specs.Told.{Told}
-use Rattle.blk_image.proofs.Runs.{passes_none, passes_stayed, some_inj}
+use Rattle.spec_image.specs.Told.{Told}
+use Rattle.spec_image.proofs.Runs.{passes_none, passes_stayed, some_inj}
 use Rattle.blk_io.specs.Faults.{IfDamaged}
 use Rattle.blk_io.proofs.Carried.{carried}
 use Rattle.blk_lru.proofs.Conditions.{told_now}
 use Rattle.blk_disk.specs.Open.{IsOpen}
 use Rattle.blk_object.specs.Owning.{LoadsWith}
-use Rattle.blk_volume.specs.Removal.{without_items}
+use Rattle.spec_folder.specs.Removal.{without_items}
 use Rattle.blk_object.specs.RemovingObjects.{FindsEither}
 use Rattle.blk_object.specs.NextItems.{IsGoingNext}
 use Rattle.blk_object.proofs.GoingNext.{next-loads}

@@ -1,5 +1,5 @@
 use Rattle.std.proofs.Common.{◌≡◌, None}
-use Rattle.blk_image.proofs.Runs.{passes_weaker}
+use Rattle.spec_image.proofs.Runs.{passes_weaker}
 use Rattle.blk_io.proofs.Carried.{carried, if_damaged_weaker}
 use Rattle.blk_model.specs.Items.{part}
 use Rattle.blk_object.proofs.GoingNext.{next-counted-out, next-keeps, next-session, next-told, part-going, part-stops}

@@ -2,8 +2,8 @@ use Rattle.std.proofs.Common.{◌≡◌, ◌%◌, sym, ◌∙◌, subst, arith}
 use Rattle.std.specs.Prelude.{◌^◌}
 use Rattle.std.proofs.lemmas.Bool.{eqb-true}
 use Rattle.blk_io.proofs.Carried.{untold_where}
-use Rattle.blk_format.specs.Address.{external, kind_of}
-use Rattle.blk_image.specs.Told.{Told}
+use Rattle.spec_format.specs.Address.{external, kind_of}
+use Rattle.spec_image.specs.Told.{Told}
 use Rattle.blk_object.specs.FailedChecks.{ReadsTooFew}
 use Rattle.blk_object.proofs.StreamsThere.{length_found, length_read}
 use Rattle.blk_object.proofs.WriteChecks.{reads-short}

@@ -1,6 +1,6 @@
 use Rattle.std.proofs.Common.{refl, ◌≡◌, ◌<◌, ℕ, None, Some, Err, slice_index_or, sym, ◌∙◌, ap, subst, true}
-use Rattle.blk_image.specs.Told.{Told}
-use Rattle.blk_format.specs.Address.{is_address}
+use Rattle.spec_image.specs.Told.{Told}
+use Rattle.spec_format.specs.Address.{is_address}
 use Rattle.blk_io.proofs.Carried.{if_damaged_weaker, untold_where}
 use Rattle.blk_entry.specs.Keys.{IsInFile}
 use Rattle.blk_entry.proofs.KeyPlaces.{damaged_any}

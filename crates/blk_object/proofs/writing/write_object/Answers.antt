@@ -1,18 +1,18 @@
 use Rattle.std.proofs.Common.{◌≡◌, ◌∙◌, length, None, sym, subst}
 use Rattle.std.specs.Option.{ForSome}
 use Rattle.std.proofs.lemmas.Result.{on_ok_weaker}
-use Rattle.blk_image.specs.Told.{Passes, Told}
-use Rattle.blk_image.proofs.Runs.{some_inj}
+use Rattle.spec_image.specs.Told.{Passes, Told}
+use Rattle.spec_image.proofs.Runs.{some_inj}
 use Rattle.blk_io.specs.Faults.{IfDamaged}
 use Rattle.blk_io.proofs.Carried.{carried, if_damaged_weaker}
 use Rattle.blk_model.specs.Holding.{rest}
-use Rattle.blk_format.specs.Headers.{HasWholeIndex}
+use Rattle.spec_format.specs.Headers.{HasWholeIndex}
 use Rattle.blk_disk.specs.Tables.{Agrees}
 use Rattle.blk_stream.specs.Stages.{IsWrittenByStage, KeepsSeal, WritesByStage}
 use Rattle.blk_stream.specs.Streams.{size_word}
 use Rattle.blk_stream.specs.Writing.{size_after}
 use Rattle.blk_stream.specs.Written.{CanBeWritten, StreamIsWritten}
-use Rattle.blk_kept.specs.Changes.{Finds}
+use Rattle.law_state.specs.Changes.{Finds}
 use Rattle.blk_object.specs.Writing.{ForEachPartUnsettled, ForEachUnsettled, HasStreamThere, IsPartWrittenUncounted, IsWrittenUncounted}
 use Rattle.blk_object.specs.FailedChecks.{FailsLength}
 use Rattle.blk_object.proofs.DamageChecks.{handed}

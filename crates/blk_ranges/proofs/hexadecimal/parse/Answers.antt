@@ -2,7 +2,7 @@ use Rattle.std.proofs.Common.{ap, ◌∙◌, subst, sym}
 use Rattle.std.specs.Str.{IsUtf8}
 use Rattle.std.specs.Result.{result_ok}
 use Rattle.std.proofs.lemmas.Str.{IsUtf8-from_ascii}
-use Rattle.blk_format.specs.Names.{hexadecimal}
+use Rattle.spec_format.specs.Names.{hexadecimal}
 use Rattle.blk_ranges.proofs.HexTexts.{hexadecimal-reads, hexadecimal-ascii}
 use Rattle.blk_ranges.proofs.hexadecimal.parse.Goals as goal
 

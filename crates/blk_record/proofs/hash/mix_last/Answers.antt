@@ -1,5 +1,5 @@
 use Rattle.std.proofs.Common.{refl}
-use Rattle.blk_format.specs.Hash.{mixed}
+use Rattle.spec_format.specs.Hash.{mixed}
 use Rattle.blk_record.proofs.hash.mix_last.Goals as goal
 
 pub returns : goal.returns

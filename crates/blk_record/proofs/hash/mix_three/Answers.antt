@@ -1,5 +1,5 @@
 use Rattle.std.proofs.Common.{refl}
-use Rattle.blk_format.specs.Hash.{of_three}
+use Rattle.spec_format.specs.Hash.{of_three}
 use Rattle.blk_record.proofs.hash.mix_three.Goals as goal
 
 pub returns : goal.returns

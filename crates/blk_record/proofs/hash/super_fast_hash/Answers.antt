@@ -1,5 +1,5 @@
 use Rattle.std.proofs.Common.{◌≡◌, ◌<◌, length, arith, sym, ap, ◌∙◌}
-use Rattle.blk_format.specs.Hash.{mixed}
+use Rattle.spec_format.specs.Hash.{mixed}
 use Rattle.blk_record.proofs.Hashing.{hash-none, hash-some, of_bytes-rest}
 use Rattle.blk_record.proofs.hash.super_fast_hash.Goals as goal
 

@@ -1,5 +1,5 @@
 use Rattle.std.proofs.Common.{◌≡◌, ◌%◌, ◌^◌, length}
-use Rattle.blk_format.specs.Hash.{of_bytes}
+use Rattle.spec_format.specs.Hash.{of_bytes}
 use Rattle.blk_record.proofs.hash.super_fast_hash.Given as goal
 
 abbrev pub invariant-loop-rest : goal.invariant-loop-rest

@@ -1,11 +1,11 @@
 use Rattle.std.proofs.Common.{◌≡◌, ℕ, ◌+◌, None, drop, refl, arith, subst, sym, rules}
 use Rattle.std.specs.Option.{ForSome}
 use Rattle.std.proofs.lemmas.List.Elements.{All-get_or}
-use Rattle.blk_image.proofs.Runs.{part_whole}
+use Rattle.spec_image.proofs.Runs.{part_whole}
 use Rattle.blk_io.proofs.Carried.{carried, if_damaged_weaker}
-use Rattle.blk_format.specs.Sealed.{RecordChecks}
+use Rattle.spec_format.specs.Sealed.{RecordChecks}
 use Rattle.blk_disk.specs.Open.{IsOpen}
-use Rattle.blk_repair_laws.specs.ChainRepair.{next_words_steps, next_steps}
+use Rattle.law_recovery.specs.ChainRepair.{next_words_steps, next_steps}
 use Rattle.blk_repair.specs.Damages.{AllCheck}
 use Rattle.blk_repair.proofs.Choices.{next-open}
 use Rattle.blk_repair.proofs.ChainRuns.{link-leads, links-end}

@@ -1,7 +1,7 @@
 use Rattle.std.proofs.Common.{drop, ◌≤◌}
 use Rattle.std.specs.Option.{ForSome}
 use Rattle.blk_disk.specs.Open.{IsOpen}
-use Rattle.blk_repair_laws.specs.ChainRepair.{next_words_steps}
+use Rattle.law_recovery.specs.ChainRepair.{next_words_steps}
 use Rattle.blk_repair.proofs.Progress.{Progress}
 use Rattle.blk_repair.proofs.chains.link.Given as goal
 

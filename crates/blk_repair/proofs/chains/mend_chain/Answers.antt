@@ -1,16 +1,16 @@
 use Rattle.std.proofs.Common.{◌≡◌, ℕ, List, [], refl, subst}
 use Rattle.std.specs.Option.{ForSome}
 use Rattle.std.proofs.lemmas.Result.{on_ok_weaker}
-use Rattle.blk_image.specs.Image.{Image, Index}
-use Rattle.blk_image.specs.Steps.{TrailStep, word_step}
-use Rattle.blk_image.specs.Told.{Told, Applies, AppliesPrefix}
-use Rattle.blk_image.proofs.Runs.{told_part}
+use Rattle.spec_image.specs.Image.{Image, Index}
+use Rattle.spec_image.specs.Steps.{TrailStep, word_step}
+use Rattle.spec_image.specs.Told.{Told, Applies, AppliesPrefix}
+use Rattle.spec_image.proofs.Runs.{told_part}
 use Rattle.blk_io.proofs.Carried.{if_damaged_weaker, silent_part, told_at_end}
-use Rattle.blk_format.specs.Headers.{place_of_bucket}
+use Rattle.spec_format.specs.Headers.{place_of_bucket}
 use Rattle.blk_disk.specs.declared.tables.BlockFiles.{BlockFiles}
 use Rattle.blk_disk.specs.Open.{IsOpen}
-use Rattle.blk_volume.specs.ListView.{first_or}
-use Rattle.blk_repair_laws.specs.ChainRepair.{bucket_steps, chain_steps, next_words_steps}
+use Rattle.spec_folder.specs.ListView.{first_or}
+use Rattle.law_recovery.specs.ChainRepair.{bucket_steps, chain_steps, next_words_steps}
 use Rattle.blk_repair.specs.Chains.{IsFront}
 use Rattle.blk_repair.specs.Damages.{AllCheck}
 use Rattle.blk_repair.proofs.Choices.{index_word-open, links-open}

@@ -1,9 +1,9 @@
 use Rattle.std.proofs.Common.{◌≡◌, ℕ, [], None, refl}
 use Rattle.std.specs.Option.{ForSome}
-use Rattle.blk_image.specs.Image.{Index}
-use Rattle.blk_image.specs.Steps.{word_step}
-use Rattle.blk_image.specs.Told.{Told, Applies}
-use Rattle.blk_image.proofs.Runs.{part_whole}
+use Rattle.spec_image.specs.Image.{Index}
+use Rattle.spec_image.specs.Steps.{word_step}
+use Rattle.spec_image.specs.Told.{Told, Applies}
+use Rattle.spec_image.proofs.Runs.{part_whole}
 use Rattle.blk_io.proofs.Carried.{silent_part}
 use Rattle.blk_repair.specs.Counters.{HasIndexWords, counted_words, crash_place, index_steps, index_words_steps}
 use Rattle.blk_repair.proofs.CounterRuns.{counted, crash-leads, index-done, index-leads, index-passes}

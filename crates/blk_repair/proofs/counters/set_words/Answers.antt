@@ -1,5 +1,5 @@
 use Rattle.std.proofs.Common.{◌≡◌, ◌+◌, None, drop, get_or, refl, arith}
-use Rattle.blk_image.proofs.Runs.{part_whole}
+use Rattle.spec_image.proofs.Runs.{part_whole}
 use Rattle.blk_io.proofs.Carried.{carried, if_damaged_weaker}
 use Rattle.blk_repair.specs.Counters.{index_word_steps, index_words_steps}
 use Rattle.blk_repair.proofs.CounterRuns.{words-end, words-lead}

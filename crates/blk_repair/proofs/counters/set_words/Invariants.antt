@@ -1,6 +1,6 @@
 use Rattle.std.proofs.Common.{drop, ◌≤◌}
 use Rattle.std.specs.Option.{ForSome}
-use Rattle.blk_format.specs.Headers.{HasWholeIndex}
+use Rattle.spec_format.specs.Headers.{HasWholeIndex}
 use Rattle.blk_repair.specs.Counters.{index_words_steps}
 use Rattle.blk_repair.proofs.Progress.{Progress}
 use Rattle.blk_repair.proofs.counters.set_words.Given as goal

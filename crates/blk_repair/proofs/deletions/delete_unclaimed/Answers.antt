@@ -1,8 +1,8 @@
 use Rattle.std.proofs.Common.{Ok, Some, arith, sym, ◌∙◌, ap, ⊎_elim, lit<}
 use Rattle.std.specs.Option.{ForSome}
-use Rattle.blk_image.specs.Image.{External}
-use Rattle.blk_image.specs.Order.{IsNextFile}
-use Rattle.blk_image.specs.Told.{Told}
+use Rattle.spec_image.specs.Image.{External}
+use Rattle.spec_image.specs.Order.{IsNextFile}
+use Rattle.spec_image.specs.Told.{Told}
 use Rattle.blk_io.specs.FileNames.{file_of}
 use Rattle.blk_repair.proofs.DeletionRuns.{externals-all, externals-begin, externals-next, externals-only, externals-said, externals-stay}
 use Rattle.blk_repair.proofs.deletions.delete_unclaimed.Goals as goal

@@ -1,6 +1,6 @@
 use Rattle.std.proofs.Common.{◌≤◌, ◌<◌, ◌-◌, ◌+◌, ◌*◌, ◌^◌}
-use Rattle.blk_image.specs.Image.{Block}
-use Rattle.blk_image.specs.Order.{IsBefore, file_rank, file_number}
+use Rattle.spec_image.specs.Image.{Block}
+use Rattle.spec_image.specs.Order.{IsBefore, file_rank, file_number}
 use Rattle.blk_io.specs.FileNames.{file_of}
 use Rattle.blk_repair.proofs.DeletionRuns.{HasDeletedExternals}
 use Rattle.blk_repair.proofs.deletions.delete_unclaimed.Given as goal

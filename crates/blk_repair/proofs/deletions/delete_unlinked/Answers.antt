@@ -1,8 +1,8 @@
 use Rattle.std.proofs.Common.{Ok, Some, arith, sym, ◌∙◌, ap}
 use Rattle.std.specs.Option.{ForSome}
-use Rattle.blk_image.specs.Image.{Block}
-use Rattle.blk_image.specs.Order.{IsNextFile}
-use Rattle.blk_image.specs.Told.{Told}
+use Rattle.spec_image.specs.Image.{Block}
+use Rattle.spec_image.specs.Order.{IsNextFile}
+use Rattle.spec_image.specs.Told.{Told}
 use Rattle.blk_repair.proofs.DeletionRuns.{blocks-all, blocks-begin, blocks-next, blocks-only, blocks-said, blocks-stay}
 use Rattle.blk_repair.proofs.deletions.delete_unlinked.Goals as goal
 

@@ -1,7 +1,7 @@
 use Rattle.std.proofs.Common.{subst}
-use Rattle.blk_image.specs.Image.{External}
-use Rattle.blk_image.specs.Order.{IsBefore}
-use Rattle.blk_image.proofs.Runs.{some_inj}
+use Rattle.spec_image.specs.Image.{External}
+use Rattle.spec_image.specs.Order.{IsBefore}
+use Rattle.spec_image.proofs.Runs.{some_inj}
 use Rattle.blk_io.specs.FileNames.{file_of}
 use Rattle.blk_io.specs.declared.folder.FileId.{FileId}
 use Rattle.blk_repair.proofs.deletions.next_external.Goals as goal

@@ -1,10 +1,10 @@
 use Rattle.std.proofs.Common.{[], sym, subst, refl}
 use Rattle.std.proofs.lemmas.Result.{on_ok_weaker}
-use Rattle.blk_image.specs.Image.{Index}
-use Rattle.blk_image.specs.Steps.{word_step}
-use Rattle.blk_image.specs.Told.{Applies, AppliesPrefix}
-use Rattle.blk_image.proofs.Runs.{grows_none, part_whole}
-use Rattle.blk_format.specs.Headers.{place_of_bucket}
+use Rattle.spec_image.specs.Image.{Index}
+use Rattle.spec_image.specs.Steps.{word_step}
+use Rattle.spec_image.specs.Told.{Applies, AppliesPrefix}
+use Rattle.spec_image.proofs.Runs.{grows_none, part_whole}
+use Rattle.spec_format.specs.Headers.{place_of_bucket}
 use Rattle.blk_repair.proofs.Choices.{bucket-right, bucket-other}
 use Rattle.blk_repair.proofs.links.set_front.Goals as goal
 

@@ -1,9 +1,9 @@
 use Rattle.std.proofs.Common.{◌≡◌, ℕ, inl, inr, sym, subst, List, None, rules}
 use Rattle.std.specs.Option.{ForSome}
 use Rattle.std.proofs.lemmas.Result.{on_ok_weaker}
-use Rattle.blk_image.specs.Steps.{TrailStep}
-use Rattle.blk_image.specs.Told.{Told, Applies, AppliesPrefix}
-use Rattle.blk_image.proofs.Runs.{grows_none}
+use Rattle.spec_image.specs.Steps.{TrailStep}
+use Rattle.spec_image.specs.Told.{Told, Applies, AppliesPrefix}
+use Rattle.spec_image.proofs.Runs.{grows_none}
 use Rattle.blk_io.proofs.Carried.{carried}
 use Rattle.blk_disk.specs.Tables.{Agrees}
 use Rattle.blk_chain.proofs.Unlinks.{next_changes}

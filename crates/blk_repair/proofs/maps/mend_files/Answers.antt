@@ -1,4 +1,4 @@
-use Rattle.blk_format.specs.Headers.{HasWholeIndex}
+use Rattle.spec_format.specs.Headers.{HasWholeIndex}
 use Rattle.blk_io.proofs.Carried.{told_at_end}
 use Rattle.blk_disk.specs.Tables.{all_files}
 use Rattle.blk_repair.proofs.MapRuns.{files-mended-now, index-whole, rebuilding-ends, rebuilding-passes}

@@ -1,6 +1,6 @@
 use Rattle.std.proofs.Common.{◌≡◌, ◌≤◌, ℕ, ◌+◌, None, sym, ◌∙◌, ap, subst, arith, rules}
-use Rattle.blk_image.specs.Told.{Told}
-use Rattle.blk_image.proofs.Runs.{part_whole}
+use Rattle.spec_image.specs.Told.{Told}
+use Rattle.spec_image.proofs.Runs.{part_whole}
 use Rattle.blk_io.proofs.Carried.{carried, if_damaged_weaker}
 use Rattle.blk_repair.proofs.Progress.{ended, was_untold}
 use Rattle.blk_repair.proofs.RemovalRuns.{HasTaken, removals-done, removals-mend, removals-pass, taken-listed, taken-none, taken-out, taken-part, taken-pass}

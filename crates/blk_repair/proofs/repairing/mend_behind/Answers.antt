@@ -1,10 +1,10 @@
 use Rattle.std.proofs.Common.{◌≡◌, Some, subst}
 use Rattle.std.proofs.lemmas.Result.{on_ok_weaker}
 use Rattle.std.specs.Option.{ForSome}
-use Rattle.blk_image.specs.Image.{Image}
-use Rattle.blk_image.specs.Told.{Told, Applies}
+use Rattle.spec_image.specs.Image.{Image}
+use Rattle.spec_image.specs.Told.{Told, Applies}
 use Rattle.blk_io.proofs.Carried.{if_damaged_weaker, told_at_end}
-use Rattle.blk_repair_laws.specs.MendedChanges.{IsMidRepair}
+use Rattle.law_recovery.specs.MendedChanges.{IsMidRepair}
 use Rattle.blk_addr.specs.declared.claim_set.Claims.{Claims}
 use Rattle.blk_repair.specs.Endings.{BreaksOff}
 use Rattle.blk_repair.specs.Parts.{AppliesOf}

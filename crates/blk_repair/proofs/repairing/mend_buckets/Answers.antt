@@ -1,8 +1,8 @@
 use Rattle.std.proofs.Common.{Option, refl, sym, subst, ◌∙◌}
 use Rattle.std.proofs.lemmas.Result.{on_ok_weaker}
-use Rattle.blk_image.specs.Told.{Applies}
-use Rattle.blk_image.proofs.Runs.{grows_none, some_inj}
-use Rattle.blk_repair_laws.specs.ListRepair.{HoldsTheSame}
+use Rattle.spec_image.specs.Told.{Applies}
+use Rattle.spec_image.proofs.Runs.{grows_none, some_inj}
+use Rattle.law_recovery.specs.ListRepair.{HoldsTheSame}
 use Rattle.blk_scan.specs.declared.chains.KeptChains.{KeptChains}
 use Rattle.blk_repair.specs.Repair.{AreBucketsScanned}
 use Rattle.blk_repair.proofs.EndingRuns.{chains-break}

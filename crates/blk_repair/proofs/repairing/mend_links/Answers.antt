@@ -1,12 +1,12 @@
 use Rattle.std.proofs.Common.{◌≡◌, ◌∙◌, Some, sym, subst}
 use Rattle.std.proofs.lemmas.Result.{on_ok_weaker}
 use Rattle.std.specs.Option.{ForSome}
-use Rattle.blk_image.specs.Image.{Image}
-use Rattle.blk_image.specs.Told.{Applies, Passes}
+use Rattle.spec_image.specs.Image.{Image}
+use Rattle.spec_image.specs.Told.{Applies, Passes}
 use Rattle.blk_io.proofs.Carried.{if_damaged_weaker, told_at_end}
-use Rattle.blk_repair_laws.specs.ChainRepair.{chain_repair_steps}
-use Rattle.blk_repair_laws.specs.ListRepair.{HoldsTheSame, IsListMended, list_repair_steps}
-use Rattle.blk_repair_laws.proofs.MendedChanges.{holds-mid}
+use Rattle.law_recovery.specs.ChainRepair.{chain_repair_steps}
+use Rattle.law_recovery.specs.ListRepair.{HoldsTheSame, IsListMended, list_repair_steps}
+use Rattle.law_recovery.proofs.MendedChanges.{holds-mid}
 use Rattle.blk_repair.specs.Endings.{BreaksOff}
 use Rattle.blk_repair.specs.Parts.{Exactly}
 use Rattle.blk_repair.specs.Removals.{IsListScanned}

@@ -1,11 +1,11 @@
 use Rattle.std.proofs.Common.{ℕ, inl, refl, sym, ◌∙◌, ap, subst}
 use Rattle.std.proofs.lemmas.Result.{on_ok_weaker}
 use Rattle.std.specs.Option.{ForSome}
-use Rattle.blk_image.specs.Told.{Told, Applies}
-use Rattle.blk_image.proofs.Runs.{some_inj}
+use Rattle.spec_image.specs.Told.{Told, Applies}
+use Rattle.spec_image.proofs.Runs.{some_inj}
 use Rattle.blk_io.proofs.Carried.{if_damaged_weaker}
 use Rattle.blk_disk.specs.Open.{IsOpen}
-use Rattle.blk_repair_laws.specs.MendedChanges.{IsMidRepair}
+use Rattle.law_recovery.specs.MendedChanges.{IsMidRepair}
 use Rattle.blk_repair.specs.Endings.{EndsOrBreaksOff, EndsWithCrashWord}
 use Rattle.blk_repair.specs.Parts.{AppliesOf}
 use Rattle.blk_repair.specs.Repair.{IsRepairable, IsRepairedFor, RepairsInOrder, counting_steps, next_id}

@@ -1,9 +1,9 @@
 use Rattle.std.proofs.Common.{◌≡◌, ℕ, ◌+◌, None, drop, refl, arith, subst, sym}
 use Rattle.std.specs.Option.{ForSome}
 use Rattle.std.proofs.lemmas.List.Elements.{All-get_or}
-use Rattle.blk_image.specs.Told.{Along}
-use Rattle.blk_image.proofs.Runs.{part_whole}
-use Rattle.blk_format.specs.Sealed.{RecordChecks, seal_steps}
+use Rattle.spec_image.specs.Told.{Along}
+use Rattle.spec_image.proofs.Runs.{part_whole}
+use Rattle.spec_format.specs.Sealed.{RecordChecks, seal_steps}
 use Rattle.blk_io.proofs.Carried.{carried, if_damaged_weaker}
 use Rattle.blk_repair.specs.Damages.{AllCheck}
 use Rattle.blk_repair.specs.Seals.{seals_steps}

@@ -1,9 +1,9 @@
 use Rattle.std.proofs.Common.{Bool, ap, subst, sym, refl, ◌∙◌}
 use Rattle.std.proofs.lemmas.Result.{on_ok_weaker}
-use Rattle.blk_image.specs.Image.{Image, Index, byte}
-use Rattle.blk_image.specs.Told.{Applies}
-use Rattle.blk_image.proofs.Runs.{grows_none, part_whole, some_inj}
-use Rattle.blk_format.specs.Headers.{bucket_of}
+use Rattle.spec_image.specs.Image.{Image, Index, byte}
+use Rattle.spec_image.specs.Told.{Applies}
+use Rattle.spec_image.proofs.Runs.{grows_none, part_whole, some_inj}
+use Rattle.spec_format.specs.Headers.{bucket_of}
 use Rattle.blk_repair.specs.Chains.{IsNextBucket}
 use Rattle.blk_repair.proofs.WholeChains.{whole-steps}
 use Rattle.blk_repair.proofs.tables.mend_bucket.Goals as goal

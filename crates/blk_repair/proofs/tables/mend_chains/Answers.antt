@@ -1,5 +1,5 @@
 use Rattle.std.proofs.Common.{◌≡◌, ◌<◌, ℕ, None, inl, refl, arith}
-use Rattle.blk_image.proofs.Runs.{part_whole}
+use Rattle.spec_image.proofs.Runs.{part_whole}
 use Rattle.blk_io.proofs.Carried.{carried, if_damaged_weaker}
 use Rattle.blk_repair.proofs.FrontRuns.{front-there, fronts-after, fronts-on}
 use Rattle.blk_repair.proofs.TableRuns.{mended-none, mended-on, own-check, part-on, part-so-far, repair-mends, repair-passes, repair-steps, stays-mended, were-untold}

@@ -1,6 +1,6 @@
 use Rattle.std.proofs.Common.{subst}
-use Rattle.blk_image.specs.Told.{Rises}
-use Rattle.blk_headline.specs.Script.{count_script}
+use Rattle.spec_image.specs.Told.{Rises}
+use Rattle.spec_run.specs.Script.{count_script}
 use Rattle.blk_cache.proofs.CreationTimes.{crash-moment}
 use Rattle.blk_run.specs.declared.ending.Status.{Status}
 use Rattle.blk_run.specs.Session.{FixedRuns}

@@ -2,7 +2,7 @@ use Rattle.std.proofs.Common.{◌≡◌, ◌≢◌, ◌*◌, ◌⊎◌, inl, inr
 use Rattle.blk_model.specs.Bounds.{bounds_of}
 use Rattle.blk_model.specs.Sizes.{handle_names}
 use Rattle.blk_repair.proofs.Endings.{either-pass}
-use Rattle.blk_headline.specs.Script.{count_script}
+use Rattle.spec_run.specs.Script.{count_script}
 use Rattle.blk_cache.specs.CacheKeeping.{KeepsState}
 use Rattle.blk_run.specs.declared.ending.Status.{Status}
 use Rattle.blk_run.specs.declared.ending.Status.TheVariants as status

@@ -1,7 +1,7 @@
 use Rattle.blk_cache.specs.CacheKeeping.{KeepsState}
 use Rattle.std.proofs.Common.{◌+◌, ◌∷◌, Result, sym, ◌∙◌, subst, arith}
-use Rattle.blk_headline.specs.Script.{put_script, until_refused}
-use Rattle.blk_headline.specs.Run.{commands_of, turns}
+use Rattle.spec_run.specs.Script.{put_script, until_refused}
+use Rattle.spec_run.specs.Run.{commands_of, turns}
 use Rattle.blk_model.specs.Request.{to_create}
 use Rattle.blk_cache.specs.declared.fault.StepFault.{StepFault}
 use Rattle.blk_run.specs.Playing.{PlaysPart, with_more}

@@ -1,11 +1,11 @@
 use Rattle.blk_cache.specs.CacheKeeping.{KeepsState}
 use Rattle.std.proofs.Common.{◌≡◌, ◌*◌, ◌+◌, ◌-◌, Bool, List, [], Result, Ok, Err, length, drop, map, refl, sym, ◌∙◌, ap, subst, arith}
 use Rattle.blk_model.specs.Request.{Request, request_of}
-use Rattle.blk_headline.specs.Script.{until_refused}
-use Rattle.blk_headline.specs.Run.{turns}
+use Rattle.spec_run.specs.Script.{until_refused}
+use Rattle.spec_run.specs.Run.{turns}
 use Rattle.blk_cache.specs.declared.fault.StepFault.{StepFault}
 use Rattle.blk_run.specs.Playing.{PlaysPart, SoFar, state_now, with_more}
-use Rattle.blk_headline.specs.Run.{commands_of}
+use Rattle.spec_run.specs.Run.{commands_of}
 use Rattle.blk_run.proofs.Asking.{around}
 use Rattle.blk_run.proofs.Parts.{stands_fewer}
 use Rattle.blk_run.proofs.FixedTurns.{asked_fault, asked_last, asked_on, fault_is, next_is, none_is, nothing_left, up_to_end, up_to_none, made_none}

@@ -3,8 +3,8 @@ use Rattle.blk_disk.specs.Open.{IsOpen}
 use Rattle.std.proofs.Common.{◌≡◌, ◌≤◌, ◌+◌, ◌-◌, ◌*◌, ℕ, length, drop, map}
 use Rattle.std.specs.Option.{ForSome}
 use Rattle.blk_model.specs.Request.{request_of}
-use Rattle.blk_headline.specs.Script.{until_refused}
-use Rattle.blk_headline.specs.Run.{turns}
+use Rattle.spec_run.specs.Script.{until_refused}
+use Rattle.spec_run.specs.Run.{turns}
 use Rattle.blk_run.specs.Fixed.{PlaysUpTo}
 use Rattle.blk_run.specs.Playing.{SoFar, StandsAt}
 use Rattle.blk_run.proofs.Asking.{around}

@@ -1,5 +1,5 @@
 use Rattle.std.proofs.Common.{◌+◌, ◌-◌, ◌*◌, ◌∙◌, refl, arith}
-use Rattle.blk_headline.specs.Run.{commands_of}
+use Rattle.spec_run.specs.Run.{commands_of}
 use Rattle.blk_gen.specs.Draws.{value_behind}
 use Rattle.blk_gen.specs.Generator.{gen_script, turns_script}
 use Rattle.blk_cache.specs.CacheKeeping.{KeepsState}

@@ -1,7 +1,7 @@
 use Rattle.std.proofs.Common.{◌≡◌, ◌≤◌, ◌+◌, ◌-◌, ◌*◌, ℕ, Bool, List, Option, length}
 use Rattle.std.specs.Option.{ForSome}
 use Rattle.blk_disk.specs.Open.{IsOpen}
-use Rattle.blk_headline.specs.Run.{turns}
+use Rattle.spec_run.specs.Run.{turns}
 use Rattle.blk_gen.specs.Generator.{gen_script, turns_script}
 use Rattle.blk_cache.specs.CacheKeeping.{KeepsState}
 use Rattle.blk_run.specs.Fixed.{PlaysUpTo}

@@ -1,6 +1,6 @@
 use Rattle.std.proofs.Common.{◌+◌, true, false, if◌then◌else◌, sym, ◌∙◌, ap, arith}
 use Rattle.blk_model.specs.Request.{to_create}
-use Rattle.blk_headline.specs.Script.{is_refused}
+use Rattle.spec_run.specs.Script.{is_refused}
 use Rattle.blk_gen.specs.Generator.{used_turn}
 use Rattle.blk_cache.specs.CacheKeeping.{KeepsState}
 use Rattle.blk_run.proofs.CountedTurns.{asked_as, behind_create, ends_there, goes_on, step_fails}

@@ -1,5 +1,5 @@
 use Rattle.blk_gen.specs.Counting.{counts_line}
-use Rattle.blk_headline.specs.Script.{totals_line}
+use Rattle.spec_run.specs.Script.{totals_line}
 use Rattle.blk_run.proofs.Printed.{part_of, then_part}
 use Rattle.blk_run.proofs.generating.show_counts.Goals as goal
 

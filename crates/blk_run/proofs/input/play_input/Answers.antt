@@ -1,6 +1,6 @@
 use Rattle.std.proofs.Common.{◌≡◌, ◌-◌, false, true, ℕ, length, refl, sym, ◌∙◌, ap, arith}
 use Rattle.std.proofs.lemmas.List.{length-take-le}
-use Rattle.blk_headline.specs.Lines.{cut}
+use Rattle.spec_run.specs.Lines.{cut}
 use Rattle.blk_cache.specs.CacheKeeping.{KeepsState}
 use Rattle.blk_run.proofs.Asking.{around}
 use Rattle.blk_run.proofs.InputPlayed.{all_but_one, all_used, input_ended, input_failed, input_handed, last_failed, last_played, no_input, none_taken, piece_failed, piece_played, piece_too_long, some_used, taken_up_to}

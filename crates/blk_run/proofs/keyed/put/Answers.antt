@@ -2,7 +2,7 @@ use Rattle.std.proofs.Common.{rules, ◌++◌, ◌≡◌, ◌∙◌, ℕ, List, 
 use Rattle.std.proofs.Math.Seq.{take-append_seam}
 use Rattle.percent_encoding.specs.Percent.{percent_decode}
 use Rattle.blk_model.specs.Bounds.{bounds_of}
-use Rattle.blk_headline.specs.Script.{put_script}
+use Rattle.spec_run.specs.Script.{put_script}
 use Rattle.std.specs.Option.{ForSome}
 use Rattle.blk_run.specs.declared.whole_input.InputFault.{InputFault}
 use Rattle.blk_run.specs.declared.whole_input.InputFault.TheVariants as fault

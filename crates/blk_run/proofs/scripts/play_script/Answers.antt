@@ -1,11 +1,11 @@
 use Rattle.blk_cache.specs.CacheKeeping.{KeepsState}
 use Rattle.std.proofs.Common.{◌*◌, [], Err, refl, sym, ◌∙◌, subst}
 use Rattle.std.specs.Option.{ForSome}
-use Rattle.blk_image.specs.Told.{Rises}
+use Rattle.spec_image.specs.Told.{Rises}
 use Rattle.blk_disk.specs.Open.{IsOpen}
 use Rattle.blk_model.specs.Holding.{open_state}
 use Rattle.blk_model.specs.Sizes.{handle_names}
-use Rattle.blk_volume.specs.Found.{found}
+use Rattle.spec_folder.specs.Found.{found}
 use Rattle.blk_run.specs.declared.ending.Status.{Status}
 use Rattle.blk_io.specs.declared.fault.Fault.{Fault}
 use Rattle.blk_run.specs.Ending.{EndsRun}

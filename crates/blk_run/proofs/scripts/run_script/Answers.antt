@@ -4,7 +4,7 @@ use Rattle.std.proofs.Common.{◌+◌, ◌*◌, inr, [], None, Some, refl, arith
 use Rattle.blk_model.specs.Bounds.{bounds_of}
 use Rattle.blk_model.specs.Holding.{open_state}
 use Rattle.blk_model.specs.Sizes.{handle_names}
-use Rattle.blk_volume.specs.Found.{found}
+use Rattle.spec_folder.specs.Found.{found}
 use Rattle.blk_run.specs.Scripts.{commands_in, script_of}
 use Rattle.blk_run.proofs.Assembling.{exit_unopened}
 use Rattle.blk_run.proofs.Failures.{fails_behind}

@@ -2,7 +2,7 @@ use Rattle.std.proofs.Common.{◌+◌, ◌*◌, inr, [], None, Some, refl, arith
 use Rattle.blk_model.specs.Bounds.{bounds_of}
 use Rattle.blk_model.specs.Holding.{open_state}
 use Rattle.blk_model.specs.Sizes.{handle_names}
-use Rattle.blk_volume.specs.Found.{found}
+use Rattle.spec_folder.specs.Found.{found}
 use Rattle.blk_cache.specs.CacheKeeping.{KeepsState}
 use Rattle.blk_cache.proofs.Ends.{kept-open}
 use Rattle.blk_run.proofs.Assembling.{exit_unopened}

@@ -1,8 +1,8 @@
 use Rattle.std.proofs.Common.{rules}
 use Rattle.percent_encoding.specs.Percent.{percent_decode}
-use Rattle.blk_image.specs.Told.{Rises}
+use Rattle.spec_image.specs.Told.{Rises}
 use Rattle.blk_model.specs.Bounds.{bounds_of}
-use Rattle.blk_headline.specs.Script.{doom_script, get_script}
+use Rattle.spec_run.specs.Script.{doom_script, get_script}
 use Rattle.blk_inspect.specs.Texts.{inspect_text, verify_text}
 use Rattle.blk_run.proofs.Performing.{performs_wider}
 use Rattle.blk_run.proofs.Showing.{text_wider}

@@ -2,7 +2,7 @@ use Rattle.std.proofs.Common.{◌≡◌, ◌≤◌, ◌++◌, true, take}
 use Rattle.std.specs.Prelude.{All}
 use Rattle.std.specs.List.{filter}
 use Rattle.std.specs.Option.{ForSome}
-use Rattle.blk_image.specs.Told.{Stays}
+use Rattle.spec_image.specs.Told.{Stays}
 use Rattle.blk_disk.specs.Tables.{is_record_among}
 use Rattle.blk_audit.specs.ReadLists.{AreListsOf}
 use Rattle.blk_audit.specs.Sealable.{CanBeSealed}

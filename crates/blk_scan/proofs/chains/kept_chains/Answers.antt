@@ -2,10 +2,10 @@ use Rattle.std.proofs.Common.{◌≡◌, ℕ, true, List, sym, ap, subst, ◌∙
 use Rattle.std.specs.Prelude.{length}
 use Rattle.std.specs.BTreeSet.{contains}
 use Rattle.std.specs.Ordering.{nat_cmp}
-use Rattle.blk_volume.specs.Found.{kept}
+use Rattle.spec_folder.specs.Found.{kept}
 use Rattle.blk_disk.specs.Tables.{is_record_among}
 use Rattle.blk_audit.specs.BucketEnds.{AreEnds}
-use Rattle.blk_repair_laws.specs.ChainRepair.{is_kept_record}
+use Rattle.law_recovery.specs.ChainRepair.{is_kept_record}
 use Rattle.blk_scan.specs.Packing.{ArePacked}
 use Rattle.blk_scan.proofs.Packed.{chains_exact, chains_kept, chains_whole, kept_by_set, packed_among, packed_of}
 use Rattle.blk_scan.proofs.chains.kept_chains.Goals as goal

@@ -2,10 +2,10 @@ use Rattle.std.proofs.Common.{inl, inr, ◌≡◌, ℕ, true, List, map, length,
 use Rattle.std.specs.Prelude.{All}
 use Rattle.std.proofs.lemmas.List.{length-take}
 use Rattle.std.proofs.lemmas.List.Elements.{All-take}
-use Rattle.blk_image.specs.Told.{Told}
+use Rattle.spec_image.specs.Told.{Told}
 use Rattle.blk_lru.proofs.Conditions.{told_now, told_stays}
-use Rattle.blk_volume.specs.Found.{kept}
-use Rattle.blk_volume.specs.Reasons as reason
+use Rattle.spec_folder.specs.Found.{kept}
+use Rattle.spec_folder.specs.Reasons as reason
 use Rattle.blk_disk.specs.Tables.{Agrees, is_node_among}
 use Rattle.blk_audit.specs.ReadLists.{AreListsOf}
 use Rattle.blk_audit.specs.Sealable.{CanBeSealed}

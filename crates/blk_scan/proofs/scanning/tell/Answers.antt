@@ -1,6 +1,6 @@
 use Rattle.std.proofs.Common.{List, map, refl, sym, ap, subst, ◌∙◌}
 use Rattle.std.specs.List.{sum_by}
-use Rattle.blk_volume.specs.Found.{kept}
+use Rattle.spec_folder.specs.Found.{kept}
 use Rattle.blk_verdict.specs.Charges.{charge_said}
 use Rattle.blk_verdict.specs.Kept.{AreShown}
 use Rattle.blk_verdict.specs.declared.loading.Loaded.{Loaded}

@@ -1,12 +1,12 @@
 use Rattle.std.proofs.Common.{◌≡◌, None, sym, subst, ap, ◌∙◌}
 use Rattle.std.specs.Option.{ForSome}
 use Rattle.std.proofs.lemmas.Result.{on_ok_weaker}
-use Rattle.blk_image.specs.Told.{Told}
-use Rattle.blk_image.proofs.Runs.{passes_none, passes_stayed, some_inj}
+use Rattle.spec_image.specs.Told.{Told}
+use Rattle.spec_image.proofs.Runs.{passes_none, passes_stayed, some_inj}
 use Rattle.blk_io.proofs.Carried.{carried, if_damaged_weaker}
 use Rattle.blk_model.specs.Holding.{rest}
 use Rattle.blk_disk.specs.Open.{IsOpen}
-use Rattle.blk_kept.specs.Changes.{Finds}
+use Rattle.law_state.specs.Changes.{Finds}
 use Rattle.blk_sparse.specs.Changing.{IsDataBeforeMap, LoadsAsPart}
 use Rattle.blk_sparse.proofs.ChangedUsed.{change-ends, change-ordered, change-stops, change-untold, nothing-found, to-change}
 use Rattle.blk_sparse.proofs.MapsRead.{loads-as}

@@ -3,11 +3,11 @@ use Rattle.std.proofs.lemmas.List.Elements.{All-from_get_or}
 use Rattle.std.proofs.lemmas.Result.{on_ok_weaker}
 use Rattle.blk_io.proofs.Carried.{carried}
 use Rattle.std.specs.Option.{ForSome}
-use Rattle.blk_image.specs.Told.{Passes}
+use Rattle.spec_image.specs.Told.{Passes}
 use Rattle.blk_io.specs.Faults.{IfDamaged}
 use Rattle.blk_model.specs.Holding.{rest}
 use Rattle.blk_model.specs.Items.{IsBytes}
-use Rattle.blk_kept.specs.Changes.{Finds}
+use Rattle.law_state.specs.Changes.{Finds}
 use Rattle.blk_object.specs.Writing.{ForEachPartUnsettled, IsPartWrittenUncounted}
 use Rattle.blk_sparse.proofs.ChangedParts.{both-changed, both-stops, both-untold, data-first, data-stops, data-untold}
 use Rattle.blk_sparse.proofs.changing.write_noted.Goals as goal

@@ -1,16 +1,16 @@
 use Rattle.std.proofs.Common.{rules, ◌≡◌, ◌∙◌, Option, true, inr, ap, sym, subst, arith, ℕ, None, Some, take}
 use Rattle.std.specs.Int.{cast_unsigned, w64}
 use Rattle.std.proofs.lemmas.Int.{of_z-to_z}
-use Rattle.blk_format.specs.Names.{child_name}
+use Rattle.spec_format.specs.Names.{child_name}
 use Rattle.std.proofs.lemmas.Result.{on_ok_weaker}
-use Rattle.blk_image.specs.Told.{Told}
-use Rattle.blk_image.proofs.Runs.{passes_stayed, some_inj}
+use Rattle.spec_image.specs.Told.{Told}
+use Rattle.spec_image.proofs.Runs.{passes_stayed, some_inj}
 use Rattle.blk_io.specs.Faults.{IfDamaged}
 use Rattle.blk_io.proofs.Carried.{carried}
 use Rattle.blk_model.specs.Effects.{doomed}
 use Rattle.blk_model.specs.Holding.{rest}
 use Rattle.blk_model.specs.Items.{part}
-use Rattle.blk_kept.specs.Changes.{Finds}
+use Rattle.law_state.specs.Changes.{Finds}
 use Rattle.blk_chain.specs.Finding.{CanBeSearched, IsOutcome}
 use Rattle.blk_sparse.proofs.PartsOut.{if_ok_weaker, same-part, left-finds, none-found, of-object, others-left, others-stay, part-searched, some-found, stays-passes, stays-there}
 use Rattle.blk_object.proofs.DamageChecks.{handed, moved, search-checked, within-checked}

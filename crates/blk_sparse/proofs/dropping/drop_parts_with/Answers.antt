@@ -2,7 +2,7 @@ use Rattle.std.proofs.Common.{rules, of_calls, Option, ◌≡◌, [], ◌∷◌,
 use Rattle.std.specs.Int.{cast_unsigned, w64}
 use Rattle.std.proofs.lemmas.Fn.{FoldsTo-push}
 use Rattle.std.proofs.lemmas.Int.{of_z-to_z}
-use Rattle.blk_image.proofs.Runs.{passes_then}
+use Rattle.spec_image.proofs.Runs.{passes_then}
 use Rattle.blk_io.proofs.Carried.{carried, if_damaged_weaker}
 use Rattle.blk_sparse.specs.Dropping.{HasSignature, IsDropOfNext}
 use Rattle.blk_sparse.specs.declared.dropping.Dropped.{Dropped}

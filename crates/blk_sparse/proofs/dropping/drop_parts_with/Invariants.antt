@@ -2,7 +2,7 @@ use Rattle.std.proofs.Common.{◌≡◌, ◌≤◌, ◌*◌, ◌^◌, ℕ, List,
 use Rattle.std.specs.Int.{cast_unsigned, w64}
 use Rattle.std.specs.List.{FoldsTo}
 use Rattle.std.specs.Option.{ForSome}
-use Rattle.blk_format.specs.Names.{longest_name}
+use Rattle.spec_format.specs.Names.{longest_name}
 use Rattle.blk_disk.specs.Open.{IsOpen}
 use Rattle.blk_disk.specs.Tables.{is_node_among}
 use Rattle.blk_sparse.proofs.PartsDropped.{AreDropping}

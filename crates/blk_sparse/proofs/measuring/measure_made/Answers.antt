@@ -1,7 +1,7 @@
 use Rattle.std.proofs.Common.{◌≡◌, ◌+◌, ◌-◌, ◌≤◌, ◌<◌, ◌∙◌, ap, ap₂, sym, subst, arith, length, List, None, refl, ℕ}
 use Rattle.std.specs.Int.{cast_unsigned, w64}
 use Rattle.std.proofs.lemmas.Int.{of_z-to_z}
-use Rattle.blk_format.specs.Names.{child_name}
+use Rattle.spec_format.specs.Names.{child_name}
 use Rattle.blk_sparse.proofs.MeasuredParts.{end-first, end-one, end-second, lacks, new-measured, one-measured, two-measured}
 use Rattle.blk_sparse.proofs.WritingCovered.{covers-one, covers-two}
 use Rattle.blk_sparse.proofs.measuring.measure_made.Goals as goal

@@ -2,10 +2,10 @@ use Rattle.std.proofs.Common.{◌≡◌, ◌+◌, ◌∙◌, ap, ap₂, sym, sub
 use Rattle.std.specs.Int.{cast_unsigned, w64}
 use Rattle.std.proofs.lemmas.Int.{of_z-to_z}
 use Rattle.std.proofs.lemmas.Result.{IfOk-weaker}
-use Rattle.blk_image.specs.Told.{Told}
+use Rattle.spec_image.specs.Told.{Told}
 use Rattle.blk_io.specs.Faults.{IfDamaged}
 use Rattle.blk_io.proofs.Carried.{carried}
-use Rattle.blk_format.specs.Names.{child_name}
+use Rattle.spec_format.specs.Names.{child_name}
 use Rattle.blk_sparse.specs.Parts.{IsPartFound}
 use Rattle.blk_sparse.proofs.KeptParents.{signed-parent}
 use Rattle.blk_sparse.proofs.MeasuredParts.{new-measured}

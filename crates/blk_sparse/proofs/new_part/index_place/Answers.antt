@@ -1,5 +1,5 @@
 use Rattle.std.proofs.Common.{◌≡◌, ℕ, slice_index_or, sym, ◌∙◌, ap, subst, arith, true, false}
-use Rattle.blk_format.specs.Address.{is_address}
+use Rattle.spec_format.specs.Address.{is_address}
 use Rattle.blk_entry.specs.Keys.{stores}
 use Rattle.blk_stream.specs.Streams.{address_word}
 use Rattle.blk_object.proofs.StreamsThere.{address_is, no_address, none_address}

@@ -1,10 +1,10 @@
 use Rattle.std.proofs.Common.{◌≡◌, None}
 use Rattle.std.proofs.lemmas.Result.{on_ok_weaker}
 use Rattle.blk_io.proofs.Carried.{carried, if_damaged_weaker}
-use Rattle.blk_volume.specs.Completion.{insert}
-use Rattle.blk_volume.specs.ListImages.{operation_steps, walked}
-use Rattle.blk_volume.specs.ListView.{CanBeInserted}
-use Rattle.blk_volume.specs.View.{list_of}
+use Rattle.spec_folder.specs.Completion.{insert}
+use Rattle.spec_folder.specs.ListImages.{operation_steps, walked}
+use Rattle.spec_folder.specs.ListView.{CanBeInserted}
+use Rattle.spec_folder.specs.View.{list_of}
 use Rattle.blk_object.proofs.MakingListed.{part-tells, record-parts, told-at}
 use Rattle.blk_object.proofs.DamageChecks.{checked-where-stays, handed, insert-checked, short-checked}
 use Rattle.blk_sparse.proofs.NewListed.{can-insert-it, inserting-finds, listing-finds, listing-listed}

@@ -2,7 +2,7 @@ use Rattle.std.proofs.Common.{◌≡◌, ◌+◌, ◌<◌, ℕ, length, None, re
 use Rattle.std.proofs.lemmas.List.Elements.{All-from_get_or}
 use Rattle.std.proofs.lemmas.Result.{on_ok_weaker}
 use Rattle.blk_io.proofs.Carried.{carried}
-use Rattle.blk_format.specs.Address.{blocks_256, rankings}
+use Rattle.spec_format.specs.Address.{blocks_256, rankings}
 use Rattle.blk_object.proofs.MakingMade.{among-names}
 use Rattle.blk_sparse.proofs.NewWhole.{listing-finds, listing-untold, noting-finds-all, noting-untold, part-made, taking-finds, taking-untold, whole-before, writing-finds, writing-untold}
 use Rattle.blk_sparse.proofs.new_part.make_part.Goals as goal

@@ -1,8 +1,8 @@
 use Rattle.std.proofs.Common.{ℕ, List, [], ◌∷◌, replicate}
 use Rattle.std.proofs.lemmas.List.{length-replicate}
 use Rattle.std.proofs.lemmas.Result.{on_ok_weaker}
-use Rattle.blk_image.proofs.Runs.{passes_end, passes_weaker}
-use Rattle.blk_format.specs.Sealed.{sealed_steps}
+use Rattle.spec_image.proofs.Runs.{passes_end, passes_weaker}
+use Rattle.spec_format.specs.Sealed.{sealed_steps}
 use Rattle.blk_lru.proofs.Kept.{kept_sealed}
 use Rattle.blk_lru.proofs.Performing.{part_kept}
 use Rattle.blk_sparse.proofs.NewIndex.{these-changes, updated-as}

@@ -1,5 +1,5 @@
 use Rattle.std.proofs.Common.{◌≡◌, ◌+◌, ◌/◌, ℕ, None, slice_index_or, sym, ◌∙◌, ap, subst}
-use Rattle.blk_image.specs.Told.{Told}
+use Rattle.spec_image.specs.Told.{Told}
 use Rattle.blk_io.proofs.Carried.{carried, if_damaged_weaker, silent_part}
 use Rattle.blk_entry.specs.Keys.{IsInside}
 use Rattle.blk_sparse.proofs.NewIndex.{being-noted, bit-inside, byte-read, moved-data, moved-outside, moved-steps, noted-after, nothing-noted, open-after}

@@ -1,10 +1,10 @@
 use Rattle.std.proofs.Common.{◌≡◌, ◌≤◌, ℕ, List, [], ◌∷◌, length, None, refl, subst, arith}
 use Rattle.std.specs.Option.{ForSome}
 use Rattle.std.proofs.lemmas.Bool.{eq-eqb, or_left}
-use Rattle.blk_image.specs.Told.{Passes, Told}
+use Rattle.spec_image.specs.Told.{Passes, Told}
 use Rattle.blk_io.proofs.Carried.{carried, if_damaged_weaker}
 use Rattle.blk_model.specs.Bytes.{overwritten}
-use Rattle.blk_kept.specs.Changes.{StillFinds}
+use Rattle.law_state.specs.Changes.{StillFinds}
 use Rattle.blk_object.specs.Making.{LeavesRoom, Takes, words_of_places}
 use Rattle.blk_sparse.specs.NewParts.{AreStoredAt}
 use Rattle.blk_sparse.proofs.NewPlaces.{among-second, both-find, both-taken, fewer, first-stored, none-before-them, room-left, second-stored, tells-first}

@@ -1,10 +1,10 @@
 use Rattle.std.proofs.Common.{◌≡◌, ◌+◌, ℕ, [], ◌∷◌, length, None, sym, ◌∙◌, ap, subst, arith}
 use Rattle.std.specs.Option.{ForSome}
-use Rattle.blk_image.specs.Told.{Told}
+use Rattle.spec_image.specs.Told.{Told}
 use Rattle.blk_io.proofs.Carried.{carried, if_damaged_weaker}
-use Rattle.blk_format.specs.Address.{is_address}
-use Rattle.blk_format.specs.Headers.{HasWholeIndex}
-use Rattle.blk_volume.specs.View.{store_of}
+use Rattle.spec_format.specs.Address.{is_address}
+use Rattle.spec_format.specs.Headers.{HasWholeIndex}
+use Rattle.spec_folder.specs.View.{store_of}
 use Rattle.blk_disk.specs.Tables.{Agrees}
 use Rattle.blk_object.specs.FailedChecks.{FailsLength}
 use Rattle.blk_object.specs.Making.{LeavesRoom, Takes}

@@ -1,10 +1,10 @@
 use Rattle.std.proofs.Common.{◌≡◌, None}
 use Rattle.std.proofs.lemmas.Result.{on_ok_weaker}
-use Rattle.blk_image.specs.Image.{Image}
-use Rattle.blk_image.specs.Told.{Told}
-use Rattle.blk_image.proofs.Runs.{passes_then, passes_weaker}
+use Rattle.spec_image.specs.Image.{Image}
+use Rattle.spec_image.specs.Told.{Told}
+use Rattle.spec_image.proofs.Runs.{passes_then, passes_weaker}
 use Rattle.blk_io.proofs.Carried.{if_damaged_weaker}
-use Rattle.blk_kept.specs.Changes.{StillFinds}
+use Rattle.law_state.specs.Changes.{StillFinds}
 use Rattle.blk_object.specs.Making.{words_of_places}
 use Rattle.blk_object.proofs.MakingTaken.{none-before, told-mid}
 use Rattle.blk_sparse.specs.NewParts.{words_of_part}

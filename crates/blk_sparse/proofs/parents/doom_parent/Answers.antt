@@ -1,13 +1,13 @@
 use Rattle.std.proofs.Common.{◌≡◌, ◌∙◌, ◌++◌, inr, refl, ap, sym, subst, ℕ, List, None, Some, map}
-use Rattle.blk_image.specs.Told.{Told}
-use Rattle.blk_image.proofs.Runs.{passes_stayed, passes_then, passes_weaker}
+use Rattle.spec_image.specs.Told.{Told}
+use Rattle.spec_image.proofs.Runs.{passes_stayed, passes_then, passes_weaker}
 use Rattle.blk_io.specs.Faults.{IfDamaged}
 use Rattle.blk_io.proofs.Carried.{carried, if_damaged_weaker}
 use Rattle.blk_model.specs.Effects.{doomed}
 use Rattle.blk_model.specs.Holding.{rest}
 use Rattle.blk_model.specs.Items.{part}
-use Rattle.blk_volume.specs.Sound.{words_of}
-use Rattle.blk_kept.specs.Changes.{Finds}
+use Rattle.spec_folder.specs.Sound.{words_of}
+use Rattle.law_state.specs.Changes.{Finds}
 use Rattle.blk_stream.proofs.Joined.{told_then}
 use Rattle.blk_object.specs.RemovingObjects.{FindsEither}
 use Rattle.blk_object.proofs.Sessions.{then-session}

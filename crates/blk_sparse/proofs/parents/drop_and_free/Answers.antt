@@ -1,12 +1,12 @@
 use Rattle.std.proofs.Common.{◌≡◌, ◌∙◌, ◌++◌, sym, subst, None, Some, map}
 use Rattle.std.specs.Prelude.{filter}
-use Rattle.blk_image.proofs.Runs.{passes_then, passes_weaker, some_inj}
+use Rattle.spec_image.proofs.Runs.{passes_then, passes_weaker, some_inj}
 use Rattle.blk_io.proofs.Carried.{carried, if_damaged_weaker}
 use Rattle.blk_model.specs.Effects.{doomed}
 use Rattle.blk_model.specs.Holding.{rest}
 use Rattle.blk_model.specs.Items.{part}
 use Rattle.blk_model.specs.Room.{parts_among}
-use Rattle.blk_kept.specs.Changes.{Finds}
+use Rattle.law_state.specs.Changes.{Finds}
 use Rattle.blk_stream.proofs.Joined.{told_then}
 use Rattle.blk_object.specs.Freeing.{AreFreeable, words_at}
 use Rattle.blk_object.proofs.Sessions.{freed-session, then-session}

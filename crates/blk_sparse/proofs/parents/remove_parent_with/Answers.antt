@@ -1,7 +1,7 @@
 use Rattle.std.proofs.Common.{[], ◌≡◌, ◌∙◌, ◌++◌, inr, refl, ap, sym, subst, ℕ, List, None, Some, map}
 use Rattle.std.specs.List.{FoldsTo}
-use Rattle.blk_image.specs.Told.{Told}
-use Rattle.blk_image.proofs.Runs.{passes_stayed, passes_then, passes_weaker, some_inj}
+use Rattle.spec_image.specs.Told.{Told}
+use Rattle.spec_image.proofs.Runs.{passes_stayed, passes_then, passes_weaker, some_inj}
 use Rattle.blk_io.specs.Faults.{IfDamaged}
 use Rattle.blk_io.proofs.Carried.{carried, if_damaged_weaker}
 use Rattle.blk_model.specs.Effects.{doomed}

@@ -1,12 +1,12 @@
 use Rattle.std.proofs.Common.{◌≡◌, ℕ, None, sym, subst, ap, ◌∙◌, true}
 use Rattle.std.specs.Option.{ForSome}
 use Rattle.std.proofs.lemmas.Result.{on_ok_weaker}
-use Rattle.blk_image.specs.Image.{Image}
-use Rattle.blk_image.specs.Told.{TellsBytes, Told}
-use Rattle.blk_image.proofs.Runs.{passes_none, some_inj}
+use Rattle.spec_image.specs.Image.{Image}
+use Rattle.spec_image.specs.Told.{TellsBytes, Told}
+use Rattle.spec_image.proofs.Runs.{passes_none, some_inj}
 use Rattle.blk_io.proofs.Carried.{carried, if_damaged_weaker}
-use Rattle.blk_format.specs.Address.{is_address}
-use Rattle.blk_volume.specs.View.{entry_at}
+use Rattle.spec_format.specs.Address.{is_address}
+use Rattle.spec_folder.specs.View.{entry_at}
 use Rattle.blk_disk.specs.Open.{IsOpen}
 use Rattle.blk_disk.specs.Tables.{is_node_among}
 use Rattle.blk_object.proofs.DamageChecks.{handed, moved, node-word-checked, touch-checked}

@@ -1,11 +1,11 @@
 use Rattle.std.proofs.Common.{◌≡◌, ◌∙◌, ◌++◌, ℕ, ap, drop, length, length-take, sym, subst, take, arith, List, None}
 use Rattle.std.proofs.lemmas.Result.{IfOk-weaker}
-use Rattle.blk_image.specs.Told.{Told}
+use Rattle.spec_image.specs.Told.{Told}
 use Rattle.blk_io.specs.Faults.{IfDamaged}
 use Rattle.blk_io.proofs.Carried.{if_damaged_weaker}
 use Rattle.blk_object.proofs.DamageChecks.{moved, read-checked}
 use Rattle.blk_object.proofs.OwnedPlaces.{loaded-checks}
-use Rattle.blk_volume.specs.Entries.{stream}
+use Rattle.spec_folder.specs.Entries.{stream}
 use Rattle.blk_entry.specs.Keys.{IsPiece}
 use Rattle.blk_ranges.specs.PartMaps.{presence_of}
 use Rattle.blk_sparse.proofs.ParentsRead.{streams-there}

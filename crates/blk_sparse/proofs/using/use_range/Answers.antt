@@ -1,7 +1,7 @@
 use Rattle.std.proofs.Common.{◌≡◌, sym, ◌∙◌, Option, Some, None, [], ◌∷◌}
 use Rattle.std.specs.Int.{cast_unsigned, w64}
 use Rattle.std.proofs.lemmas.Result.{IfOk-weaker, on_ok_weaker}
-use Rattle.blk_image.specs.Image.{Image}
+use Rattle.spec_image.specs.Image.{Image}
 use Rattle.blk_io.proofs.Carried.{carried, if_damaged_weaker}
 use Rattle.blk_model.specs.Items.{main}
 use Rattle.blk_sparse.specs.SparseObjects.{parts_used, with_all_used}

@@ -2,13 +2,13 @@ use Rattle.std.proofs.Common.{◌≡◌, ◌∙◌, ap, sym, subst, refl, None, 
 use Rattle.std.specs.Int.{cast_unsigned, w64}
 use Rattle.std.proofs.lemmas.Bool.{eqb-true}
 use Rattle.std.proofs.lemmas.Result.{on_ok_weaker}
-use Rattle.blk_image.specs.Told.{Told}
-use Rattle.blk_image.proofs.Runs.{passes_stayed, some_inj}
+use Rattle.spec_image.specs.Told.{Told}
+use Rattle.spec_image.proofs.Runs.{passes_stayed, some_inj}
 use Rattle.blk_io.specs.Faults.{IfDamaged}
 use Rattle.blk_io.proofs.Carried.{carried}
 use Rattle.blk_model.specs.Holding.{rest}
 use Rattle.blk_model.specs.Sparse.{covered_parts}
-use Rattle.blk_kept.specs.Changes.{Finds}
+use Rattle.law_state.specs.Changes.{Finds}
 use Rattle.blk_sparse.specs.Children.{HasParentKey}
 use Rattle.blk_sparse.specs.Writing.{AreInOrder}
 use Rattle.blk_sparse.proofs.KeptParents.{key-same, parent-key}

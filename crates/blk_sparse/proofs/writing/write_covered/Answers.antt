@@ -1,11 +1,11 @@
 use Rattle.std.proofs.Common.{◌≡◌, ◌+◌, ◌-◌, ◌≤◌, ◌<◌, List, Option, None, Some, length, sym, ◌∙◌, subst, arith}
 use Rattle.std.specs.Int.{cast_unsigned, w64}
 use Rattle.std.proofs.lemmas.Result.{on_ok_weaker}
-use Rattle.blk_image.specs.Image.{Image}
-use Rattle.blk_image.proofs.Runs.{passes_then, passes_weaker}
+use Rattle.spec_image.specs.Image.{Image}
+use Rattle.spec_image.proofs.Runs.{passes_then, passes_weaker}
 use Rattle.blk_io.proofs.Carried.{carried, if_damaged_weaker}
 use Rattle.blk_model.specs.Items.{Row}
-use Rattle.blk_kept.specs.Changes.{Finds}
+use Rattle.law_state.specs.Changes.{Finds}
 use Rattle.blk_object.proofs.MakingTaken.{told-mid}
 use Rattle.blk_sparse.proofs.WritingCovered.{at-place, can-first, can-one, can-second, covers-one, covers-two, done-one, done-two, order-one, order-two, rest-mid}
 use Rattle.blk_sparse.proofs.writing.write_covered.Goals as goal

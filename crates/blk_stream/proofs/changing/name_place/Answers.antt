@@ -1,14 +1,14 @@
 use Rattle.std.proofs.Common.{◌≡◌, Some, ◌+◌, ◌*◌, ℕ, sym, ◌∙◌, ap, subst, List, [], ◌∷◌, arith, refl}
 use Rattle.std.proofs.lemmas.Result.{on_ok_weaker}
-use Rattle.blk_image.specs.Image.{Image}
-use Rattle.blk_image.specs.Steps.{TrailStep, with_words}
-use Rattle.blk_image.specs.Told.{Along, AppliesPrefix}
-use Rattle.blk_image.proofs.Runs.{passes_part, some_inj}
-use Rattle.blk_format.specs.Sealed.{IsUpdated, record_at, sealed, sealed_steps, seal_place}
+use Rattle.spec_image.specs.Image.{Image}
+use Rattle.spec_image.specs.Steps.{TrailStep, with_words}
+use Rattle.spec_image.specs.Told.{Along, AppliesPrefix}
+use Rattle.spec_image.proofs.Runs.{passes_part, some_inj}
+use Rattle.spec_format.specs.Sealed.{IsUpdated, record_at, sealed, sealed_steps, seal_place}
 use Rattle.blk_io.proofs.Carried.{silent_part}
 use Rattle.blk_disk.proofs.SealedWrites.{front_read}
-use Rattle.blk_format.proofs.SealedRecords.{entry_bytes}
-use Rattle.blk_laws.proofs.lists.WriteSteps.{quiet-sealed}
+use Rattle.spec_format.proofs.SealedRecords.{entry_bytes}
+use Rattle.law_folder.proofs.lists.WriteSteps.{quiet-sealed}
 use Rattle.blk_stream.specs.Changing.{NamesInProgress, place_changes}
 use Rattle.blk_stream.specs.Streams.{address_place, size_place}
 use Rattle.blk_stream.proofs.RecordSeals.{updated_sealed}

@@ -1,5 +1,5 @@
 use Rattle.std.proofs.Common.{◌≡◌, ◌+◌, ℕ, None, length, take, drop, length-take, arith, subst}
-use Rattle.blk_image.specs.Footprint.{SameOutside}
+use Rattle.spec_image.specs.Footprint.{SameOutside}
 use Rattle.blk_io.proofs.Carried.{carried, if_damaged_weaker}
 use Rattle.blk_stream.specs.Copying.{IsCutFront, span_of}
 use Rattle.blk_stream.proofs.PlacesLeft.{told_back}

@@ -1,10 +1,10 @@
 use Rattle.std.proofs.Common.{◌≡◌, ◌≢◌, ℕ, inr, Option, None, sym, ◌∙◌, ap, subst, refl}
 use Rattle.std.specs.Prelude.{unwrap_or}
 use Rattle.std.proofs.lemmas.Result.{on_ok_weaker}
-use Rattle.blk_image.specs.Bytes.{content, word_at}
-use Rattle.blk_image.specs.Image.{Image}
-use Rattle.blk_image.proofs.Runs.{passes_none, passes_weaker, some_inj}
-use Rattle.blk_format.specs.Sealed.{record_at}
+use Rattle.spec_image.specs.Bytes.{content, word_at}
+use Rattle.spec_image.specs.Image.{Image}
+use Rattle.spec_image.proofs.Runs.{passes_none, passes_weaker, some_inj}
+use Rattle.spec_format.specs.Sealed.{record_at}
 use Rattle.blk_io.proofs.Carried.{if_damaged_weaker, untold_where}
 use Rattle.blk_entry.proofs.KeyPlaces.{damaged_any}
 use Rattle.blk_stream.specs.Streams.{address_place, address_word, may_keep, size_place}

@@ -1,10 +1,10 @@
 use Rattle.std.proofs.Common.{◌≡◌, ◌⊎◌, inl, ℕ, None, sym, ◌∙◌, ap, subst, arith}
 use Rattle.std.specs.Option.{ForSome}
-use Rattle.blk_image.specs.Told.{Told}
-use Rattle.blk_image.proofs.Runs.{passes_none, passes_stayed, some_inj}
-use Rattle.blk_format.specs.Address.{file_selector, place}
-use Rattle.blk_format.specs.Sealed.{RecordChecks, record_at}
-use Rattle.blk_format.proofs.SealedRecords.{entry_bytes}
+use Rattle.spec_image.specs.Told.{Told}
+use Rattle.spec_image.proofs.Runs.{passes_none, passes_stayed, some_inj}
+use Rattle.spec_format.specs.Address.{file_selector, place}
+use Rattle.spec_format.specs.Sealed.{RecordChecks, record_at}
+use Rattle.spec_format.proofs.SealedRecords.{entry_bytes}
 use Rattle.blk_io.specs.declared.folder.FileId.TheVariants as FileId
 use Rattle.blk_io.specs.Faults.{IsShort}
 use Rattle.blk_io.proofs.Carried.{carried, if_damaged_weaker, told_at_end}

@@ -1,6 +1,6 @@
 use Rattle.std.proofs.Common.{◌≡◌, ℕ, refl, Option, None, ap, subst, arith}
 use Rattle.std.specs.Prelude.{length, unwrap_or}
-use Rattle.blk_image.proofs.Runs.{passes_end}
+use Rattle.spec_image.proofs.Runs.{passes_end}
 use Rattle.blk_io.proofs.Carried.{carried, if_damaged_weaker, silent_part, told_at_end}
 use Rattle.blk_entry.specs.Keys.{IsInFile}
 use Rattle.blk_stream.specs.Copying.{IsOldThere, ShareNoFile, old_spans}

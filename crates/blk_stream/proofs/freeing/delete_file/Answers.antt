@@ -1,10 +1,10 @@
 use Rattle.std.proofs.Common.{inr, sym, ap, subst}
 use Rattle.std.specs.Prelude.{is_some}
 use Rattle.std.proofs.lemmas.Result.{on_ok_weaker}
-use Rattle.blk_image.specs.Footprint.{Footprint, SameOutside}
-use Rattle.blk_image.specs.Told.{Passes}
-use Rattle.blk_image.proofs.Runs.{passes_end, passes_weaker}
-use Rattle.blk_format.specs.Address.{external_number}
+use Rattle.spec_image.specs.Footprint.{Footprint, SameOutside}
+use Rattle.spec_image.specs.Told.{Passes}
+use Rattle.spec_image.proofs.Runs.{passes_end, passes_weaker}
+use Rattle.spec_format.specs.Address.{external_number}
 use Rattle.blk_io.proofs.Carried.{silent_part}
 use Rattle.blk_stream.proofs.PlacesFreed.{agrees_deleted, freed_file, freeing_external}
 use Rattle.blk_stream.proofs.freeing.delete_file.Goals as goal

@@ -1,9 +1,9 @@
 use Rattle.std.proofs.Common.{◌≢◌, inl, sym, ◌∙◌, subst}
 use Rattle.std.proofs.lemmas.Result.{on_ok_weaker}
-use Rattle.blk_image.specs.Footprint.{Footprint, SameOutside}
-use Rattle.blk_image.specs.Told.{Passes}
-use Rattle.blk_image.proofs.Runs.{passes_end, passes_weaker}
-use Rattle.blk_format.specs.Address.{kind_of, external}
+use Rattle.spec_image.specs.Footprint.{Footprint, SameOutside}
+use Rattle.spec_image.specs.Told.{Passes}
+use Rattle.spec_image.proofs.Runs.{passes_end, passes_weaker}
+use Rattle.spec_format.specs.Address.{kind_of, external}
 use Rattle.blk_io.proofs.Carried.{if_damaged_weaker}
 use Rattle.blk_entry.proofs.KeyPlaces.{of_other}
 use Rattle.blk_stream.proofs.PlacesFreed.{freed_blocks, freed_only, freeing_blocks, map_only}

@@ -1,10 +1,10 @@
 use Rattle.std.proofs.Common.{◌∷◌, []}
-use Rattle.blk_image.specs.Told.{Applies}
+use Rattle.spec_image.specs.Told.{Applies}
 use Rattle.std.proofs.lemmas.Result.{on_ok_weaker}
-use Rattle.blk_format.specs.Address.{external_number}
+use Rattle.spec_format.specs.Address.{external_number}
 use Rattle.std.proofs.Common.{ℕ, subst}
-use Rattle.blk_image.specs.Image.{External}
-use Rattle.blk_image.specs.Steps.{SetLength}
+use Rattle.spec_image.specs.Image.{External}
+use Rattle.spec_image.specs.Steps.{SetLength}
 use Rattle.blk_stream.proofs.InsideSteps.{agrees_resized, resized_there}
 use Rattle.blk_stream.proofs.inside.set_size.Goals as goal
 

@@ -2,13 +2,13 @@ use Rattle.std.proofs.Common.{◌≡◌, ◌+◌, ◌-◌, ◌≤◌, ℕ, refl,
 use Rattle.std.specs.Prelude.{replicate}
 use Rattle.std.proofs.lemmas.List.{take-replicate}
 use Rattle.std.proofs.lemmas.Result.{on_ok_weaker}
-use Rattle.blk_image.specs.Bytes.{zeros}
-use Rattle.blk_image.specs.Image.{Block}
-use Rattle.blk_image.specs.Steps.{TrailStep, words}
-use Rattle.blk_image.specs.Told.{Applies, AppliesPrefix}
-use Rattle.blk_image.proofs.Runs.{grows_none}
-use Rattle.blk_image.proofs.Splices.{length-zeros}
-use Rattle.blk_format.specs.Address.{file_selector, place}
+use Rattle.spec_image.specs.Bytes.{zeros}
+use Rattle.spec_image.specs.Image.{Block}
+use Rattle.spec_image.specs.Steps.{TrailStep, words}
+use Rattle.spec_image.specs.Told.{Applies, AppliesPrefix}
+use Rattle.spec_image.proofs.Runs.{grows_none}
+use Rattle.spec_image.proofs.Splices.{length-zeros}
+use Rattle.spec_format.specs.Address.{file_selector, place}
 use Rattle.blk_disk.proofs.Ranges.{room_small}
 use Rattle.blk_entry.proofs.DataSteps.{steps_of_blocks}
 use Rattle.blk_stream.specs.Inside.{gap_steps}

@@ -2,8 +2,8 @@ use Rattle.std.proofs.Common.{sym, subst}
 use Rattle.std.proofs.lemmas.Result.{on_ok_weaker}
 use Rattle.std.specs.Option.{ForSome}
 use Rattle.blk_disk.specs.Tables.{Agrees}
-use Rattle.blk_image.specs.Told.{Applies, AppliesPrefix, Told}
-use Rattle.blk_image.proofs.Runs.{grows_then, part_then, part_whole}
+use Rattle.spec_image.specs.Told.{Applies, AppliesPrefix, Told}
+use Rattle.spec_image.proofs.Runs.{grows_then, part_then, part_whole}
 use Rattle.blk_entry.proofs.KeyPlaces.{ok_there}
 use Rattle.blk_stream.specs.Inside.{here_steps}
 use Rattle.blk_stream.proofs.inside.write_here.Goals as goal

@@ -1,10 +1,10 @@
 use Rattle.std.proofs.Common.{◌≡◌, List, sym, ◌∙◌, ap, subst, arith}
 use Rattle.std.specs.Option.{option_map}
 use Rattle.std.proofs.lemmas.Result.{on_ok_weaker}
-use Rattle.blk_image.specs.Image.{AreBytes, Image}
-use Rattle.blk_image.specs.Steps.{TrailStep, after}
-use Rattle.blk_image.specs.Told.{Along, AppliesPrefix}
-use Rattle.blk_image.proofs.Runs.{grows_then, part_then, passes_part, some_inj, told_whole}
+use Rattle.spec_image.specs.Image.{AreBytes, Image}
+use Rattle.spec_image.specs.Steps.{TrailStep, after}
+use Rattle.spec_image.specs.Told.{Along, AppliesPrefix}
+use Rattle.spec_image.proofs.Runs.{grows_then, part_then, passes_part, some_inj, told_whole}
 use Rattle.blk_stream.specs.Inside.{WritesInProgress, WritesInside, here_steps, inside_steps}
 use Rattle.blk_stream.proofs.InsideWritten.{inside_sealed, written_inside}
 use Rattle.blk_stream.specs.Stages.{KeepsSeal, WritesKeepingFiles}

@@ -1,10 +1,10 @@
 use Rattle.std.proofs.Common.{◌≡◌, ◌≢◌, ◌+◌, ◌*◌, ℕ, refl, sym, ◌∙◌, ap, subst, List, [], ◌∷◌}
 use Rattle.std.proofs.lemmas.Result.{on_ok_weaker}
-use Rattle.blk_image.specs.Steps.{TrailStep}
-use Rattle.blk_image.specs.Told.{Applies, AppliesPrefix}
-use Rattle.blk_image.proofs.Runs.{grows_none}
-use Rattle.blk_format.specs.Sealed.{steps_over}
-use Rattle.blk_format.proofs.SealedRecords.{entry_bytes}
+use Rattle.spec_image.specs.Steps.{TrailStep}
+use Rattle.spec_image.specs.Told.{Applies, AppliesPrefix}
+use Rattle.spec_image.proofs.Runs.{grows_none}
+use Rattle.spec_format.specs.Sealed.{steps_over}
+use Rattle.spec_format.proofs.SealedRecords.{entry_bytes}
 use Rattle.blk_stream.specs.Inside.{size_steps}
 use Rattle.blk_stream.proofs.InsideSteps.{size_changes, size_none, size_some}
 use Rattle.blk_stream.proofs.inside.write_size.Goals as goal

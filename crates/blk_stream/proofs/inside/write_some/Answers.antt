@@ -1,8 +1,8 @@
 use Rattle.std.proofs.Common.{◌≡◌, refl, sym, ◌∙◌, subst, List, length}
 use Rattle.std.proofs.lemmas.Bool.{eqb-true}
-use Rattle.blk_image.specs.Steps.{TrailStep}
-use Rattle.blk_image.specs.Told.{Applies}
-use Rattle.blk_image.proofs.Runs.{grows_none}
+use Rattle.spec_image.specs.Steps.{TrailStep}
+use Rattle.spec_image.specs.Told.{Applies}
+use Rattle.spec_image.proofs.Runs.{grows_none}
 use Rattle.blk_stream.proofs.InsideSteps.{data_none}
 use Rattle.blk_stream.proofs.inside.write_some.Goals as goal
 

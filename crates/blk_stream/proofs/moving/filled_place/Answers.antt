@@ -1,5 +1,5 @@
 use Rattle.std.proofs.Common.{◌≡◌, ℕ, inl, inr, None, true, refl, sym, ◌∙◌, subst, arith}
-use Rattle.blk_image.proofs.Runs.{passes_none, passes_weaker, some_inj}
+use Rattle.spec_image.proofs.Runs.{passes_none, passes_weaker, some_inj}
 use Rattle.blk_io.proofs.Carried.{carried, if_damaged_weaker}
 use Rattle.blk_stream.specs.Streams.{may_keep}
 use Rattle.blk_stream.specs.Stages.{FillsByStage}

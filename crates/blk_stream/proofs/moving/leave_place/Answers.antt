@@ -1,9 +1,9 @@
 use Rattle.std.proofs.Common.{◌≡◌, ◌∙◌, inl, inr, false, sym, subst}
 use Rattle.std.proofs.lemmas.Result.{on_ok_weaker}
-use Rattle.blk_image.specs.Told.{Told}
-use Rattle.blk_image.proofs.Runs.{passes_end, passes_then, passes_weaker}
-use Rattle.blk_format.specs.Address.{block_count, file_selector, first_block}
-use Rattle.blk_format.specs.Sealed.{record_at}
+use Rattle.spec_image.specs.Told.{Told}
+use Rattle.spec_image.proofs.Runs.{passes_end, passes_then, passes_weaker}
+use Rattle.spec_format.specs.Address.{block_count, file_selector, first_block}
+use Rattle.spec_format.specs.Sealed.{record_at}
 use Rattle.blk_io.proofs.Carried.{if_damaged_weaker, told_at_end}
 use Rattle.blk_alloc.specs.Owning.{IsCause}
 use Rattle.blk_stream.specs.Changing.{NamesInProgress}

@@ -1,8 +1,8 @@
 use Rattle.std.proofs.Common.{◌≡◌, inl, inr, ℕ, None, true, sym, subst}
 use Rattle.std.specs.Prelude.{unwrap_or}
 use Rattle.std.proofs.lemmas.Result.{on_ok_weaker}
-use Rattle.blk_format.specs.Sealed.{record_at}
-use Rattle.blk_image.proofs.Runs.{passes_weaker}
+use Rattle.spec_format.specs.Sealed.{record_at}
+use Rattle.spec_image.proofs.Runs.{passes_weaker}
 use Rattle.blk_io.proofs.Carried.{carried}
 use Rattle.blk_stream.specs.Streams.{may_keep}
 use Rattle.blk_stream.specs.Changing.{HasWords}

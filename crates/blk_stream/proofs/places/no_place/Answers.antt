@@ -1,5 +1,5 @@
 use Rattle.std.proofs.Common.{◌+◌, ◌∙◌, ap, inr, ℕ, arith}
-use Rattle.blk_format.specs.Address.{place}
+use Rattle.spec_format.specs.Address.{place}
 use Rattle.blk_entry.proofs.KeyPlaces.{err_damaged}
 use Rattle.blk_stream.specs.declared.places.Stored.{Stored}
 use Rattle.blk_stream.specs.Streams.{IsMisplacedStreamBy}

@@ -1,5 +1,5 @@
 use Rattle.std.proofs.Common.{◌≡◌, ℕ, None, Some, refl, sym, ◌∙◌, arith}
-use Rattle.blk_image.proofs.Runs.{some_inj}
+use Rattle.spec_image.proofs.Runs.{some_inj}
 use Rattle.blk_stream.proofs.StreamPlaces.{may_both, may_parts, not_stored_by, stored_by_is, stored_some}
 use Rattle.blk_stream.proofs.places.place_of.Goals as goal
 

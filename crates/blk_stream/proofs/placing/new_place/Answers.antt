@@ -1,7 +1,7 @@
 use Rattle.std.proofs.Common.{◌≡◌, inr, ◌<◌, ◌≤◌, ℕ, None, sym, ◌∙◌, ap, subst}
-use Rattle.blk_format.specs.Address.{is_address}
+use Rattle.spec_format.specs.Address.{is_address}
 use Rattle.blk_addr.specs.Kind.{kind_number}
-use Rattle.blk_image.proofs.Runs.{passes_weaker}
+use Rattle.spec_image.proofs.Runs.{passes_weaker}
 use Rattle.blk_io.proofs.Carried.{carried}
 use Rattle.blk_alloc.specs.Allocating.{AreCounted}
 use Rattle.blk_stream.proofs.Created.{created_agrees, created_place, creating_passes}

@@ -1,7 +1,7 @@
 use Rattle.std.proofs.Common.{◌≡◌, ℕ, length, take, drop, length-take, Option, None, Some, sym, ◌∙◌, ap, subst, arith, List, true}
 use Rattle.std.specs.Option.{ForSome}
 use Rattle.std.specs.Prelude.{◌++◌, slice_index, unwrap_or}
-use Rattle.blk_image.specs.Told.{Told}
+use Rattle.spec_image.specs.Told.{Told}
 use Rattle.blk_disk.specs.Tables.{Agrees}
 use Rattle.blk_io.specs.Faults.{IfDamaged}
 use Rattle.blk_io.proofs.Carried.{carried, untold_where}

@@ -2,11 +2,11 @@ use Rattle.std.proofs.Common.{◌≡◌, ◌⊎◌, ℕ, inl, Some, None, refl, 
 use Rattle.std.specs.Prelude.{length, unwrap_or}
 use Rattle.std.specs.Option.{ForSome}
 use Rattle.std.proofs.lemmas.Result.{on_ok_weaker}
-use Rattle.blk_image.specs.Image.{Image}
-use Rattle.blk_image.specs.Told.{Told, Passes}
-use Rattle.blk_image.proofs.Runs.{passes_none, passes_stayed, some_inj}
-use Rattle.blk_format.specs.Address.{file_selector, place}
-use Rattle.blk_format.proofs.SealedRecords.{entry_bytes}
+use Rattle.spec_image.specs.Image.{Image}
+use Rattle.spec_image.specs.Told.{Told, Passes}
+use Rattle.spec_image.proofs.Runs.{passes_none, passes_stayed, some_inj}
+use Rattle.spec_format.specs.Address.{file_selector, place}
+use Rattle.spec_format.proofs.SealedRecords.{entry_bytes}
 use Rattle.blk_io.specs.declared.folder.FileId.TheVariants as FileId
 use Rattle.blk_io.specs.Faults.{IsShort}
 use Rattle.blk_io.proofs.Carried.{carried, if_damaged_weaker, untold_where}

@@ -1,10 +1,10 @@
 use Rattle.std.proofs.Common.{◌≡◌, inl, ◌+◌, ◌≤◌, ℕ, Option, true, refl, sym, ◌∙◌, ap, subst, arith}
 use Rattle.std.specs.Prelude.{length, unwrap_or}
 use Rattle.std.proofs.lemmas.Result.{on_ok_weaker}
-use Rattle.blk_image.specs.Told.{Passes}
-use Rattle.blk_image.proofs.Runs.{passes_none, some_inj}
-use Rattle.blk_format.specs.Sealed.{RecordChecks, record_at}
-use Rattle.blk_volume.specs.Entries.{most_stream_bytes}
+use Rattle.spec_image.specs.Told.{Passes}
+use Rattle.spec_image.proofs.Runs.{passes_none, some_inj}
+use Rattle.spec_format.specs.Sealed.{RecordChecks, record_at}
+use Rattle.spec_folder.specs.Entries.{most_stream_bytes}
 use Rattle.blk_stream.specs.Streams.{may_keep}
 use Rattle.blk_stream.specs.Changing.{HasWords}
 use Rattle.blk_stream.specs.Writing as writes

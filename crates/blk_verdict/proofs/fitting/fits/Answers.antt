@@ -1,10 +1,10 @@
 use Rattle.std.proofs.Common.{◌≡◌, ◌∙◌, sym, ap}
 use Rattle.std.specs.Option.{ForSome}
 use Rattle.std.proofs.lemmas.Result.{IfOk-weaker}
-use Rattle.blk_image.specs.Told.{Told}
+use Rattle.spec_image.specs.Told.{Told}
 use Rattle.blk_io.proofs.Carried.{if_damaged_weaker}
 use Rattle.blk_model.proofs.Same.{same_bytes}
-use Rattle.blk_volume.specs.Loads as shown
+use Rattle.spec_folder.specs.Loads as shown
 use Rattle.blk_disk.specs.Tables.{Agrees}
 use Rattle.blk_lru.proofs.Conditions.{told_now, told_stays}
 use Rattle.blk_verdict.specs.Kept.{IsLoadedFrom, is_sought}

@@ -3,8 +3,8 @@ use Rattle.std.specs.Int.{cast_unsigned, w64}
 use Rattle.std.specs.Option.{ForSome}
 use Rattle.std.proofs.lemmas.Result.{IfOk-weaker}
 use Rattle.std.specs.Prelude.{List, ℕ}
-use Rattle.blk_volume.specs.Entries.{stream}
-use Rattle.blk_volume.specs.Loads as shown
+use Rattle.spec_folder.specs.Entries.{stream}
+use Rattle.spec_folder.specs.Loads as shown
 use Rattle.blk_verdict.specs.Kept.{IsLoadedFrom, is_role_sought, is_sought}
 use Rattle.blk_verdict.specs.declared.fitting.Sought.{Sought}
 use Rattle.blk_verdict.proofs.KeptKeysFound.{indexes-found}

@@ -2,15 +2,15 @@ use Rattle.std.proofs.Common.{◌∙◌, ◌∷◌, [], List, Result, sym, ap, s
 use Rattle.std.specs.Option.{ForSome}
 use Rattle.std.proofs.lemmas.List.{length-take-le}
 use Rattle.std.proofs.lemmas.Result.{IfOk-weaker}
-use Rattle.blk_image.specs.Image.{Image}
-use Rattle.blk_image.specs.Told.{Told}
+use Rattle.spec_image.specs.Image.{Image}
+use Rattle.spec_image.specs.Told.{Told}
 use Rattle.blk_audit.specs.ReadLists.{AreListsOf, IsSaidAt}
 use Rattle.blk_audit.proofs.Carrying.{weaker}
-use Rattle.blk_volume.specs.Audit as audit
-use Rattle.blk_volume.specs.Reasons as reasons
-use Rattle.blk_volume.specs.Loads as shown
-use Rattle.blk_volume.specs.Loads.{held_rule}
-use Rattle.blk_volume.specs.View.{store_of}
+use Rattle.spec_folder.specs.Audit as audit
+use Rattle.spec_folder.specs.Reasons as reasons
+use Rattle.spec_folder.specs.Loads as shown
+use Rattle.spec_folder.specs.Loads.{held_rule}
+use Rattle.spec_folder.specs.View.{store_of}
 use Rattle.blk_disk.specs.Tables.{Agrees}
 use Rattle.blk_entry.proofs.KeyPlaces.{may_have_parts}
 use Rattle.blk_lru.proofs.Conditions.{told_now, told_stays}

@@ -1,6 +1,6 @@
 use Rattle.std.proofs.Common.{◌≡◌, ◌+◌, ℕ, List, length, sym, ◌∙◌, subst, arith}
 use Rattle.std.proofs.lemmas.Result.{on_ok_weaker}
-use Rattle.blk_format.specs.Address.{is_address}
+use Rattle.spec_format.specs.Address.{is_address}
 use Rattle.blk_entry.specs.Keys.{IsInFile, IsInside, bytes_before, data_at, key_address}
 use Rattle.blk_entry.proofs.KeyPlaces.{long_inside, may_have_parts, short_inside}
 use Rattle.blk_io.proofs.Carried.{if_damaged_weaker}

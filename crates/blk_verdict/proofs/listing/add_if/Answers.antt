@@ -1,8 +1,8 @@
 use Rattle.std.proofs.Common.{◌≡◌, ℕ, ◌++◌, ◌∷◌, [], List, true, false, sym, ap, ◌∙◌}
 use Rattle.std.proofs.lemmas.List.{append-nil}
-use Rattle.blk_volume.specs.Audit.{is_unlisted}
-use Rattle.blk_volume.specs.Found.{completed}
-use Rattle.blk_volume.specs.View.{view_of}
+use Rattle.spec_folder.specs.Audit.{is_unlisted}
+use Rattle.spec_folder.specs.Found.{completed}
+use Rattle.spec_folder.specs.View.{view_of}
 use Rattle.blk_audit.proofs.Carrying.{converted}
 use Rattle.blk_verdict.proofs.ListedFacts.{none_some, one_fails, one_passes, some_same}
 use Rattle.blk_verdict.proofs.listing.add_if.Goals as goal

@@ -1,5 +1,5 @@
 use Rattle.std.proofs.Common.{◌≡◌, ℕ, true, false, not, sym, ap, ◌∙◌, subst}
-use Rattle.blk_volume.specs.View.{RecordFields, entry_at, fields_of}
+use Rattle.spec_folder.specs.View.{RecordFields, entry_at, fields_of}
 use Rattle.blk_disk.specs.Tables.{is_record_among}
 use Rattle.blk_audit.specs.ReadLists.{is_named_by}
 use Rattle.blk_audit.proofs.Truths.{none_by, test_by, value_by}

@@ -2,10 +2,10 @@ use Rattle.std.proofs.Common.{◌≡◌, ℕ, ◌++◌, ◌∷◌, [], ◌<◌, 
 use Rattle.std.specs.List.{filter}
 use Rattle.std.proofs.lemmas.List.{take_all}
 use Rattle.std.proofs.lemmas.Option.{slice_get-get_or}
-use Rattle.blk_volume.specs.Audit.{is_unlisted}
-use Rattle.blk_volume.specs.Found.{completed}
-use Rattle.blk_volume.specs.Reasons as reason
-use Rattle.blk_volume.specs.View.{view_of}
+use Rattle.spec_folder.specs.Audit.{is_unlisted}
+use Rattle.spec_folder.specs.Found.{completed}
+use Rattle.spec_folder.specs.Reasons as reason
+use Rattle.spec_folder.specs.View.{view_of}
 use Rattle.blk_disk.specs.Tables.{Agrees}
 use Rattle.blk_lru.proofs.Conditions.{told_now}
 use Rattle.blk_audit.specs.Chaining.{words_reached}

@@ -1,10 +1,10 @@
 use Rattle.std.proofs.Common.{◌≡◌, ◌≤◌, take}
 use Rattle.std.specs.List.{filter}
 use Rattle.std.specs.Option.{ForSome}
-use Rattle.blk_image.specs.Told.{Stays}
-use Rattle.blk_volume.specs.Audit.{is_unlisted}
-use Rattle.blk_volume.specs.Found.{completed}
-use Rattle.blk_volume.specs.View.{view_of}
+use Rattle.spec_image.specs.Told.{Stays}
+use Rattle.spec_folder.specs.Audit.{is_unlisted}
+use Rattle.spec_folder.specs.Found.{completed}
+use Rattle.spec_folder.specs.View.{view_of}
 use Rattle.blk_disk.specs.Tables.{Agrees}
 use Rattle.blk_audit.specs.Chaining.{words_reached}
 use Rattle.blk_audit.specs.ReadLists.{AreListsOf}

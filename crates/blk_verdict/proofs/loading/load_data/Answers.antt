@@ -1,7 +1,7 @@
 use Rattle.std.proofs.Common.{sym, ◌∙◌, ap}
-use Rattle.blk_image.specs.Told.{Told}
+use Rattle.spec_image.specs.Told.{Told}
 use Rattle.blk_io.proofs.Carried.{if_damaged_weaker}
-use Rattle.blk_volume.specs.View.{store_of}
+use Rattle.spec_folder.specs.View.{store_of}
 use Rattle.blk_disk.specs.Tables.{Agrees}
 use Rattle.blk_entry.proofs.KeyPlaces.{may_have_parts}
 use Rattle.blk_lru.proofs.Conditions.{told_before, told_stays}

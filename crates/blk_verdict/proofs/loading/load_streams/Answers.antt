@@ -1,8 +1,8 @@
 use Rattle.std.proofs.Common.{◌≡◌, ℕ, List, Option, Some, refl, sym, ◌∙◌, ap, subst}
-use Rattle.blk_image.specs.Told.{Told}
+use Rattle.spec_image.specs.Told.{Told}
 use Rattle.blk_io.proofs.Carried.{carried, if_damaged_weaker}
-use Rattle.blk_volume.specs.Entries.{role_of, stored_streams}
-use Rattle.blk_volume.specs.View.{store_of}
+use Rattle.spec_folder.specs.Entries.{role_of, stored_streams}
+use Rattle.spec_folder.specs.View.{store_of}
 use Rattle.blk_disk.specs.Tables.{Agrees}
 use Rattle.blk_lru.proofs.Conditions.{told_stays}
 use Rattle.blk_verdict.specs.Loading as loading

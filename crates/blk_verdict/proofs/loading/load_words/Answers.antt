@@ -1,12 +1,12 @@
 use Rattle.std.proofs.Common.{◌≡◌, true, Some, Result, sym, ◌∙◌, ap, subst}
 use Rattle.std.specs.Option.{ForSome, option_map}
-use Rattle.blk_format.specs.Address.{is_address}
-use Rattle.blk_format.specs.BlockFiles.{is_among}
-use Rattle.blk_format.specs.Headers.{table_length}
-use Rattle.blk_volume.specs.Loads as shown
-use Rattle.blk_volume.specs.Loads.{held_rule}
-use Rattle.blk_volume.specs.Reasons as reasons
-use Rattle.blk_volume.specs.View.{store_of}
+use Rattle.spec_format.specs.Address.{is_address}
+use Rattle.spec_format.specs.BlockFiles.{is_among}
+use Rattle.spec_format.specs.Headers.{table_length}
+use Rattle.spec_folder.specs.Loads as shown
+use Rattle.spec_folder.specs.Loads.{held_rule}
+use Rattle.spec_folder.specs.Reasons as reasons
+use Rattle.spec_folder.specs.View.{store_of}
 use Rattle.blk_disk.specs.Tables.{Agrees, is_record_among}
 use Rattle.blk_entry.proofs.KeyPlaces.{length_right, ok_weaker}
 use Rattle.blk_audit.specs.Chaining.{reached_by}

@@ -1,7 +1,7 @@
 use Rattle.std.proofs.Common.{◌≡◌, ◌∙◌, ℕ, drop, length, take, sym, ap}
 use Rattle.std.specs.Prelude.{◌++◌}
 use Rattle.std.proofs.Math.Seq.{take-append_seam}
-use Rattle.blk_format.specs.Hash.{hash}
+use Rattle.spec_format.specs.Hash.{hash}
 use Rattle.blk_audit.specs.Records.{fields_said}
 use Rattle.blk_verdict.proofs.KeyFacts.{key_length}
 use Rattle.blk_verdict.proofs.loading.read_sum.Goals as goal

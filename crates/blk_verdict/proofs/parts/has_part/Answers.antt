@@ -1,5 +1,5 @@
 use Rattle.std.proofs.Common.{ℕ, sym, ◌∙◌, ap, subst, arith}
-use Rattle.blk_format.specs.Address.{is_address, kind_of}
+use Rattle.spec_format.specs.Address.{is_address, kind_of}
 use Rattle.blk_entry.specs.Keys.{IsInside}
 use Rattle.blk_io.proofs.Carried.{carried, if_damaged_weaker}
 use Rattle.blk_verdict.proofs.KeyFacts.{in_blocks, no_word, part_inside, stores_address}

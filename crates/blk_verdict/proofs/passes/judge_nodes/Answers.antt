@@ -1,8 +1,8 @@
 use Rattle.std.proofs.Common.{ℕ, List, [], false, sym, ap, subst, ◌∙◌}
-use Rattle.blk_image.specs.Told.{Told}
+use Rattle.spec_image.specs.Told.{Told}
 use Rattle.blk_lru.proofs.Conditions.{told_now, told_stays}
-use Rattle.blk_volume.specs.Audit as audit
-use Rattle.blk_volume.specs.View.{store_of}
+use Rattle.spec_folder.specs.Audit as audit
+use Rattle.spec_folder.specs.View.{store_of}
 use Rattle.blk_audit.specs.Walking.{nodes_walked}
 use Rattle.blk_audit.proofs.Carrying.{carried, weaker}
 use Rattle.blk_verdict.specs.Passes.{AreTried, CanBeTried, of_pass}

@@ -2,9 +2,9 @@ use Rattle.std.proofs.Common.{◌≡◌, ◌≤◌, ℕ, true, List, [], ◌∷�
 use Rattle.std.specs.Prelude.{MatchOption}
 use Rattle.blk_io.proofs.Carried.{if_damaged_weaker}
 use Rattle.blk_lru.proofs.Conditions.{told_now}
-use Rattle.blk_volume.specs.Audit.{is_child}
-use Rattle.blk_volume.specs.Loads.{held_rule}
-use Rattle.blk_volume.specs.View.{store_of}
+use Rattle.spec_folder.specs.Audit.{is_child}
+use Rattle.spec_folder.specs.Loads.{held_rule}
+use Rattle.spec_folder.specs.View.{store_of}
 use Rattle.blk_disk.specs.Tables.{Agrees}
 use Rattle.blk_audit.specs.ReadLists.{IsWalkedNode}
 use Rattle.blk_audit.specs.Walking.{nodes_walked}

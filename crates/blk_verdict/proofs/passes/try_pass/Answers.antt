@@ -1,9 +1,9 @@
 use Rattle.std.proofs.Common.{◌≡◌, ◌<◌, ℕ, List, ◌++◌, take, get_or, length, refl, sym, ap, subst, ◌∙◌, arith}
 use Rattle.std.proofs.lemmas.List.{append-nil, take_all}
 use Rattle.std.proofs.lemmas.Option.{slice_get-get_or}
-use Rattle.blk_image.specs.Told.{Told}
+use Rattle.spec_image.specs.Told.{Told}
 use Rattle.blk_lru.proofs.Conditions.{told_now, told_stays}
-use Rattle.blk_volume.specs.View.{store_of}
+use Rattle.spec_folder.specs.View.{store_of}
 use Rattle.blk_audit.specs.Walking.{nodes_walked}
 use Rattle.blk_audit.proofs.Carrying.{carried, weaker}
 use Rattle.blk_verdict.specs.Passes.{AreTried, CanBeTried, of_pass}

@@ -1,8 +1,8 @@
 use Rattle.std.proofs.Common.{Option, Some, None, sym, ◌∙◌, subst, arith, Bool, true, false, if◌then◌else◌, ℕ, ◌≡◌}
 use Rattle.std.specs.Prelude.{◌==◌, slice_index}
 use Rattle.std.proofs.lemmas.Bool.Decides.{nat_tests}
-use Rattle.blk_volume.specs.Entries as entries
-use Rattle.blk_volume.specs.Entries.{stream}
+use Rattle.spec_folder.specs.Entries as entries
+use Rattle.spec_folder.specs.Entries.{stream}
 use Rattle.blk_audit.specs.Records.{fields_said}
 use Rattle.blk_entry.specs.Keys.{stores}
 use Rattle.blk_verdict.specs.Readable.{HasIndexIf}

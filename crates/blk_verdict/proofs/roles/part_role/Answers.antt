@@ -2,8 +2,8 @@ use Rattle.std.proofs.Common.{◌≤◌, ℕ, Option, Some, None, ◌&&◌, if�
 use Rattle.std.specs.Prelude.{◌==◌}
 use Rattle.std.specs.Int.{cast_unsigned, w64}
 use Rattle.std.proofs.lemmas.Bool.Decides.{nat_tests}
-use Rattle.blk_volume.specs.Entries as entries
-use Rattle.blk_volume.specs.Entries.{stream}
+use Rattle.spec_folder.specs.Entries as entries
+use Rattle.spec_folder.specs.Entries.{stream}
 use Rattle.blk_ranges.specs.PartMaps.{index_of, map_signature}
 use Rattle.blk_audit.specs.Records.{fields_said}
 use Rattle.blk_verdict.specs.Roles.{IsRoleIf}

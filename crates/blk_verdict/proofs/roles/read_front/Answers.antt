@@ -1,7 +1,7 @@
 use Rattle.std.proofs.Common.{◌+◌, ℕ, length, take, sym, ◌∙◌, ap, subst}
 use Rattle.std.proofs.lemmas.Result.{on_ok_weaker}
-use Rattle.blk_format.specs.Address.{is_address, kind_of}
-use Rattle.blk_image.specs.Image.{byte}
+use Rattle.spec_format.specs.Address.{is_address, kind_of}
+use Rattle.spec_image.specs.Image.{byte}
 use Rattle.blk_entry.specs.Keys.{IsInside, data_at, data_file, data_start}
 use Rattle.blk_entry.proofs.KeyPlaces.{take-range}
 use Rattle.blk_io.proofs.Carried.{if_damaged_weaker}

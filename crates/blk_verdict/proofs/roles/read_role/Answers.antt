@@ -1,9 +1,9 @@
 use Rattle.std.proofs.Common.{◌≡◌, ℕ, List, Option, Some, sym, subst}
 use Rattle.std.specs.Option.{ForSome}
-use Rattle.blk_format.specs.Records.{child}
-use Rattle.blk_volume.specs.Entries as entries
-use Rattle.blk_volume.specs.Entries.{stored_streams}
-use Rattle.blk_volume.specs.View.{store_of}
+use Rattle.spec_format.specs.Records.{child}
+use Rattle.spec_folder.specs.Entries as entries
+use Rattle.spec_folder.specs.Entries.{stored_streams}
+use Rattle.spec_folder.specs.View.{store_of}
 use Rattle.blk_entry.proofs.KeyPlaces.{ok_weaker}
 use Rattle.blk_audit.specs.Records.{fields_said}
 use Rattle.blk_verdict.specs.Roles.{IsRoleIf}

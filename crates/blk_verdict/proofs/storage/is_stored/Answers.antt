@@ -2,9 +2,9 @@ use Rattle.std.proofs.Common.{◌≡◌, ◌≢◌, ◌<◌, ℕ, true, sym, ◌
 use Rattle.std.specs.Prelude.{◌==◌, is_some}
 use Rattle.std.specs.Option.{ForSome}
 use Rattle.std.proofs.lemmas.Bool.{eqb-true}
-use Rattle.blk_format.specs.Address.{external, external_number, kind_of}
-use Rattle.blk_image.specs.Image.{External, length_of}
-use Rattle.blk_volume.specs.View.{stored_at}
+use Rattle.spec_format.specs.Address.{external, external_number, kind_of}
+use Rattle.spec_image.specs.Image.{External, length_of}
+use Rattle.spec_folder.specs.View.{stored_at}
 use Rattle.blk_disk.specs.Tables.{Agrees}
 use Rattle.blk_entry.specs.Keys as keys
 use Rattle.blk_entry.proofs.KeyPlaces.{of_other, ok_weaker}

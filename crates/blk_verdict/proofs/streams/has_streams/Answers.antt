@@ -1,9 +1,9 @@
 use Rattle.std.proofs.Common.{◌≡◌, Some, sym, ◌∙◌, ap}
 use Rattle.std.specs.Prelude.{is_some}
 use Rattle.std.specs.Option.{ForSome}
-use Rattle.blk_image.specs.Told.{Told}
-use Rattle.blk_volume.specs.Entries.{stored_streams}
-use Rattle.blk_volume.specs.View.{store_of}
+use Rattle.spec_image.specs.Told.{Told}
+use Rattle.spec_folder.specs.Entries.{stored_streams}
+use Rattle.spec_folder.specs.View.{store_of}
 use Rattle.blk_disk.specs.Tables.{Agrees}
 use Rattle.blk_entry.proofs.KeyPlaces.{ok_weaker}
 use Rattle.blk_audit.specs.Records.{fields_said}

@@ -1,7 +1,7 @@
 use Rattle.std.proofs.Common.{◌≡◌, ℕ, sym, ◌∙◌, ap, ◌&&◌}
 use Rattle.std.specs.Prelude.{◌==◌}
-use Rattle.blk_format.specs.Records.{child}
-use Rattle.blk_volume.specs.View.{RecordFields, entry_at, fields_of, store_of}
+use Rattle.spec_format.specs.Records.{child}
+use Rattle.spec_folder.specs.View.{RecordFields, entry_at, fields_of, store_of}
 use Rattle.blk_disk.specs.Tables.{is_record_among}
 use Rattle.blk_audit.proofs.Truths.{none_by, test_by, value_by}
 use Rattle.blk_verdict.proofs.Joined.{entry_none}

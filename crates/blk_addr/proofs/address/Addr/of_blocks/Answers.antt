@@ -1,6 +1,6 @@
 use Rattle.std.proofs.Common.{◌≡◌, ◌≢◌, ◌<◌, true, refl, arith}
-use Rattle.blk_format.specs.Address.{is_block_kind, external}
-use Rattle.blk_format.proofs.Words.{AreFields, is_address-block_word}
+use Rattle.spec_format.specs.Address.{is_block_kind, external}
+use Rattle.spec_format.proofs.Words.{AreFields, is_address-block_word}
 use Rattle.blk_addr.specs.Kind.{kind_number}
 use Rattle.blk_addr.specs.declared.kinds.Kind.{Kind}
 use Rattle.blk_addr.specs.declared.kinds.Kind.TheVariants.{External, Rankings, B256, B1K, B4K}

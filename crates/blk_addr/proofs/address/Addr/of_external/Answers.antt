@@ -1,4 +1,4 @@
-use Rattle.blk_format.proofs.Words.{is_address-external_word}
+use Rattle.spec_format.proofs.Words.{is_address-external_word}
 use Rattle.blk_addr.proofs.address.Addr.of_external.Goals as goal
 
 pub invariant_of-result : goal.invariant_of-result

@@ -1,7 +1,7 @@
 use Rattle.std.proofs.Common.{◌≡◌, ◌∙◌, Bool, false, true, ◌||◌, sym, ap, List, ℕ}
 use Rattle.std.specs.Prelude.{not}
 use Rattle.std.specs.List.{list_any}
-use Rattle.blk_format.specs.Claims.{claims_of_all, repeats}
+use Rattle.spec_format.specs.Claims.{claims_of_all, repeats}
 use Rattle.blk_addr.specs.Claims.{is_claimed}
 use Rattle.blk_addr.specs.ClaimGroups.{are_free}
 use Rattle.blk_addr.specs.declared.claim_set.Claims.{Claims}

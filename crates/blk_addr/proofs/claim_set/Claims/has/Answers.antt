@@ -1,8 +1,8 @@
 use Rattle.std.proofs.Common.{◌≡◌, ◌≢◌, ◌+◌, ◌*◌, ◌≤◌, arith, refl, sym, ◌∙◌, ap}
 use Rattle.std.specs.List.{list_any, range_with_len}
 use Rattle.std.proofs.lemmas.Bool.Decides.{nat_tests}
-use Rattle.blk_format.specs.Address.{kind_of, external, first_block, block_count, file_selector, external_number}
-use Rattle.blk_format.specs.Claims.{ExternalOf}
+use Rattle.spec_format.specs.Address.{kind_of, external, first_block, block_count, file_selector, external_number}
+use Rattle.spec_format.specs.Claims.{ExternalOf}
 use Rattle.blk_addr.specs.Bits.{has_bit}
 use Rattle.blk_addr.specs.Claims.{contains_claim, is_claimed}
 use Rattle.blk_addr.proofs.AddressFields.{address_above_0}

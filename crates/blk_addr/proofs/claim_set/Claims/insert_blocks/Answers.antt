@@ -1,6 +1,6 @@
 use Rattle.std.proofs.Common.{◌≡◌, ℕ, ◌+◌, ◌*◌, ◌<◌, ◌≤◌, ◌||◌, length, get_or, set, arith, rules, refl, ◌∙◌, ap}
 use Rattle.std.proofs.lemmas.Bool.Decides.{nat_tests}
-use Rattle.blk_format.specs.Address.{block_count, file_selector, first_block}
+use Rattle.spec_format.specs.Address.{block_count, file_selector, first_block}
 use Rattle.blk_addr.specs.Bits.{has_bit, is_between, bits_of_files}
 use Rattle.blk_addr.proofs.AddressFields.{block_count_above_0, file_selector_small, first_block_small}
 use Rattle.blk_addr.proofs.BitLemmas.{bits_of_files-more, bits_of_files-most}

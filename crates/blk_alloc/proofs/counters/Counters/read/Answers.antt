@@ -1,8 +1,8 @@
 use Rattle.std.proofs.Common.{◌≡◌, ℕ, zero, suc, ◌+◌, ◌<◌, ◌≤◌, List, [], ◌∷◌, ◌∙◌, ap, arith}
 use Rattle.std.specs.Prelude.{slice_index}
-use Rattle.blk_image.specs.Bytes.{content, range_at, word_at}
-use Rattle.blk_image.specs.Image.{Block, byte}
-use Rattle.blk_format.specs.Headers.{empty_of}
+use Rattle.spec_image.specs.Bytes.{content, range_at, word_at}
+use Rattle.spec_image.specs.Image.{Block, byte}
+use Rattle.spec_format.specs.Headers.{empty_of}
 use Rattle.blk_alloc.proofs.Headers.{field_read}
 use Rattle.blk_alloc.proofs.counters.Counters.read.Goals as goal
 

@@ -1,14 +1,14 @@
 use Rattle.std.proofs.Common.{◌≡◌, ℕ, ◌+◌, ◌*◌, ◌/◌, ◌%◌, ◌∙◌, ap, subst, arith, refl, None, inl, inr}
 use Rattle.std.specs.Option.{ForSome}
-use Rattle.blk_image.specs.Bytes.{range_at}
-use Rattle.blk_image.specs.Image.{Block, byte}
+use Rattle.spec_image.specs.Bytes.{range_at}
+use Rattle.spec_image.specs.Image.{Block, byte}
 use Rattle.blk_io.specs.declared.folder.FileId.TheVariants as names
 use Rattle.blk_io.proofs.Shorts.{untold_if}
 use Rattle.blk_io.proofs.Carried.{carried, untold_where, if_damaged, if_damaged_weaker}
 use Rattle.blk_io.specs.Faults.{IsShort}
 use Rattle.blk_alloc.specs.Counting.{IsAtEnd}
 use Rattle.blk_alloc.specs.Owning.{IsCause}
-use Rattle.blk_format.specs.Maps.{longest_run}
+use Rattle.spec_format.specs.Maps.{longest_run}
 use Rattle.blk_addr.specs.Bits.{has_bit}
 use Rattle.blk_alloc.specs.Changes.{CanChangeMarks, with_marks}
 use Rattle.blk_alloc.proofs.Plans.{may_move, plan_is, run_before}

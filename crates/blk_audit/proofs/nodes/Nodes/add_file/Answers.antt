@@ -1,6 +1,6 @@
 use Rattle.std.proofs.Common.{◌≡◌, ◌<◌, List, length, ap, sym, ◌∙◌, arith}
 use Rattle.std.specs.Prelude.{nat_lt}
-use Rattle.blk_image.specs.Image.{Block, byte}
+use Rattle.spec_image.specs.Image.{Block, byte}
 use Rattle.blk_audit.specs.Filling.{nodes_from}
 use Rattle.blk_audit.specs.declared.nodes.Node.{Node}
 use Rattle.blk_audit.proofs.Carrying.{carried}

@@ -2,7 +2,7 @@ use Rattle.std.proofs.Common.{◌≡◌, ℕ, ◌++◌, ◌∷◌, [], Bool, tru
 use Rattle.std.specs.BTreeSet.{contains}
 use Rattle.std.specs.Ordering.{nat_cmp}
 use Rattle.blk_addr.specs.Claims.{IsClaimsOf, is_claimed}
-use Rattle.blk_format.specs.BlockFiles.{is_among}
+use Rattle.spec_format.specs.BlockFiles.{is_among}
 use Rattle.blk_audit.specs.Chaining.{first_block_of}
 use Rattle.blk_audit.proofs.Ends.{cut_more}
 use Rattle.blk_audit.proofs.FirstBlocks.{claimed_first, known_more, map_last}

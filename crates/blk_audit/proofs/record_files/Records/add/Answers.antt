@@ -1,7 +1,7 @@
 use Rattle.std.proofs.Common.{ℕ, [], ◌∷◌, refl, sym, subst}
 use Rattle.std.specs.List.{All}
 use Rattle.std.proofs.lemmas.List.Elements.{All-append, All-cons, All-nil}
-use Rattle.blk_format.specs.Address.{block_word}
+use Rattle.spec_format.specs.Address.{block_word}
 use Rattle.blk_audit.specs.Records.{IsSaidBy}
 use Rattle.blk_audit.specs.declared.records.ReadRecord.{ReadRecord}
 use Rattle.blk_audit.specs.declared.record_files.Placed.{Placed}

@@ -1,6 +1,6 @@
 use Rattle.std.proofs.Common.{◌≡◌, ◌+◌, ◌*◌}
-use Rattle.blk_image.specs.Bytes.{range_at}
-use Rattle.blk_image.specs.Image.{Block, HasRange, Image, AreBytes, byte}
+use Rattle.spec_image.specs.Bytes.{range_at}
+use Rattle.spec_image.specs.Image.{Block, HasRange, Image, AreBytes, byte}
 use Rattle.blk_audit.specs.Records.{AreRecordsOf}
 use Rattle.blk_audit.proofs.record_files.Records.add_piece.Given as goal
 

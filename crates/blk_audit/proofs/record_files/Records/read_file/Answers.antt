@@ -1,5 +1,5 @@
 use Rattle.std.proofs.Common.{◌≡◌, ◌+◌, ◌-◌, ◌*◌, true, ap, sym, ◌∙◌, arith}
-use Rattle.blk_format.specs.Address.{block_word}
+use Rattle.spec_format.specs.Address.{block_word}
 use Rattle.blk_disk.specs.Tables.{stands_among}
 use Rattle.blk_lru.proofs.Conditions.{told_now}
 use Rattle.blk_audit.proofs.Carrying.{carried}

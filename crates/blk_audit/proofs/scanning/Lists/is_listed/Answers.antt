@@ -1,6 +1,6 @@
 use Rattle.std.proofs.Common.{◌≡◌, ℕ, Bool, true, ◌&&◌, sym, ap, ◌∙◌}
 use Rattle.std.specs.Prelude.{◌==◌}
-use Rattle.blk_format.specs.BlockFiles.{is_among}
+use Rattle.spec_format.specs.BlockFiles.{is_among}
 use Rattle.blk_audit.specs.Walking.{nodes_walked}
 use Rattle.blk_audit.proofs.ReadNodes.{listed_by, listed_none}
 use Rattle.blk_audit.proofs.scanning.Lists.is_listed.Goals as goal

@@ -1,6 +1,6 @@
 use Rattle.std.proofs.Common.{sym, ap, ◌∙◌}
 use Rattle.blk_addr.specs.Claims.{is_claimed}
-use Rattle.blk_format.specs.Address.{is_address}
+use Rattle.spec_format.specs.Address.{is_address}
 use Rattle.blk_audit.proofs.ReadNodes.{unnamed}
 use Rattle.blk_audit.proofs.scanning.Lists.is_named.Goals as goal
 

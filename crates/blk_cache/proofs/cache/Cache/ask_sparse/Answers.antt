@@ -3,8 +3,8 @@ use Rattle.std.specs.Int.{cast_unsigned, w64}
 use Rattle.std.proofs.lemmas.Int.{of_z-to_z}
 use Rattle.blk_model.specs.Sizes.{signatures}
 use Rattle.std.specs.Option.{ForSome}
-use Rattle.blk_image.specs.Told.{Told}
-use Rattle.blk_format.specs.Sealed.{RecordChecks}
+use Rattle.spec_image.specs.Told.{Told}
+use Rattle.spec_format.specs.Sealed.{RecordChecks}
 use Rattle.blk_entry.specs.Keys.{IsRecordHead}
 use Rattle.blk_handles.specs.declared.open_object.OpenObject.{OpenObject}
 use Rattle.blk_io.proofs.Carried.{carried, if_damaged_weaker}

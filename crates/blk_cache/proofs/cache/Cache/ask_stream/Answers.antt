@@ -1,7 +1,7 @@
 use Rattle.std.proofs.Common.{◌≡◌, None, Option, Some, sym, ◌∙◌, ap, subst}
 use Rattle.std.specs.Option.{ForSome}
 use Rattle.std.specs.Prelude.{slice_index}
-use Rattle.blk_format.specs.Sealed.{RecordChecks}
+use Rattle.spec_format.specs.Sealed.{RecordChecks}
 use Rattle.blk_entry.specs.Keys.{IsHeadDamage, IsRecordHead}
 use Rattle.blk_handles.specs.declared.open_object.OpenObject.{OpenObject}
 use Rattle.blk_io.proofs.Carried.{carried, if_damaged_weaker}

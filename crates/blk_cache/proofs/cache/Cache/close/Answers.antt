@@ -1,12 +1,12 @@
 use Rattle.std.proofs.Common.{◌≡◌, Ok, None, Some, Option, true, false, refl, sym, ◌∙◌, ap, subst, arith}
 use Rattle.std.specs.Prelude.{IsSome, not}
-use Rattle.blk_image.specs.Told.{Told}
+use Rattle.spec_image.specs.Told.{Told}
 use Rattle.blk_io.proofs.Carried.{carried, if_damaged_weaker}
 use Rattle.blk_model.specs.Request.{to_close}
 use Rattle.blk_model.specs.declared.Refusal.TheVariants as refusal
 use Rattle.blk_disk.specs.declared.tables.BlockFiles.{BlockFiles}
 use Rattle.blk_disk.specs.Open.{IsOpen}
-use Rattle.blk_kept.proofs.Stopping.{nothing-stops, refusals-done}
+use Rattle.law_state.proofs.Stopping.{nothing-stops, refusals-done}
 use Rattle.blk_handles.specs.Bindings.{Bindings, is_open}
 use Rattle.blk_cache.specs.CacheKeeping.{KeepsState}
 use Rattle.blk_disk.specs.Tables.{Agrees}

@@ -2,11 +2,11 @@ use Rattle.std.proofs.Common.{◌≡◌, ℕ, ◌+◌, [], ◌∷◌, IfSome, Op
 use Rattle.std.specs.Prelude.{is_some, position, slice_set}
 use Rattle.std.proofs.lemmas.List.Quantifiers.{position-Some}
 use Rattle.std.specs.Option.{ForSome}
-use Rattle.blk_image.specs.Steps.{Note}
-use Rattle.blk_image.specs.Told.{Applies, Told}
+use Rattle.spec_image.specs.Steps.{Note}
+use Rattle.spec_image.specs.Told.{Applies, Told}
 use Rattle.blk_model.specs.Request.{to_close}
 use Rattle.blk_model.specs.Step.{step}
-use Rattle.blk_kept.specs.Commands.{ForKept, IsNoted, IsStepped, note_number}
+use Rattle.law_state.specs.Commands.{ForKept, IsNoted, IsStepped, note_number}
 use Rattle.blk_cache.specs.CacheKeeping.{KeepsState}
 use Rattle.blk_cache.proofs.Notes.{not-noted, noted-does, noted-ends, noted-steps, open-on, same-files}
 use Rattle.blk_cache.proofs.cache.Cache.close_next.Goals as goal

@@ -1,13 +1,13 @@
 use Rattle.std.proofs.Common.{◌≡◌, None, Option, sym, ap, subst, ◌∙◌}
 use Rattle.std.proofs.lemmas.Result.{on_ok_weaker}
 use Rattle.std.specs.Option.{ForSome}
-use Rattle.blk_image.specs.Told.{Told}
+use Rattle.spec_image.specs.Told.{Told}
 use Rattle.blk_io.specs.Faults.{IfDamaged}
 use Rattle.blk_model.specs.Refusals.{no_room}
 use Rattle.blk_model.specs.Request.{to_create}
 use Rattle.blk_model.specs.declared.Refusal.{Refusal}
-use Rattle.blk_kept.specs.Commands.{Does, MayStopAtEach}
-use Rattle.blk_kept.proofs.Stopping.{nothing-stops, refusals-done}
+use Rattle.law_state.specs.Commands.{Does, MayStopAtEach}
+use Rattle.law_state.proofs.Stopping.{nothing-stops, refusals-done}
 use Rattle.blk_cache.specs.CacheKeeping.{KeepsState}
 use Rattle.blk_cache.specs.CommandClauses.{KeepsAny}
 use Rattle.blk_cache.specs.Creating.{WantsRoomAlone, create_refusal}

@@ -5,7 +5,7 @@ use Rattle.blk_model.specs.Request.{to_doom}
 use Rattle.blk_model.specs.declared.Refusal.TheVariants as refusal
 use Rattle.blk_handles.specs.declared.open_object.OpenObject.{OpenObject}
 use Rattle.blk_disk.specs.Tables.{is_node_among, is_record_among}
-use Rattle.blk_kept.proofs.Stopping.{nothing-stops, refusals-done}
+use Rattle.law_state.proofs.Stopping.{nothing-stops, refusals-done}
 use Rattle.blk_cache.specs.CacheKeeping.{KeepsState}
 use Rattle.blk_cache.specs.CommandClauses.{KeepsAny}
 use Rattle.blk_cache.proofs.CloseSteps.{free-there}

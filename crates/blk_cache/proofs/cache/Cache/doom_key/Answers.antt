@@ -1,14 +1,14 @@
 use Rattle.std.proofs.Common.{rules, ◌≡◌, ◌<◌, ℕ, [], None, Some, Option, refl, sym, ◌∙◌, ap, subst, arith, true, false}
 use Rattle.std.specs.Option.{ForSome}
 use Rattle.std.proofs.lemmas.List.Elements.{All-from_get_or}
-use Rattle.blk_image.specs.Told.{Told}
+use Rattle.spec_image.specs.Told.{Told}
 use Rattle.blk_io.proofs.Carried.{carried, if_damaged_weaker}
 use Rattle.blk_model.specs.Items.{IsBytes}
 use Rattle.blk_model.specs.Refusals.{no_key}
 use Rattle.blk_model.specs.Request.{to_doom_key}
 use Rattle.blk_model.specs.State.{State}
 use Rattle.blk_model.specs.declared.Refusal.TheVariants as refusal
-use Rattle.blk_kept.proofs.Stopping.{nothing-stops, refusals-done}
+use Rattle.law_state.proofs.Stopping.{nothing-stops, refusals-done}
 use Rattle.blk_items.specs.declared.dooming_objects.Target.{Target}
 use Rattle.blk_cache.specs.CacheKeeping.{KeepsState}
 use Rattle.blk_cache.specs.CommandClauses.{KeepsAny}

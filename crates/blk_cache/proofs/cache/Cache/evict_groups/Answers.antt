@@ -1,6 +1,6 @@
 use Rattle.std.proofs.Common.{rules, refl, ◌≡◌, ◌∙◌, sym, ap, subst, arith, inl, inr, Option, Some, None, true, false}
 use Rattle.std.specs.Prelude.{IfSome, IsTrue}
-use Rattle.blk_image.specs.Told.{Told}
+use Rattle.spec_image.specs.Told.{Told}
 use Rattle.blk_io.proofs.Carried.{carried}
 use Rattle.blk_model.specs.Room.{without}
 use Rattle.blk_disk.specs.declared.tables.BlockFiles.{BlockFiles}

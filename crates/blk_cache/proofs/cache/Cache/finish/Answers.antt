@@ -1,5 +1,5 @@
 use Rattle.std.proofs.lemmas.Result.{on_ok_weaker}
-use Rattle.blk_image.proofs.Runs.{passes_end, passes_weaker}
+use Rattle.spec_image.proofs.Runs.{passes_end, passes_weaker}
 use Rattle.blk_cache.proofs.Ends.{crash-cleared, ends-sound, holds-still}
 use Rattle.blk_cache.proofs.cache.Cache.finish.Goals as goal
 

@@ -1,10 +1,10 @@
 use Rattle.std.proofs.Common.{rules, refl, inr, ◌≡◌, ◌∙◌, sym, ap, subst, arith, ℕ, ◌||◌, Option, Some, None, true, false}
 use Rattle.std.specs.Prelude.{IfSome, IsTrue}
 use Rattle.std.specs.Option.{ForSome}
-use Rattle.blk_image.specs.Told.{Told}
-use Rattle.blk_format.specs.Address.{blocks_256, is_address}
-use Rattle.blk_volume.specs.Layout.{nodes_of}
-use Rattle.blk_volume.specs.Loads.{Loaded}
+use Rattle.spec_image.specs.Told.{Told}
+use Rattle.spec_format.specs.Address.{blocks_256, is_address}
+use Rattle.spec_folder.specs.Layout.{nodes_of}
+use Rattle.spec_folder.specs.Loads.{Loaded}
 use Rattle.blk_io.proofs.Carried.{carried, if_damaged_weaker, untold_where}
 use Rattle.blk_io.specs.Faults.{IfDamaged}
 use Rattle.blk_disk.specs.Open.{IsOpen}

@@ -2,7 +2,7 @@ use Rattle.std.proofs.Common.{◌≡◌, ◌∙◌, None, sym, ap}
 use Rattle.blk_io.proofs.Carried.{carried}
 use Rattle.blk_model.specs.Request.{to_list}
 use Rattle.blk_model.specs.declared.Answer.TheVariants as answer
-use Rattle.blk_kept.proofs.Stopping.{nothing-done, quiet-keep}
+use Rattle.law_state.proofs.Stopping.{nothing-done, quiet-keep}
 use Rattle.blk_object.proofs.DamageChecks.{handed, moved, short-checked}
 use Rattle.blk_cache.specs.CacheKeeping.{KeepsState}
 use Rattle.blk_cache.proofs.Ends.{kept-open}

@@ -1,7 +1,7 @@
 use Rattle.std.proofs.Common.{◌≡◌, List, [], None, sym, subst}
 use Rattle.std.proofs.lemmas.Result.{on_ok_weaker}
 use Rattle.std.specs.Option.{ForSome}
-use Rattle.blk_image.specs.Told.{Passes}
+use Rattle.spec_image.specs.Told.{Passes}
 use Rattle.blk_io.specs.Streams.{Appends}
 use Rattle.blk_lru.proofs.Results.{if_ok_weaker}
 use Rattle.blk_model.specs.Items.{Item}

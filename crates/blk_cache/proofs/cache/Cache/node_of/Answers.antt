@@ -1,5 +1,5 @@
 use Rattle.std.proofs.Common.{◌≡◌, Option, Some, None, refl, sym, ap, ◌∙◌, ℕ, true}
-use Rattle.blk_image.proofs.Runs.{some_inj}
+use Rattle.spec_image.proofs.Runs.{some_inj}
 use Rattle.std.specs.Option.{option_map}
 use Rattle.blk_handles.specs.Bindings.{Binding, Bindings, open_object, open_with}
 use Rattle.blk_handles.specs.declared.open_object.OpenObject.{OpenObject}

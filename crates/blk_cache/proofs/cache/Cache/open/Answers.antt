@@ -1,13 +1,13 @@
 use Rattle.std.proofs.Common.{◌≡◌, ◌<◌, [], inr, Option, None, refl, sym, ◌∙◌, ap, subst, arith}
 use Rattle.std.proofs.lemmas.List.Elements.{All-from_get_or}
-use Rattle.blk_image.specs.Told.{Told}
+use Rattle.spec_image.specs.Told.{Told}
 use Rattle.blk_io.proofs.Carried.{carried, if_damaged_weaker}
 use Rattle.blk_model.specs.Request.{to_open}
 use Rattle.blk_model.specs.declared.Refusal.TheVariants as refusal
 use Rattle.blk_disk.specs.declared.tables.BlockFiles.{BlockFiles}
 use Rattle.blk_disk.specs.Open.{IsOpen}
 use Rattle.blk_lru.specs.Damages.{IsTouchDamage}
-use Rattle.blk_kept.proofs.Stopping.{nothing-stops, refusals-done}
+use Rattle.law_state.proofs.Stopping.{nothing-stops, refusals-done}
 use Rattle.blk_items.specs.declared.looking.Live.{Live}
 use Rattle.blk_cache.specs.CacheKeeping.{KeepsState}
 use Rattle.blk_cache.specs.CommandClauses.{IsOpenDamage}

@@ -1,12 +1,12 @@
 use Rattle.std.proofs.Common.{refl, sym, ap, subst, ◌∙◌}
 use Rattle.std.specs.Option.{ForSome}
-use Rattle.blk_image.specs.Told.{Told}
+use Rattle.spec_image.specs.Told.{Told}
 use Rattle.blk_disk.specs.Open.{IsOpen}
 use Rattle.std.specs.Prelude.{IfOk, OnOk}
 use Rattle.blk_model.specs.Request.{request_of, to_close, to_doom, to_doom_key, to_list, to_open, to_read, to_size, to_sparse_range, to_sparse_read, to_total}
 use Rattle.blk_model.specs.declared.Command.{Command}
-use Rattle.blk_kept.specs.Commands.{Does, MayStopAtEach}
-use Rattle.blk_kept.proofs.Stopping.{nothing-stops}
+use Rattle.law_state.specs.Commands.{Does, MayStopAtEach}
+use Rattle.law_state.proofs.Stopping.{nothing-stops}
 use Rattle.blk_cache.specs.CacheKeeping.{KeepsState}
 use Rattle.blk_cache.specs.Stepping.{SaysEvicted, SaysFront}
 use Rattle.blk_cache.proofs.CreateWhole.{on-ok}

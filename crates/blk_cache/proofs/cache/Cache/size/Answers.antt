@@ -1,7 +1,7 @@
 use Rattle.std.proofs.Common.{ℕ, sym, subst}
 use Rattle.blk_model.specs.Request.{to_size}
 use Rattle.blk_model.specs.declared.Answer.TheVariants as answer
-use Rattle.blk_kept.specs.Commands.{Does}
+use Rattle.law_state.specs.Commands.{Does}
 use Rattle.blk_cache.specs.Asking.{IsAsked}
 use Rattle.blk_cache.specs.CacheKeeping.{KeepsState}
 use Rattle.blk_cache.proofs.Sizes.{size-does, size-refuses}

@@ -1,11 +1,11 @@
 use Rattle.std.proofs.Common.{◌≡◌, ℕ, ◌+◌, None, [], ◌∷◌, refl, sym, subst}
-use Rattle.blk_image.specs.Steps.{Note}
-use Rattle.blk_image.specs.Told.{Applies, Told}
+use Rattle.spec_image.specs.Steps.{Note}
+use Rattle.spec_image.specs.Told.{Applies, Told}
 use Rattle.blk_io.proofs.Carried.{if_damaged_weaker}
 use Rattle.blk_model.specs.Reply.{answer_of}
 use Rattle.blk_model.specs.Request.{request_of}
 use Rattle.blk_model.specs.Step.{step}
-use Rattle.blk_kept.specs.Commands.{ForKept, IsNoted, IsStepped, note_number}
+use Rattle.law_state.specs.Commands.{ForKept, IsNoted, IsStepped, note_number}
 use Rattle.blk_object.specs.FailedChecks.{IsFailedCheck}
 use Rattle.blk_cache.specs.CacheKeeping.{KeepsState}
 use Rattle.blk_cache.specs.CommandClauses.{IsRefused}

@@ -5,7 +5,7 @@ use Rattle.blk_chain.proofs.Heads.{names-parts}
 use Rattle.blk_disk.specs.declared.tables.BlockFiles.{BlockFiles}
 use Rattle.blk_disk.specs.Open.{IsOpen}
 use Rattle.blk_disk.specs.Tables.{Agrees, stands_among}
-use Rattle.blk_format.specs.Address.{blocks_256, kind_of}
+use Rattle.spec_format.specs.Address.{blocks_256, kind_of}
 use Rattle.std.specs.Prelude.{IsTrue}
 use Rattle.blk_sparse.specs.declared.storing.Target.{Target}
 use Rattle.blk_handles.specs.declared.open_object.OpenObject.{OpenObject}

@@ -6,8 +6,8 @@ use Rattle.blk_model.specs.Room.{items, total}
 use Rattle.blk_model.specs.State.{State}
 use Rattle.blk_model.specs.Step.{reply, step}
 use Rattle.blk_model.specs.declared.Answer.TheVariants as answer
-use Rattle.blk_kept.proofs.CommandEnding.{passed}
-use Rattle.blk_kept.proofs.Stopping.{nothing-done, quiet-keep}
+use Rattle.law_state.proofs.CommandEnding.{passed}
+use Rattle.law_state.proofs.Stopping.{nothing-done, quiet-keep}
 use Rattle.blk_cache.specs.CacheKeeping.{KeepsState}
 use Rattle.blk_cache.proofs.cache.Cache.total.Goals as goal
 

@@ -1,13 +1,13 @@
 use Rattle.std.proofs.Common.{◌≡◌, inl, inr, ℕ, None, Ok, sym, ◌∙◌, ap, subst}
 use Rattle.std.specs.Option.{ForSome}
-use Rattle.blk_image.specs.Told.{Told}
+use Rattle.spec_image.specs.Told.{Told}
 use Rattle.blk_io.proofs.Carried.{carried, if_damaged_weaker}
 use Rattle.blk_model.specs.Request.{to_read}
 use Rattle.blk_model.specs.declared.Answer.TheVariants as answer
-use Rattle.blk_kept.specs.Commands.{Does}
+use Rattle.law_state.specs.Commands.{Does}
 use Rattle.blk_disk.specs.Open.{IsOpen}
 use Rattle.blk_lru.specs.Damages.{IsTouchDamage}
-use Rattle.blk_kept.proofs.Stopping.{nothing-stops}
+use Rattle.law_state.proofs.Stopping.{nothing-stops}
 use Rattle.blk_cache.specs.Asking.{IsAsked, StandsAmong}
 use Rattle.blk_cache.specs.CacheKeeping.{KeepsState}
 use Rattle.blk_cache.specs.Reading.{IsReadDamage}

@@ -1,13 +1,13 @@
 use Rattle.std.proofs.Common.{◌≡◌, [], Option, Some, None, refl, sym, ◌∙◌, ap, subst}
 use Rattle.std.specs.Int.{cast_unsigned, w64}
 use Rattle.std.specs.Option.{ForSome}
-use Rattle.blk_image.specs.Told.{Told}
+use Rattle.spec_image.specs.Told.{Told}
 use Rattle.blk_io.proofs.Carried.{carried, if_damaged_weaker}
 use Rattle.blk_model.specs.declared.Refusal.TheVariants as refusal
 use Rattle.blk_disk.specs.Open.{IsOpen}
 use Rattle.blk_items.proofs.PresentRanges.{by-files}
 use Rattle.blk_chain.proofs.Heads.{names-parts}
-use Rattle.blk_kept.proofs.Stopping.{nothing-stops}
+use Rattle.law_state.proofs.Stopping.{nothing-stops}
 use Rattle.blk_cache.specs.CacheKeeping.{KeepsState}
 use Rattle.blk_cache.specs.CommandClauses.{IsRefused}
 use Rattle.blk_cache.specs.SparseAsking.{FindsInside, IsAmongFiles, IsAskedSparse, early_sparse_refusal}

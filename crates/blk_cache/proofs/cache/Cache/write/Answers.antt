@@ -1,7 +1,7 @@
 use Rattle.std.proofs.Common.{◌≡◌, [], List, Option, ℕ, length, refl, sym, ap, subst, ◌∙◌}
 use Rattle.std.specs.Option.{ForSome}
-use Rattle.blk_image.specs.Image.{Image}
-use Rattle.blk_image.specs.Told.{Passes, Stays, Told}
+use Rattle.spec_image.specs.Image.{Image}
+use Rattle.spec_image.specs.Told.{Passes, Stays, Told}
 use Rattle.blk_io.specs.Streams.{Appends}
 use Rattle.blk_model.specs.Refusals.{evicted_for}
 use Rattle.blk_model.specs.Request.{to_write}
@@ -9,8 +9,8 @@ use Rattle.blk_model.specs.Room.{room, without}
 use Rattle.blk_model.specs.State.{State}
 use Rattle.blk_model.specs.declared.Answer.TheVariants as answer
 use Rattle.blk_model.specs.declared.Refusal.TheVariants as refusal
-use Rattle.blk_kept.specs.Commands.{Does, ForKept}
-use Rattle.blk_kept.proofs.Stopping.{nothing-stops, refusals-done}
+use Rattle.law_state.specs.Commands.{Does, ForKept}
+use Rattle.law_state.proofs.Stopping.{nothing-stops, refusals-done}
 use Rattle.blk_script.specs.Reply.{evicted_text}
 use Rattle.blk_cache.specs.declared.cache.Cache.{Cache}
 use Rattle.blk_cache.specs.CacheKeeping.{KeepsState}

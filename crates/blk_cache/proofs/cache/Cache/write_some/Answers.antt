@@ -2,14 +2,14 @@ use Rattle.std.proofs.Common.{◌≡◌, None, sym, ap, subst, ◌∙◌}
 use Rattle.std.specs.Prelude.{IfOk, OnOk}
 use Rattle.std.proofs.lemmas.Result.{on_ok_weaker}
 use Rattle.std.specs.Option.{ForSome}
-use Rattle.blk_image.specs.Told.{Told}
+use Rattle.spec_image.specs.Told.{Told}
 use Rattle.blk_io.proofs.Carried.{carried}
 use Rattle.blk_io.specs.Faults.{IfDamaged}
 use Rattle.blk_model.specs.Request.{to_sparse_write}
 use Rattle.blk_disk.specs.Open.{IsOpen}
 use Rattle.blk_disk.specs.declared.tables.BlockFiles.{BlockFiles}
-use Rattle.blk_kept.specs.Commands.{Does, MayStopAtEach}
-use Rattle.blk_kept.proofs.Stopping.{nothing-stops}
+use Rattle.law_state.specs.Commands.{Does, MayStopAtEach}
+use Rattle.law_state.proofs.Stopping.{nothing-stops}
 use Rattle.blk_items.proofs.PresentRanges.{by-files}
 use Rattle.blk_cache.specs.CacheKeeping.{KeepsState}
 use Rattle.blk_cache.specs.CommandClauses.{KeepsAny}

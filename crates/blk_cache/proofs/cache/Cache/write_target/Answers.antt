@@ -1,8 +1,8 @@
 use Rattle.std.proofs.Common.{rules, ◌≡◌, ℕ, List, length, sym, ap, subst}
 use Rattle.std.specs.Prelude.{IfOk}
-use Rattle.blk_image.specs.Told.{Stays}
+use Rattle.spec_image.specs.Told.{Stays}
 use Rattle.blk_model.specs.Request.{to_sparse_write}
-use Rattle.blk_kept.specs.Commands.{Does, MayStopAtEach}
+use Rattle.law_state.specs.Commands.{Does, MayStopAtEach}
 use Rattle.blk_cache.specs.CacheKeeping.{KeepsState}
 use Rattle.blk_cache.specs.SparseTargets.{NamesTarget}
 use Rattle.blk_cache.specs.Stepping.{SaysEvicted}

@@ -1,7 +1,7 @@
 use Rattle.std.proofs.Common.{◌≡◌, ◌<◌, ◌∙◌, ℕ, false, None, arith, ap, refl, subst, sym}
 use Rattle.std.specs.Option.{ForSome}
 use Rattle.std.proofs.lemmas.List.Elements.{All-from_get_or}
-use Rattle.blk_image.specs.Told.{Passes}
+use Rattle.spec_image.specs.Told.{Passes}
 use Rattle.blk_io.specs.Faults.{IfDamaged}
 use Rattle.blk_io.proofs.Carried.{carried}
 use Rattle.blk_model.specs.Holding.{rest}
@@ -10,7 +10,7 @@ use Rattle.blk_disk.specs.declared.tables.BlockFiles.{BlockFiles}
 use Rattle.blk_disk.specs.Open.{IsOpen}
 use Rattle.blk_handles.specs.declared.open_object.OpenObject.{OpenObject}
 use Rattle.blk_lru.specs.Lists.{IsListed}
-use Rattle.blk_kept.specs.Changes.{Finds}
+use Rattle.law_state.specs.Changes.{Finds}
 use Rattle.blk_object.specs.Writing.{ForEachUnsettled, IsWrittenUncounted}
 use Rattle.blk_object.proofs.RisenCounters.{rises-counted, uses-leave}
 use Rattle.blk_cache.specs.Writing.{ForEachToUse, IsUsedAndCounted}

@@ -1,6 +1,6 @@
 use Rattle.std.proofs.Common.{◌≡◌, List, None}
 use Rattle.std.specs.Option.{ForSome}
-use Rattle.blk_image.specs.Told.{Passes, Stays}
+use Rattle.spec_image.specs.Told.{Passes, Stays}
 use Rattle.blk_io.proofs.Carried.{carried}
 use Rattle.blk_io.specs.Streams.{Appends}
 use Rattle.blk_model.specs.Request.{to_sparse_write}

@@ -1,9 +1,9 @@
 use Rattle.std.proofs.Common.{◌+◌, ◌≤◌, ℕ, ◌++◌, refl, sym, subst}
 use Rattle.std.specs.Option.{ForSome}
-use Rattle.blk_image.specs.Image.{Block, length_of}
-use Rattle.blk_image.specs.Told.{Applies, AppliesPrefix}
-use Rattle.blk_image.proofs.Runs.{grows_then, part_only, part_then}
-use Rattle.blk_format.specs.BlockFiles.{is_block_count}
+use Rattle.spec_image.specs.Image.{Block, length_of}
+use Rattle.spec_image.specs.Told.{Applies, AppliesPrefix}
+use Rattle.spec_image.proofs.Runs.{grows_then, part_only, part_then}
+use Rattle.spec_format.specs.BlockFiles.{is_block_count}
 use Rattle.blk_addr.specs.Kind.{kind_number}
 use Rattle.blk_disk.specs.Tables.{Joins}
 use Rattle.blk_disk.specs.Growth.{free_number, last_file, link_steps, file_steps}

@@ -1,12 +1,12 @@
 use Rattle.std.proofs.Common.{◌≡◌, ◌≤◌, ◌∙◌, Some, ap, sym, arith, refl, subst}
-use Rattle.blk_image.specs.Image.{Block, Image, length_of}
-use Rattle.blk_image.specs.Footprint.{size_of}
-use Rattle.blk_image.specs.Told.{Told, Passes}
-use Rattle.blk_image.proofs.Footprints.{outside-refl}
-use Rattle.blk_image.proofs.Runs.{passes_none, some_inj, told_whole}
-use Rattle.blk_format.specs.Growth.{StaysWholeOutside}
+use Rattle.spec_image.specs.Image.{Block, Image, length_of}
+use Rattle.spec_image.specs.Footprint.{size_of}
+use Rattle.spec_image.specs.Told.{Told, Passes}
+use Rattle.spec_image.proofs.Footprints.{outside-refl}
+use Rattle.spec_image.proofs.Runs.{passes_none, some_inj, told_whole}
+use Rattle.spec_format.specs.Growth.{StaysWholeOutside}
 use Rattle.blk_disk.specs.Tables.{Agrees, length_in}
-use Rattle.blk_format.proofs.Growths.{whole_not}
+use Rattle.spec_format.proofs.Growths.{whole_not}
 use Rattle.blk_disk.proofs.Agreeing.{agrees_longer}
 use Rattle.blk_disk.proofs.Enlarging.{IsLonger, passes_longer, grows_whole}
 use Rattle.blk_disk.proofs.tables.BlockFiles.fit.Given as given

@@ -6,7 +6,7 @@ use Rattle.blk_disk.specs.Loading.{Follows, IsFresh, MayBeNext}
 use Rattle.blk_disk.proofs.Following.{caused_if, follows_kind}
 use Rattle.blk_disk.proofs.TakingUp.{first_fresh, numbers_before}
 use Rattle.blk_disk.specs.Tables.{all_files}
-use Rattle.blk_format.specs.BlockFiles.{is_among}
+use Rattle.spec_format.specs.BlockFiles.{is_among}
 use Rattle.blk_disk.proofs.tables.BlockFiles.follow.Goals as goal
 
 pub loop-next-init : goal.loop-next-init

@@ -1,7 +1,7 @@
 use Rattle.std.proofs.Common.{◌-◌, ◌≤◌, length}
 use Rattle.std.specs.Option.{ForSome}
 use Rattle.blk_addr.specs.Kind.{kind_number}
-use Rattle.blk_image.specs.Told.{Stays}
+use Rattle.spec_image.specs.Told.{Stays}
 use Rattle.blk_disk.specs.Tables.{all_files, files_of}
 use Rattle.blk_disk.specs.Loading.{AreNumbered, Follows, HasRoom, IsFresh, KeepsOthers, MayBeNext}
 use Rattle.blk_disk.proofs.tables.BlockFiles.follow.Given as goal

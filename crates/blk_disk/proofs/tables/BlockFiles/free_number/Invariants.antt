@@ -1,5 +1,5 @@
 use Rattle.std.proofs.Common.{◌≡◌, ℕ, ◌<◌, ◌≤◌, true}
-use Rattle.blk_format.specs.BlockFiles.{is_among}
+use Rattle.spec_format.specs.BlockFiles.{is_among}
 use Rattle.blk_disk.specs.Tables.{all_files}
 use Rattle.blk_disk.proofs.tables.BlockFiles.free_number.Given as goal
 

@@ -1,15 +1,15 @@
 use Rattle.std.proofs.Common.{◌∙◌, ap, sym, subst, rules}
 use Rattle.std.specs.Option.{option_map}
-use Rattle.blk_image.specs.Steps.{after}
-use Rattle.blk_image.proofs.Runs.{passes_none, some_inj}
-use Rattle.blk_image.proofs.Footprints.{outside-refl}
-use Rattle.blk_format.specs.Growth.{StaysWholeOutside}
+use Rattle.spec_image.specs.Steps.{after}
+use Rattle.spec_image.proofs.Runs.{passes_none, some_inj}
+use Rattle.spec_image.proofs.Footprints.{outside-refl}
+use Rattle.spec_format.specs.Growth.{StaysWholeOutside}
 use Rattle.blk_disk.specs.Growth.{grown, growth_of, lengthen_steps}
 use Rattle.blk_disk.proofs.Enlarging.{count_grown, first_is, part_is, whole_is, enlarges_is, grow_stops, grow_room, grow_agrees}
-use Rattle.blk_format.proofs.Growths.{whole_not}
+use Rattle.spec_format.proofs.Growths.{whole_not}
 use Rattle.blk_disk.proofs.KeptOnce.{counts}
 use Rattle.blk_disk.specs.Tables.{blocks_of}
-use Rattle.blk_format.specs.BlockFiles.{is_block_count}
+use Rattle.spec_format.specs.BlockFiles.{is_block_count}
 use Rattle.blk_disk.proofs.tables.BlockFiles.grow.Goals as goal
 
 pub returns-in_err-lengthen-clause-stops : goal.returns-in_err-lengthen-clause-stops

@@ -3,7 +3,7 @@ use Rattle.std.specs.List.{list_any}
 use Rattle.std.proofs.lemmas.Iterator.{YieldsList-from_slice}
 use Rattle.std.proofs.lemmas.Iterator.Search.{any_from_yields_List}
 use Rattle.blk_addr.specs.Kind.{kind_number}
-use Rattle.blk_format.specs.BlockFiles.{is_among}
+use Rattle.spec_format.specs.BlockFiles.{is_among}
 use Rattle.blk_disk.specs.Tables.{files_of}
 use Rattle.blk_disk.proofs.Among.{all_kinds_among, kinds}
 use Rattle.blk_disk.proofs.tables.BlockFiles.has.Goals as goal

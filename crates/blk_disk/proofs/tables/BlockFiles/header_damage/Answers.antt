@@ -1,7 +1,7 @@
 use Rattle.std.proofs.Common.{◌∙◌, ap, ℕ, ◌==◌, ◌++◌, [], ◌∷◌}
-use Rattle.blk_image.specs.Image.{Block}
-use Rattle.blk_image.specs.Checks.{first_of, check_found}
-use Rattle.blk_format.specs.BlockFiles.{file_checks, is_link, is_block_count}
+use Rattle.spec_image.specs.Image.{Block}
+use Rattle.spec_image.specs.Checks.{first_of, check_found}
+use Rattle.spec_format.specs.BlockFiles.{file_checks, is_link, is_block_count}
 use Rattle.blk_addr.specs.Kind.{kind_number}
 use Rattle.blk_disk.specs.Tables.{all_files}
 use Rattle.blk_disk.specs.Loading.{files_left}

@@ -1,16 +1,16 @@
 use Rattle.std.proofs.Common.{◌+◌, ◌++◌, ◌∷◌, [], ℕ, List, length, subst, sym, ◌∙◌, ap, arith}
 use Rattle.std.specs.Option.{option_map}
-use Rattle.blk_image.specs.Bytes.{content}
-use Rattle.blk_format.specs.Headers.{next_file_of}
+use Rattle.spec_image.specs.Bytes.{content}
+use Rattle.spec_format.specs.Headers.{next_file_of}
 use Rattle.blk_addr.specs.Kind.{kind_number}
 use Rattle.blk_io.specs.Faults.{damage_of}
 use Rattle.blk_disk.specs.Tables.{all_files, files_of}
 use Rattle.blk_disk.specs.Loading.{files_left, HasRoom, IsFresh, MayBeNext, next_of}
-use Rattle.blk_format.proofs.LinkedHeads.{next_small, link_passed}
+use Rattle.spec_format.proofs.LinkedHeads.{next_small, link_passed}
 use Rattle.blk_disk.proofs.Firsts.{link_number, link_room}
 use Rattle.blk_disk.proofs.TakingUp.{link_fresh}
-use Rattle.blk_format.specs.BlockFiles.{is_block_count}
-use Rattle.blk_format.proofs.Keeping.{checks_hold}
+use Rattle.spec_format.specs.BlockFiles.{is_block_count}
+use Rattle.spec_format.proofs.Keeping.{checks_hold}
 use Rattle.blk_disk.proofs.tables.BlockFiles.judge.Goals as goal
 
 pub next_file-next-requires : goal.next_file-next-requires

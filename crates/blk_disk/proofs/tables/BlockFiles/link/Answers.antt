@@ -2,7 +2,7 @@ use Rattle.std.proofs.Common.{ℕ, ◌∙◌, ap, sym}
 use Rattle.std.specs.declared.option.Option.{Option}
 use Rattle.std.proofs.lemmas.Result.{err_from_is_err_and}
 use Rattle.blk_addr.specs.Kind.{kind_number}
-use Rattle.blk_image.specs.Told.{Told}
+use Rattle.spec_image.specs.Told.{Told}
 use Rattle.blk_disk.proofs.Following.{damaged_if, follows_next}
 use Rattle.blk_disk.proofs.TakingUp.{fresh_still, joined_more}
 use Rattle.blk_disk.proofs.tables.BlockFiles.link.Goals as goal

@@ -5,7 +5,7 @@ use Rattle.std.proofs.lemmas.Iterator.{YieldsList-from_slice}
 use Rattle.std.proofs.lemmas.Iterator.Search.{find_from_yields_List}
 use Rattle.blk_addr.specs.declared.kinds.Kind.TheVariants.{Rankings, B256, B1K, B4K}
 use Rattle.blk_addr.specs.Kind.{kind_number}
-use Rattle.blk_format.specs.BlockFiles.{is_among, kind_among}
+use Rattle.spec_format.specs.BlockFiles.{is_among, kind_among}
 use Rattle.blk_disk.specs.Tables.{files_of}
 use Rattle.blk_disk.specs.declared.tables.BlockFiles.{BlockFiles}
 use Rattle.blk_disk.proofs.Among.{kinds}

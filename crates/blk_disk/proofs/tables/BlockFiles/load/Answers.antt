@@ -1,5 +1,5 @@
 use Rattle.std.proofs.Common.{◌∙◌, ap}
-use Rattle.blk_image.specs.Told.{Told}
+use Rattle.spec_image.specs.Told.{Told}
 use Rattle.blk_disk.proofs.Following.{follows_none, follows_all}
 use Rattle.blk_disk.proofs.TakingUp.{numbers_none}
 use Rattle.blk_disk.specs.Tables.{all_files}

@@ -1,6 +1,6 @@
 use Rattle.std.proofs.Common.{◌≡◌, Bool, true, false, if◌then◌else◌, ℕ, List, [], ◌++◌, refl, sym, ◌∙◌, ap}
 use Rattle.std.specs.List.{IsDistinct}
-use Rattle.blk_format.specs.BlockFiles.{is_among}
+use Rattle.spec_format.specs.BlockFiles.{is_among}
 use Rattle.std.specs.Prelude.{◌==◌}
 use Rattle.blk_disk.specs.Tables.{all_files, files_of}
 use Rattle.blk_disk.proofs.tables.BlockFiles.none.Goals as goal

@@ -1,9 +1,9 @@
 use Rattle.std.proofs.Common.{◌++◌, ◌∷◌, [], ℕ, List, subst, ◌∙◌, ap}
-use Rattle.blk_image.specs.Bytes.{content, zeros}
-use Rattle.blk_image.specs.Image.{Block}
-use Rattle.blk_image.specs.Checks.{first_of}
-use Rattle.blk_image.specs.Told.{Told, GivesBytes}
-use Rattle.blk_format.specs.BlockFiles.{file_checks}
+use Rattle.spec_image.specs.Bytes.{content, zeros}
+use Rattle.spec_image.specs.Image.{Block}
+use Rattle.spec_image.specs.Checks.{first_of}
+use Rattle.spec_image.specs.Told.{Told, GivesBytes}
+use Rattle.spec_format.specs.BlockFiles.{file_checks}
 use Rattle.blk_addr.specs.Kind.{kind_number}
 use Rattle.blk_disk.specs.Tables.{all_files}
 use Rattle.blk_disk.specs.Loading.{AnswersFileHeader, files_left}

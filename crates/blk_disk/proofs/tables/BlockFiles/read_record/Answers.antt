@@ -1,11 +1,11 @@
 use Rattle.std.proofs.Common.{◌≡◌, ◌+◌, ℕ, List, Bool, true, false, None, Some, if◌then◌else◌, inr, length, ap, sym, subst, ◌∙◌, arith, refl}
-use Rattle.blk_image.specs.Bytes.{content, word_at}
-use Rattle.blk_format.specs.Records.{checks}
-use Rattle.blk_format.specs.Sealed.{seal_place}
+use Rattle.spec_image.specs.Bytes.{content, word_at}
+use Rattle.spec_format.specs.Records.{checks}
+use Rattle.spec_format.specs.Sealed.{seal_place}
 use Rattle.blk_disk.specs.Unsealed.{IsUnsealed, wrong_seal}
-use Rattle.blk_format.specs.Sealed.{seal_by_kind}
+use Rattle.spec_format.specs.Sealed.{seal_by_kind}
 use Rattle.blk_disk.proofs.Ranges.{stands_blocky, name_is}
-use Rattle.blk_format.proofs.SealedRecords.{record_inside}
+use Rattle.spec_format.proofs.SealedRecords.{record_inside}
 use Rattle.blk_disk.proofs.SealedReads.{record_read, unsealed_is, untold_unsealed}
 use Rattle.blk_disk.proofs.tables.BlockFiles.read_record.Given as given
 use Rattle.blk_disk.proofs.tables.BlockFiles.read_record.Goals as goal

@@ -1,13 +1,13 @@
 use Rattle.std.proofs.Common.{[], ◌∙◌, ap, sym, subst, rules}
 use Rattle.std.specs.Option.{ForSome}
-use Rattle.blk_image.specs.Image.{Image}
-use Rattle.blk_image.specs.Told.{Told}
-use Rattle.blk_image.proofs.Runs.{passes_none, some_inj}
+use Rattle.spec_image.specs.Image.{Image}
+use Rattle.spec_image.specs.Told.{Told}
+use Rattle.spec_image.proofs.Runs.{passes_none, some_inj}
 use Rattle.blk_io.proofs.Carried.{silent_part}
 use Rattle.blk_addr.specs.Kind.{kind_number}
-use Rattle.blk_format.specs.Sealed.{IsMidUpdate}
+use Rattle.spec_format.specs.Sealed.{IsMidUpdate}
 use Rattle.blk_disk.specs.Tables.{Agrees}
-use Rattle.blk_format.proofs.SealedRecords.{moment_before}
+use Rattle.spec_format.proofs.SealedRecords.{moment_before}
 use Rattle.blk_disk.proofs.MissingSeals.{agrees_sealed, front_sealed, steps_sealed, stops_sealed, updated_sealed}
 use Rattle.blk_disk.proofs.tables.BlockFiles.seal.Goals as goal
 

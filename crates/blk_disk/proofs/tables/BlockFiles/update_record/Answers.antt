@@ -1,11 +1,11 @@
 use Rattle.std.proofs.Common.{◌≡◌, ℕ, subst}
 use Rattle.std.specs.Prelude.{OnOk}
 use Rattle.std.proofs.lemmas.Result.{on_ok_weaker}
-use Rattle.blk_image.specs.Told.{Applies, AppliesPrefix}
+use Rattle.spec_image.specs.Told.{Applies, AppliesPrefix}
 use Rattle.blk_addr.specs.Kind.{kind_number}
-use Rattle.blk_image.specs.Steps.{with_words}
-use Rattle.blk_format.specs.Records.{seal_of}
-use Rattle.blk_format.specs.Sealed.{seal_place, update_steps}
+use Rattle.spec_image.specs.Steps.{with_words}
+use Rattle.spec_format.specs.Records.{seal_of}
+use Rattle.spec_format.specs.Sealed.{seal_place, update_steps}
 use Rattle.blk_disk.proofs.SealedWrites.{agrees_after, seal_from, seal_is, stops_from, updated_from}
 use Rattle.blk_disk.proofs.tables.BlockFiles.update_record.Given as given
 use Rattle.blk_disk.proofs.tables.BlockFiles.update_record.Goals as goal

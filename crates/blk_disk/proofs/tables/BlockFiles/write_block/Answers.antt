@@ -1,18 +1,18 @@
 use Rattle.std.proofs.Common.{◌≡◌, ◌+◌, ℕ, List, length, ap₂, subst, refl, sym, ◌∙◌}
 use Rattle.std.specs.Prelude.{OnOk}
-use Rattle.blk_image.specs.Image.{Image, Block, HasRange}
-use Rattle.blk_image.specs.Steps.{words}
-use Rattle.blk_image.specs.Footprint.{SameOutside, range}
-use Rattle.blk_image.specs.Told.{Applies, AppliesPrefix, Until}
-use Rattle.blk_image.proofs.Runs.{passes_part, some_inj, told_part, until_weaker2}
-use Rattle.blk_image.proofs.WordSteps.{quiet-words}
-use Rattle.blk_image.proofs.Footprints.{words_inside}
-use Rattle.blk_format.specs.Address.{file_selector, place}
+use Rattle.spec_image.specs.Image.{Image, Block, HasRange}
+use Rattle.spec_image.specs.Steps.{words}
+use Rattle.spec_image.specs.Footprint.{SameOutside, range}
+use Rattle.spec_image.specs.Told.{Applies, AppliesPrefix, Until}
+use Rattle.spec_image.proofs.Runs.{passes_part, some_inj, told_part, until_weaker2}
+use Rattle.spec_image.proofs.WordSteps.{quiet-words}
+use Rattle.spec_image.proofs.Footprints.{words_inside}
+use Rattle.spec_format.specs.Address.{file_selector, place}
 use Rattle.blk_io.specs.declared.folder.FileId.{FileId}
 use Rattle.blk_io.specs.FileNames.{file_of}
 use Rattle.blk_disk.specs.Tables.{Agrees}
 use Rattle.blk_disk.proofs.Agreeing.{agrees_still}
-use Rattle.blk_format.proofs.SpareHeaders.{blocks_spare}
+use Rattle.spec_format.proofs.SpareHeaders.{blocks_spare}
 use Rattle.blk_disk.proofs.Ranges.{stands_blocky, stands_range, name_is}
 use Rattle.blk_disk.proofs.tables.BlockFiles.write_block.Goals as goal
 

@@ -1,11 +1,11 @@
 use Rattle.std.proofs.Common.{◌≡◌, ◌+◌, ◌≤◌, Option, ℕ, List, ap, ap₂, sym, subst, ◌∙◌, arith}
 use Rattle.std.specs.Prelude.{OnOk}
-use Rattle.blk_image.specs.Image.{Block, length_of}
-use Rattle.blk_image.specs.Steps.{TrailStep, word_step}
-use Rattle.blk_image.specs.Told.{Applies, AppliesPrefix}
-use Rattle.blk_format.specs.Address.{file_selector, kind_of, place}
-use Rattle.blk_format.specs.Sealed.{seal_by_kind, seal_place}
-use Rattle.blk_format.proofs.SealedRecords.{seal_last}
+use Rattle.spec_image.specs.Image.{Block, length_of}
+use Rattle.spec_image.specs.Steps.{TrailStep, word_step}
+use Rattle.spec_image.specs.Told.{Applies, AppliesPrefix}
+use Rattle.spec_format.specs.Address.{file_selector, kind_of, place}
+use Rattle.spec_format.specs.Sealed.{seal_by_kind, seal_place}
+use Rattle.spec_format.proofs.SealedRecords.{seal_last}
 use Rattle.blk_disk.specs.Unsealed.{missing_steps}
 use Rattle.blk_io.specs.FileNames.{file_of}
 use Rattle.blk_io.specs.declared.folder.FileId.{FileId}

@@ -1,11 +1,11 @@
 use Rattle.std.proofs.Common.{◌≡◌, ℕ, List, ap₂, ap, subst, ◌∙◌}
 use Rattle.std.specs.Prelude.{OnOk}
-use Rattle.blk_image.specs.Steps.{TrailStep, word_steps}
-use Rattle.blk_image.specs.Told.{Applies, AppliesPrefix}
-use Rattle.blk_format.specs.Address.{place, file_selector}
+use Rattle.spec_image.specs.Steps.{TrailStep, word_steps}
+use Rattle.spec_image.specs.Told.{Applies, AppliesPrefix}
+use Rattle.spec_format.specs.Address.{place, file_selector}
 use Rattle.blk_io.specs.FileNames.{file_of}
 use Rattle.blk_io.specs.declared.folder.FileId.TheVariants as names
-use Rattle.blk_format.specs.Sealed.{placed, update_words, update_steps, seal_by_kind, seal_place}
+use Rattle.spec_format.specs.Sealed.{placed, update_words, update_steps, seal_by_kind, seal_place}
 use Rattle.blk_disk.proofs.Ranges.{stands_blocky, name_is}
 use Rattle.blk_disk.proofs.SealedWrites.{words_aligned, words_inside, plan_is}
 use Rattle.blk_disk.proofs.tables.BlockFiles.write_update.Given as given

@@ -1,6 +1,6 @@
 use Rattle.std.proofs.Common.{◌≡◌, ℕ, List, Some, ap, sym, subst, ◌∙◌, arith}
-use Rattle.blk_image.specs.Image.{AreBytes, with_file}
-use Rattle.blk_image.proofs.ByteSteps.{are_bytes-with_file}
+use Rattle.spec_image.specs.Image.{AreBytes, with_file}
+use Rattle.spec_image.proofs.ByteSteps.{are_bytes-with_file}
 use Rattle.blk_io.specs.declared.mem_files.MemFile.{MemFile}
 use Rattle.blk_io.specs.FileNames.{file_of}
 use Rattle.blk_io.specs.Files.{image_of}

@@ -1,8 +1,8 @@
 use Rattle.std.proofs.Common.{◌≡◌, List, Some, Option, Vec, Global, ap, sym, subst, ◌∙◌}
 use Rattle.std.specs.Option.{option_map}
-use Rattle.blk_image.specs.Image.{Image, AreBytes}
-use Rattle.blk_image.specs.Steps.{TrailStep, image_at}
-use Rattle.blk_image.specs.Told.{Trail}
+use Rattle.spec_image.specs.Image.{Image, AreBytes}
+use Rattle.spec_image.specs.Steps.{TrailStep, image_at}
+use Rattle.spec_image.specs.Told.{Trail}
 use Rattle.blk_io.specs.declared.mem_trail.Change.{Change}
 use Rattle.blk_io.specs.Files.{image_of}
 use Rattle.blk_io.specs.MemFolder.{newly_told}

@@ -1,7 +1,7 @@
 use Rattle.std.proofs.Common.{sym, subst}
-use Rattle.blk_image.specs.Image.{AreBytes}
-use Rattle.blk_image.specs.Steps.{SetLength}
-use Rattle.blk_image.proofs.ByteSteps.{are_bytes-step}
+use Rattle.spec_image.specs.Image.{AreBytes}
+use Rattle.spec_image.specs.Steps.{SetLength}
+use Rattle.spec_image.proofs.ByteSteps.{are_bytes-step}
 use Rattle.blk_io.specs.FileNames.{file_of}
 use Rattle.blk_io.specs.Files.{image_of}
 use Rattle.blk_io.proofs.Trails.{trail_goes_on, kept_back, trail_same, bytes_along, along_same}

@@ -1,9 +1,9 @@
 use Rattle.std.proofs.Common.{◌<◌, sym, subst, arith}
 use Rattle.std.proofs.lemmas.List.Elements.{All-from_get_or}
-use Rattle.blk_image.specs.Image.{AreBytes}
-use Rattle.blk_image.specs.Steps.{words}
-use Rattle.blk_image.proofs.ByteSteps.{are_bytes-words}
-use Rattle.blk_image.proofs.Runs.{until_last}
+use Rattle.spec_image.specs.Image.{AreBytes}
+use Rattle.spec_image.specs.Steps.{words}
+use Rattle.spec_image.proofs.ByteSteps.{are_bytes-words}
+use Rattle.spec_image.proofs.Runs.{until_last}
 use Rattle.blk_io.specs.FileNames.{file_of}
 use Rattle.blk_io.specs.Files.{image_of}
 use Rattle.blk_io.proofs.Trails.{trail_goes_on, bytes_along}

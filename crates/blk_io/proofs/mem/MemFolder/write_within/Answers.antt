@@ -1,6 +1,6 @@
 use Rattle.std.proofs.Common.{refl, arith, subst}
-use Rattle.blk_image.specs.Steps.{words}
-use Rattle.blk_image.specs.Told.{Applies}
+use Rattle.spec_image.specs.Steps.{words}
+use Rattle.spec_image.specs.Told.{Applies}
 use Rattle.blk_io.specs.FileNames.{file_of}
 use Rattle.blk_io.proofs.Writes.{part_of_first}
 use Rattle.blk_io.proofs.mem.MemFolder.write_within.Goals as goal

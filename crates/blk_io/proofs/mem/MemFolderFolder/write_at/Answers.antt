@@ -1,6 +1,6 @@
 use Rattle.std.proofs.Common.{length, subst}
 use Rattle.std.specs.Result.{is_err}
-use Rattle.blk_image.specs.Steps.{words}
+use Rattle.spec_image.specs.Steps.{words}
 use Rattle.blk_io.specs.FileNames.{file_of}
 use Rattle.blk_io.specs.Counts.{CountsCall, fails_next, next_failure}
 use Rattle.blk_io.specs.MemFolder.{mem_counts}

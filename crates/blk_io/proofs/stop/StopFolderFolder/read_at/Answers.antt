@@ -1,6 +1,6 @@
 use Rattle.std.proofs.Common.{IfOk, subst}
 use Rattle.std.specs.Option.{ForSome}
-use Rattle.blk_image.specs.Told.{GivesBytes}
+use Rattle.spec_image.specs.Told.{GivesBytes}
 use Rattle.blk_io.specs.declared.mem.MemFolder.{MemFolder}
 use Rattle.blk_io.specs.FileNames.{file_of}
 use Rattle.blk_io.specs.MemFolder.{mem_told}

@@ -1,12 +1,12 @@
 use Rattle.std.proofs.Common.{ℕ, List, ◌++◌, ap, sym, ◌∙◌}
 use Rattle.std.proofs.Common.{[], append-nil}
-use Rattle.blk_image.specs.Bytes.{content}
-use Rattle.blk_format.specs.Records.{bytes_of_words}
+use Rattle.spec_image.specs.Bytes.{content}
+use Rattle.spec_format.specs.Records.{bytes_of_words}
 use Rattle.blk_ranges.specs.ParentMaps.{head_bytes, read_parent_head}
 use Rattle.blk_ranges.proofs.HeadBytes.{written-words}
 use Rattle.blk_ranges.proofs.ParentIndexes.{head-read, no-parts}
 use Rattle.std.proofs.Common.{replicate}
-use Rattle.blk_format.specs.SparseIndex.{read_parent_index}
+use Rattle.spec_format.specs.SparseIndex.{read_parent_index}
 use Rattle.blk_ranges.proofs.parent_map.ParentHead.print.Goals as goal
 
 pub returns-clause-printed : goal.returns-clause-printed

@@ -1,5 +1,5 @@
 use Rattle.std.proofs.Common.{ℕ, List, ◌++◌, ap, ◌∙◌}
-use Rattle.blk_format.specs.SparseIndex.{read_parent_index}
+use Rattle.spec_format.specs.SparseIndex.{read_parent_index}
 use Rattle.blk_ranges.proofs.ParentIndexes.{index-printed, parts-long, put-index}
 use Rattle.std.proofs.Common.{drop}
 use borrow.Rule.Slice.PartMut.{put_mid}

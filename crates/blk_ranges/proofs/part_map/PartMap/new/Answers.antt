@@ -1,6 +1,6 @@
 use Rattle.std.proofs.Common.{refl}
-use Rattle.blk_image.specs.Bytes.{zeros}
-use Rattle.blk_image.proofs.Splices.{content-zeros}
+use Rattle.spec_image.specs.Bytes.{zeros}
+use Rattle.spec_image.proofs.Splices.{content-zeros}
 use Rattle.blk_ranges.proofs.Presence.{nothing-present}
 use Rattle.blk_ranges.proofs.part_map.PartMap.new.Goals as goal
 

@@ -1,6 +1,6 @@
 use Rattle.std.proofs.Common.{arith, refl}
-use Rattle.blk_format.specs.Records.{entry_size, entry_seal_place}
-use Rattle.blk_format.proofs.Seals.{unsealed-checks}
+use Rattle.spec_format.specs.Records.{entry_size, entry_seal_place}
+use Rattle.spec_format.proofs.Seals.{unsealed-checks}
 use Rattle.blk_record.proofs.Writes.{others-stay}
 use Rattle.blk_record.proofs.entry.EntryMutRecordMut.unseal.Goals as goal
 

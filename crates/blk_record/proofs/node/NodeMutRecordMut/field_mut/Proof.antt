@@ -27,7 +27,7 @@ use denote.Slice.{MutSlice, slice_val}
 use denote.Steps.{nothing, opens, closes, peeks}
 use denote.Triple.Walked.{says, Stays, stay_dropped, walk_of, ends_at, Goes-dropped, Goes-spent_ref}
 use Rattle.std.proofs.raw_atomic.Walks.{proved}
-use Rattle.blk_format.specs.Records.{node_size}
+use Rattle.spec_format.specs.Records.{node_size}
 use Rattle.blk_record.specs.Fields.{IsField}
 use Rattle.blk_record.specs.Views.{node_mut_with}
 use Rattle.blk_record.proofs.Lends.{lends_field, part, part-long}

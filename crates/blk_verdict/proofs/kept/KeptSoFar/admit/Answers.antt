@@ -1,7 +1,7 @@
 use Rattle.std.proofs.Common.{◌≡◌, ◌∙◌, ◌++◌, ◌∷◌, [], List, Bool, Option, None, Some, true, false, refl, sym, ap, subst}
 use Rattle.std.specs.Prelude.{All, is_some, not}
 use Rattle.std.proofs.lemmas.List.Elements.{All-push}
-use Rattle.blk_volume.specs.Audit as audit
+use Rattle.spec_folder.specs.Audit as audit
 use Rattle.blk_verdict.specs.Kept.{AreShown, IsSameAnswer, kept_with}
 use Rattle.blk_verdict.specs.Readable.{IsReadable}
 use Rattle.blk_verdict.specs.declared.loading.Loaded.{Loaded}

@@ -1,6 +1,6 @@
 use Rattle.std.proofs.Common.{◌≡◌, ◌∙◌, ◌||◌, List, ℕ, Bool, true, false, refl, ap}
 use Rattle.std.specs.Prelude.{not}
-use Rattle.blk_format.specs.Claims.{claims_of_all, overlap, repeats}
+use Rattle.spec_format.specs.Claims.{claims_of_all, overlap, repeats}
 use Rattle.blk_verdict.specs.Kept.{addresses_of, addresses_of_all}
 use Rattle.blk_verdict.proofs.kept.KeptSoFar.collides.Goals as goal
 

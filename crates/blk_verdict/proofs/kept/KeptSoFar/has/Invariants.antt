@@ -1,7 +1,7 @@
 use Rattle.std.proofs.Common.{◌≡◌, ◌≤◌, false, map}
 use Rattle.std.specs.Option.{ForSome}
-use Rattle.blk_image.specs.Told.{Stays}
-use Rattle.blk_volume.specs.Loads as shown
+use Rattle.spec_image.specs.Told.{Stays}
+use Rattle.spec_folder.specs.Loads as shown
 use Rattle.blk_disk.specs.Tables.{Agrees}
 use Rattle.blk_verdict.specs.Kept.{IsLoadedFrom, is_sought}
 use Rattle.blk_verdict.specs.declared.loading.Loaded.{Loaded}

@@ -2,8 +2,8 @@ use Rattle.std.proofs.Common.{◌≡◌, ◌∙◌, ℕ, List, sym, ap}
 use Rattle.std.specs.List.{list_any}
 use Rattle.std.specs.Option.{ForSome}
 use Rattle.std.proofs.lemmas.Result.{IfOk-weaker}
-use Rattle.blk_format.specs.Hash.{hash as hash_of}
-use Rattle.blk_volume.specs.Loads as shown
+use Rattle.spec_format.specs.Hash.{hash as hash_of}
+use Rattle.spec_folder.specs.Loads as shown
 use Rattle.blk_disk.specs.Tables.{Agrees}
 use Rattle.blk_verdict.specs.Keyed.{HasItsKey}
 use Rattle.blk_verdict.specs.Kept.{AreShown, IsLoadedFrom, is_part_said, is_sought}

@@ -1,8 +1,8 @@
 use Rattle.std.proofs.Common.{◌≡◌, ◌∙◌, List, sym, ap}
 use Rattle.std.specs.Option.{ForSome}
 use Rattle.std.proofs.lemmas.Result.{IfOk-weaker}
-use Rattle.blk_volume.specs.Audit as audit
-use Rattle.blk_volume.specs.Loads as shown
+use Rattle.spec_folder.specs.Audit as audit
+use Rattle.spec_folder.specs.Loads as shown
 use Rattle.blk_disk.specs.Tables.{Agrees}
 use Rattle.blk_verdict.specs.Kept.{AreShown, IsLoadedFrom, is_part_said}
 use Rattle.blk_verdict.specs.PartNames.{IsNameOf}

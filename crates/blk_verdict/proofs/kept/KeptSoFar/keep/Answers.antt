@@ -1,7 +1,7 @@
 use Rattle.std.proofs.Common.{◌≡◌, ◌∙◌, ◌++◌, ◌∷◌, [], List, ℕ, Bool, true, false, if◌then◌else◌, sym, ap, map, subst}
 use Rattle.std.proofs.lemmas.List.{append-nil, map-append}
 use Rattle.std.proofs.lemmas.List.Concat.{flat_map-append}
-use Rattle.blk_format.specs.Claims.{claims_of_all, repeats}
+use Rattle.spec_format.specs.Claims.{claims_of_all, repeats}
 use Rattle.blk_addr.specs.Claims.{IsClaimsOf}
 use Rattle.blk_addr.specs.declared.claim_set.Claims.{Claims}
 use Rattle.blk_addr.proofs.ClaimGroupLemmas.{free-behind}

@@ -1,9 +1,9 @@
 use Rattle.std.proofs.Common.{◌≡◌, ◌∙◌, ◌++◌, ◌||◌, List, ℕ, Bool, false, sym, ap}
 use Rattle.std.proofs.lemmas.Bool.{or_parts}
 use Rattle.std.proofs.lemmas.List.Concat.{flat_map-append}
-use Rattle.blk_image.specs.Image.{Image}
-use Rattle.blk_image.specs.Told.{Told}
-use Rattle.blk_format.specs.Claims.{claims_of, claims_of_all, overlap, repeats}
+use Rattle.spec_image.specs.Image.{Image}
+use Rattle.spec_image.specs.Told.{Told}
+use Rattle.spec_format.specs.Claims.{claims_of, claims_of_all, overlap, repeats}
 use Rattle.blk_addr.proofs.ClaimLemmas.{repeats-append}
 use Rattle.blk_io.proofs.Carried.{carried, if_damaged_weaker}
 use Rattle.blk_disk.specs.Tables.{Agrees}

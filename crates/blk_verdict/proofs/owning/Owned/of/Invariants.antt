@@ -1,6 +1,6 @@
 use Rattle.std.proofs.Common.{◌≡◌, ◌≤◌, take}
 use Rattle.std.specs.List.{filter}
-use Rattle.blk_format.specs.Address.{is_address}
+use Rattle.spec_format.specs.Address.{is_address}
 use Rattle.blk_verdict.specs.Owning.{addresses_owned}
 use Rattle.blk_verdict.proofs.owning.Owned.of.Given as goal
 

@@ -1,8 +1,8 @@
 use Rattle.std.proofs.Common.{◌≡◌, ◌-◌, ◌*◌, ℕ, List, true, length, take, drop, rules, sym, ◌∙◌, ap, arith}
 use Rattle.std.proofs.lemmas.List.{with_items_is}
-use Rattle.blk_image.specs.Bytes.{spliced}
-use Rattle.blk_image.proofs.Splices.{length-spliced}
-use Rattle.blk_image.specs.Image.{same_file}
+use Rattle.spec_image.specs.Bytes.{spliced}
+use Rattle.spec_image.proofs.Splices.{length-spliced}
+use Rattle.spec_image.specs.Image.{same_file}
 use Rattle.blk_io.specs.FileNames.{file_of}
 use Rattle.blk_window.proofs.Overwriting.{overwrites, cut_off, slot_of}
 use Rattle.blk_window.proofs.page.Page.write.Goals as goal

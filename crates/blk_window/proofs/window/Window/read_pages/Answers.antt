@@ -1,6 +1,6 @@
 use Rattle.std.proofs.Common.{◌≡◌, ◌+◌, ◌-◌, ◌<◌, ◌≤◌, length, refl, sym, ◌∙◌, ap, subst, arith, true, false, inl, inr}
 use borrow.Rule.Slice.PartMut.{put_mid}
-use Rattle.blk_image.specs.Told.{Told}
+use Rattle.spec_image.specs.Told.{Told}
 use Rattle.blk_io.specs.FileNames.{file_of}
 use Rattle.blk_window.specs.Held.{page_at}
 use Rattle.blk_window.specs.Pages.{held_of, places_of}

@@ -1,7 +1,7 @@
 use Rattle.std.proofs.Common.{[], ◌∷◌, sym, subst}
 use Rattle.std.specs.List.{All}
-use Rattle.blk_image.specs.Steps.{SetLength}
-use Rattle.blk_image.proofs.Runs.{part_of_one}
+use Rattle.spec_image.specs.Steps.{SetLength}
+use Rattle.spec_image.proofs.Runs.{part_of_one}
 use Rattle.blk_io.specs.FileNames.{file_of}
 use Rattle.blk_window.specs.Held.{Agrees}
 use Rattle.blk_window.specs.Pages.{held_of}

@@ -1,7 +1,7 @@
 use Rattle.std.proofs.Common.{sym, ◌∙◌, subst}
 use Rattle.std.specs.List.{All, filter_map}
-use Rattle.blk_image.specs.Image.{Image}
-use Rattle.blk_image.specs.Steps.{words}
+use Rattle.spec_image.specs.Image.{Image}
+use Rattle.spec_image.specs.Steps.{words}
 use Rattle.blk_io.specs.FileNames.{file_of}
 use Rattle.blk_window.specs.Held.{Agrees, written}
 use Rattle.blk_window.specs.Pages.{held_of}

@@ -1,0 +1,48 @@
+-- What a word of the command line is, read by itself.
+use Rattle.std.specs.Prelude.{ℕ, Bool, false, ◌==◌, if◌then◌else◌, List, ◌∷◌, length, take, drop, codes}
+use Rattle.std.specs.Str.{bytes_eq}
+use Rattle.blk_args.specs.declared.kinds.Limit.{Limit}
+use Rattle.blk_args.specs.declared.kinds.Limit.TheVariants as limit
+use Rattle.blk_args.specs.declared.kinds.Kind.{Kind}
+use Rattle.blk_args.specs.declared.kinds.Kind.TheVariants as kind
+
+-- a word that stands before the word `--`
+pub data Word : Type 0 where
+  -- it is `--`: the words behind it are ordinary
+  ends : Word
+  -- it names an option, and the next word is its value
+  names : Limit → Word
+  -- it names an option and has its value
+  sets : Limit → List ℕ → Word
+  -- it is an ordinary word
+  says : Word
+  -- it is no word of the grammar
+  unknown : Word
+
+-- a text stands at the front of a word
+abbrev pub begins_with : List ℕ → List ℕ → Bool
+begins_with front word = bytes_eq (take (length front) word) front
+
+-- a word begins with `-` and has a second character
+abbrev pub is_dashed : List ℕ → Bool
+is_dashed (first ∷ second ∷ rest) = first == 45
+is_dashed _ = false
+
+-- what a word is
+unfoldable pub word_of : List ℕ → Word
+word_of word =
+    if bytes_eq word (codes "--") then ends
+    else if bytes_eq word (codes "--max") then names limit.Bytes
+    else if bytes_eq word (codes "--items") then names limit.Items
+    else if begins_with (codes "--max=") word then sets limit.Bytes (drop 6 word)
+    else if begins_with (codes "--items=") word then sets limit.Items (drop 8 word)
+    else if is_dashed word then unknown
+    else says
+
+-- a word as the program has it
+abbrev pub shown : Kind → Word
+shown kind.End = ends
+shown (kind.Name limit) = names limit
+shown (kind.Value limit value) = sets limit value.now
+shown kind.Ordinary = says
+shown kind.Unknown = unknown

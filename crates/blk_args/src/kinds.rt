@@ -1,0 +1,59 @@
+// What a word is by itself.
+ghost use Rattle.std.specs.Prelude.{◌≡◌};
+ghost use Rattle.blk_args.specs.Kinds.{is_dashed, shown, word_of};
+
+/// What an option limits.
+#[derive(Clone, Copy)]
+pub enum Limit {
+    /// `--max`: the bytes that the cache keeps.
+    Bytes,
+    /// `--items`: the items that it keeps.
+    Items,
+}
+
+/// What a word before `--` is.
+#[derive(Clone, Copy)]
+pub enum Kind<'w> {
+    /// `--`: the words behind it are ordinary.
+    End,
+    /// An option whose value is the next word.
+    Name(Limit),
+    /// An option with its value.
+    Value(Limit, &'w [u8]),
+    /// An ordinary word.
+    Ordinary,
+    /// No word of the grammar.
+    Unknown,
+}
+
+/// What a word is.
+#[tactic(auto, unfolding(crate::specs::Kinds::word_of))]
+pub fn kind_of(word: &[u8]) -> Kind<'_>
+    ensures { shown result ≡ word_of word.now }
+{
+    if word == b"--".as_slice() {
+        Kind::End
+    } else if word == b"--max".as_slice() {
+        Kind::Name(Limit::Bytes)
+    } else if word == b"--items".as_slice() {
+        Kind::Name(Limit::Items)
+    } else if let Some(value) = word.strip_prefix(b"--max=".as_slice()) {
+        Kind::Value(Limit::Bytes, value)
+    } else if let Some(value) = word.strip_prefix(b"--items=".as_slice()) {
+        Kind::Value(Limit::Items, value)
+    } else if is_dashed(word) {
+        Kind::Unknown
+    } else {
+        Kind::Ordinary
+    }
+}
+
+// Whether a word begins with `-` and has a second character.
+fn is_dashed(word: &[u8]) -> bool
+    ensures { result ≡ is_dashed word.now }
+{
+    match word {
+        [first, _, ..] => *first == b'-',
+        _ => false,
+    }
+}

@@ -1,9 +1,0 @@
-use Rattle.std.proofs.Common.{inl, arith}
-use Rattle.blk_format.proofs.SealedRecords.{node_bytes, record_inside}
-use Rattle.blk_folder_tests.proofs.disk.read_cut.Goals as goal
-
-pub read_block-requires-clause-inside : goal.read_block-requires-clause-inside
-read_block-requires-clause-inside c =
-    let size = node_bytes c.in-Some.addr c.in-Some.ensures.kind in
-    let inside = record_inside c.in-Some.addr (inl c.in-Some.ensures.kind) in
-    omega (arith, size, inside)

@@ -1,5 +1,0 @@
-use Rattle.blk_format.proofs.NameLemmas.{reads_names}
-use Rattle.blk_format.proofs.reads_names.Goals as goal
-
-pub returns : goal.returns
-returns c = reads_names

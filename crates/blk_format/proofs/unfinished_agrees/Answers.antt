@@ -1,5 +1,0 @@
-use Rattle.blk_format.proofs.HeaderLemmas.{unfinished_agrees}
-use Rattle.blk_format.proofs.unfinished_agrees.Goals as goal
-
-pub returns : goal.returns
-returns c = unfinished_agrees

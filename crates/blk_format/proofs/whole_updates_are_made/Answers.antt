@@ -1,5 +1,0 @@
-use Rattle.blk_format.proofs.SealedRecords.{whole_update}
-use Rattle.blk_format.proofs.whole_updates_are_made.Goals as goal
-
-pub returns : goal.returns
-returns c = whole_update

@@ -1,5 +1,0 @@
-use Rattle.blk_headline.proofs.LinesCut.{few_commands, lines_go_on, whole_first}
-use Rattle.blk_headline.proofs.lines_go_on.Goals as goal
-
-pub returns : goal.returns
-returns c = record { cut = lines_go_on; whole = whole_first; few = few_commands }

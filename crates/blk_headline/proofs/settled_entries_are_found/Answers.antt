@@ -1,5 +1,0 @@
-use Rattle.blk_headline.proofs.SettledEntries.{rests_found, settled_found}
-use Rattle.blk_headline.proofs.settled_entries_are_found.Goals as goal
-
-pub returns : goal.returns
-returns c = record { settled = settled_found; rests = rests_found }

@@ -1,5 +1,0 @@
-use Rattle.blk_image.proofs.NotesLemmas.{are_true-append}
-use Rattle.blk_image.proofs.notes_go_on.Goals as goal
-
-pub returns : goal.returns
-returns c = are_true-append

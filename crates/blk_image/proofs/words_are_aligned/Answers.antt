@@ -1,5 +1,0 @@
-use Rattle.blk_image.proofs.Cuts.{words_trail}
-use Rattle.blk_image.proofs.words_are_aligned.Goals as goal
-
-pub returns : goal.returns
-returns c = words_trail

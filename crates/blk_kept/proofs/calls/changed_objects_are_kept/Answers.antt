@@ -1,5 +1,0 @@
-use Rattle.blk_kept.proofs.Objects.{changed-doomed-kept, changed-items-kept, doomed-find, unsettled-find}
-use Rattle.blk_kept.proofs.calls.changed_objects_are_kept.Goals as goal
-
-pub returns : goal.returns
-returns c = record { unsettled = unsettled-find; dead = doomed-find; item = changed-items-kept; doomed = changed-doomed-kept }

@@ -1,5 +1,0 @@
-use Rattle.blk_kept.proofs.Links.{data-inside, updates-are-inside}
-use Rattle.blk_kept.proofs.calls.changes_are_inside.Goals as goal
-
-pub returns : goal.returns
-returns c = record { stored = data-inside; fields = updates-are-inside }

@@ -1,5 +1,0 @@
-use Rattle.blk_kept.proofs.Doomed.{doomed-less, objects-doomed}
-use Rattle.blk_kept.proofs.calls.doomed_objects_are_kept.Goals as goal
-
-pub returns : goal.returns
-returns c = record { kept = objects-doomed; one_less = doomed-less }

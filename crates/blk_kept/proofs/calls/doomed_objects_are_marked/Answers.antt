@@ -1,5 +1,0 @@
-use Rattle.blk_kept.proofs.DoomedMarks.{doomed-marking-counts, doomed-marking-finds, doomed-marking-keeps}
-use Rattle.blk_kept.proofs.calls.doomed_objects_are_marked.Goals as goal
-
-pub returns : goal.returns
-returns c = record { find = doomed-marking-finds; uncounted = doomed-marking-keeps; counted = doomed-marking-counts }

@@ -1,5 +1,0 @@
-use Rattle.blk_kept.proofs.Externals.{deleted-removed, deleting-finds, made-added, making-finds}
-use Rattle.blk_kept.proofs.calls.external_files_come_and_go.Goals as goal
-
-pub returns : goal.returns
-returns c = record { making = making-finds; made = made-added; deleting = deleting-finds; deleted = deleted-removed }

@@ -1,5 +1,0 @@
-use Rattle.blk_kept.proofs.Objects.{handles-change, handles-uncounted}
-use Rattle.blk_kept.proofs.calls.handles_are_not_kept.Goals as goal
-
-pub returns : goal.returns
-returns c = record { uncounted = handles-change; counted = handles-uncounted }

@@ -1,5 +1,0 @@
-use Rattle.blk_kept.proofs.Bounds.{allocations-few, leave-room}
-use Rattle.blk_kept.proofs.calls.kept_allocations_are_few.Goals as goal
-
-pub returns : goal.returns
-returns c = record { few = allocations-few; room = leave-room }

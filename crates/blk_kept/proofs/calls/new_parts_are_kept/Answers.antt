@@ -1,5 +1,0 @@
-use Rattle.blk_kept.proofs.NewPartsKept.{making-finds, part-inserts-find, parts-kept, values-keep}
-use Rattle.blk_kept.proofs.calls.new_parts_are_kept.Goals as goal
-
-pub returns : goal.returns
-returns c = record { inserting = part-inserts-find; making = making-finds; unsettled = values-keep; kept = parts-kept }

@@ -1,6 +1,0 @@
-use Rattle.blk_kept.proofs.AtNodes.{updates-change, updates-leave}
-use Rattle.blk_kept.proofs.Dirtying.{marking-counts, marking-finds, marking-keeps}
-use Rattle.blk_kept.proofs.calls.objects_are_marked.Goals as goal
-
-pub returns : goal.returns
-returns c = record { blocks = updates-change; counters = updates-leave; find = marking-finds; uncounted = marking-keeps; counted = marking-counts }

@@ -1,8 +1,0 @@
-use Rattle.blk_kept.proofs.OneMoreOut.{one-more-goes}
-use Rattle.blk_kept.proofs.PartlyFreed.{blocks-freed, files-deleted, out-changes}
-use Rattle.blk_kept.proofs.PartlyOut.{kept-begin, only-listed, partly-out-ends}
-use Rattle.blk_kept.proofs.UnlinkedOrder.{out-in-any-order}
-use Rattle.blk_kept.proofs.calls.states_may_be_partly_out.Goals as goal
-
-pub returns : goal.returns
-returns c = record { begins = kept-begin; one_more = one-more-goes; freed = blocks-freed; deleted = files-deleted; any_order = out-in-any-order; changed = out-changes; listed = only-listed; ends = partly-out-ends }

@@ -1,5 +1,0 @@
-use Rattle.blk_kept.proofs.Touched.{touch-counts, touch-keeps}
-use Rattle.blk_kept.proofs.calls.touches_keep_states.Goals as goal
-
-pub returns : goal.returns
-returns c = record { uncounted = touch-keeps; counted = touch-counts }

@@ -1,5 +1,0 @@
-use Rattle.blk_kept.proofs.CommandEnding.{creates-end, creates-left}
-use Rattle.blk_kept.proofs.commands.creates_end_once_made.Goals as goal
-
-pub returns : goal.returns
-returns c = record { ends = creates-end; leaves = creates-left }

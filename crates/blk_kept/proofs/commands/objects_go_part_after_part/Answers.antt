@@ -1,5 +1,0 @@
-use Rattle.blk_kept.proofs.OutGroups.{out-groups-gone, unheld-out-dooms-end}
-use Rattle.blk_kept.proofs.commands.objects_go_part_after_part.Goals as goal
-
-pub returns : goal.returns
-returns c = record { unheld_dooms = unheld-out-dooms-end; groups = out-groups-gone }

@@ -1,5 +1,0 @@
-use Rattle.blk_kept.proofs.Unsettling.{doomed-left, unsettled-left}
-use Rattle.blk_kept.proofs.commands.others_may_be_left.Goals as goal
-
-pub returns : goal.returns
-returns c = record { unsettled = unsettled-left; doomed = doomed-left }

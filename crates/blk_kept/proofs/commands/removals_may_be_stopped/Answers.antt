@@ -1,6 +1,0 @@
-use Rattle.blk_kept.proofs.WordStops.{doomed-parts-find, dooms-find, dooms-stop, groups-stop, out-doomed, whole-groups-stop}
-use Rattle.blk_kept.proofs.PartsOut.{part-out, parts-find}
-use Rattle.blk_kept.proofs.commands.removals_may_be_stopped.Goals as goal
-
-pub returns : goal.returns
-returns c = record { either = dooms-find; out = out-doomed; parts = doomed-parts-find; dooms = dooms-stop; alone = parts-find; gone = part-out; groups = groups-stop; whole = whole-groups-stop }

@@ -1,5 +1,0 @@
-use Rattle.blk_kept.proofs.WordStops.{settling-stops, unsettled-uses-stop, unsettling-stops, uses-stop}
-use Rattle.blk_kept.proofs.commands.uses_may_be_stopped.Goals as goal
-
-pub returns : goal.returns
-returns c = record { uses = uses-stop; unsettled_uses = unsettled-uses-stop; unsettles = unsettling-stops; settles = settling-stops }

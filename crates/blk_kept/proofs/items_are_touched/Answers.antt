@@ -1,5 +1,0 @@
-use Rattle.blk_kept.proofs.Touching.{opens-stop, touches-find}
-use Rattle.blk_kept.proofs.items_are_touched.Goals as goal
-
-pub returns : goal.returns
-returns c = record { find = touches-find; opens = opens-stop }

@@ -1,5 +1,0 @@
-use Rattle.blk_kept.proofs.Keeping.{kept-found, kept-stands, kept-sound}
-use Rattle.blk_kept.proofs.kept_states_are_stood_for.Goals as goal
-
-pub returns : goal.returns
-returns c = record { found = kept-found; stands = kept-stands; sound = kept-sound }

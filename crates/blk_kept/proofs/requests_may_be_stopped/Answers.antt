@@ -1,5 +1,0 @@
-use Rattle.blk_kept.proofs.Stopping.{stop-before, stop-after, stop-evicted, kept-stop}
-use Rattle.blk_kept.proofs.requests_may_be_stopped.Goals as goal
-
-pub returns : goal.returns
-returns c = record { before = stop-before; after = stop-after; evicted = stop-evicted; kept = kept-stop }

@@ -1,5 +1,0 @@
-use Rattle.blk_laws.proofs.walks.LeavingOut.{leaving-out}
-use Rattle.blk_laws.proofs.dropped_nodes_may_be_left_out.Goals as goal
-
-pub returns : goal.returns
-returns c = leaving-out

@@ -1,8 +1,0 @@
-use Rattle.blk_laws.proofs.claims.Allocations.{sound-allocated, stood-allocated}
-use Rattle.blk_laws.proofs.linked_files_are_allocated.Goals as goal
-
-pub returns : goal.returns
-returns c = record {
-  sound = λ image sound number linked. sound-allocated image sound number linked;
-  stood = λ image state stands number linked. stood-allocated image state stands number linked;
-}

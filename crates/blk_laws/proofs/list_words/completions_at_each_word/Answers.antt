@@ -1,5 +1,0 @@
-use Rattle.blk_laws.proofs.lists.WordStops.{completions-can, completions-keep, completions-done, completions-stop}
-use Rattle.blk_laws.proofs.list_words.completions_at_each_word.Goals as goal
-
-pub returns : goal.returns
-returns c = record { can = completions-can; at_each_word = completions-keep; ends = completions-done; stops = completions-stop }

@@ -1,5 +1,0 @@
-use Rattle.blk_laws.proofs.lists.WordTurns.{inserts-can, inserts-turn_words, inserts-rest}
-use Rattle.blk_laws.proofs.list_words.inserts_at_each_word.Goals as goal
-
-pub returns : goal.returns
-returns c = record { can = inserts-can; commits = inserts-turn_words; ends = inserts-rest }

@@ -1,5 +1,0 @@
-use Rattle.blk_laws.proofs.lists.WordTurns.{removals-can, removals-turn_words, removals-rest}
-use Rattle.blk_laws.proofs.list_words.removals_at_each_word.Goals as goal
-
-pub returns : goal.returns
-returns c = record { can = removals-can; commits = removals-turn_words; ends = removals-rest }

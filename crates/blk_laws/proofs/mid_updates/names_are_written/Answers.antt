@@ -1,5 +1,0 @@
-use Rattle.blk_laws.proofs.updates.Nodes.{contents-written, dirty-written}
-use Rattle.blk_laws.proofs.mid_updates.names_are_written.Goals as goal
-
-pub returns : goal.returns
-returns c = record { contents = contents-written; dirty = dirty-written }

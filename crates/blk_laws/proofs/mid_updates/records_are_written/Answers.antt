@@ -1,5 +1,0 @@
-use Rattle.blk_laws.proofs.updates.Records.{follows-written, fields-written}
-use Rattle.blk_laws.proofs.mid_updates.records_are_written.Goals as goal
-
-pub returns : goal.returns
-returns c = record { chain_next = follows-written; fields = fields-written }

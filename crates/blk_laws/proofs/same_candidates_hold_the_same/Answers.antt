@@ -1,8 +1,0 @@
-use Rattle.blk_laws.proofs.walks.FrameLaw.{only-candidates, frame-law}
-use Rattle.blk_laws.proofs.same_candidates_hold_the_same.Goals as goal
-
-pub returns : goal.returns
-returns c = record {
-  only = only-candidates;
-  frame = frame-law;
-}

@@ -1,8 +1,0 @@
-use Rattle.blk_laws.proofs.states.DirtyWords.{before-turning, after-turning}
-use Rattle.blk_laws.proofs.turning_objects_are_picked.Goals as goal
-
-pub returns : goal.returns
-returns c = record {
-  before = before-turning;
-  after = after-turning;
-}

@@ -1,5 +1,0 @@
-use Rattle.blk_repair_laws.proofs.ChainRepair.{chains-begin, buckets-mended, none-to_link, chains-end}
-use Rattle.blk_repair_laws.proofs.buckets_are_mended.Goals as goal
-
-pub returns : goal.returns
-returns c = record { begins = chains-begin; mends = buckets-mended; none = none-to_link; ends = chains-end }

@@ -1,5 +1,0 @@
-use Rattle.blk_repair_laws.proofs.MendedChanges.{nodes-sealed, records-sealed}
-use Rattle.blk_repair_laws.proofs.kept_records_may_be_sealed.Goals as goal
-
-pub returns : goal.returns
-returns c = record { nodes = nodes-sealed; records = records-sealed }

@@ -1,5 +1,0 @@
-use Rattle.blk_repair_laws.proofs.MendedParts.{unlinked-leave, external-leaves, files-mended, words-leave, counters-left}
-use Rattle.blk_repair_laws.proofs.mended_parts_stand.Goals as goal
-
-pub returns : goal.returns
-returns c = record { unlinked = unlinked-leave; external = external-leaves; files = files-mended; words = words-leave; counters = counters-left }

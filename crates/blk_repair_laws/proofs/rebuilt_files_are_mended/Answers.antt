@@ -1,5 +1,0 @@
-use Rattle.blk_repair_laws.proofs.MendedParts.{words-stand, words-claim, rebuilt-mended}
-use Rattle.blk_repair_laws.proofs.rebuilt_files_are_mended.Goals as goal
-
-pub returns : goal.returns
-returns c = record { stand = words-stand; claim = words-claim; mended = rebuilt-mended }

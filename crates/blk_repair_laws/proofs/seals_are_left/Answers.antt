@@ -1,5 +1,0 @@
-use Rattle.blk_repair_laws.proofs.RecordSeals.{growth-leaves, unlinked-leaves, external-leaves_seals, records-behind, words-behind}
-use Rattle.blk_repair_laws.proofs.seals_are_left.Goals as goal
-
-pub returns : goal.returns
-returns c = record { growth = growth-leaves; unlinked = unlinked-leaves; external = external-leaves_seals; records = records-behind; words = words-behind }

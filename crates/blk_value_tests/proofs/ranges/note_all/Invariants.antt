@@ -1,5 +1,0 @@
-use Rattle.blk_ranges.specs.PartMaps.{IsPartMap}
-use Rattle.blk_value_tests.proofs.ranges.note_all.Given as goal
-
-abbrev pub invariant-loop-from : goal.invariant-loop-from
-invariant-loop-from l = IsPartMap l.map

@@ -1,0 +1,67 @@
+-- The laws of folders in which nothing is kept, such as one that was just made.
+use Rattle.std.specs.Prelude.{◌≡◌, ℕ, ◌^◌, ◌<◌, ◌≤◌, [], true, false, is_some}
+use Rattle.spec_image.specs.Image.{Index, Block, External, Image, has_file, length_of, byte}
+use Rattle.blk_model.specs.State.{Bounds}
+use Rattle.blk_model.specs.Holding.{open_state}
+use Rattle.spec_format.specs.Address.{header_size}
+use Rattle.spec_format.specs.Headers.{table_length, num_entries_of, num_bytes_of, sizes_of, bucket_of, allocations_of, empty_of, updating_of}
+use Rattle.spec_format.specs.NewFolder.{IsMade}
+use Rattle.spec_format.specs.BlockFiles.{linked_as, max_entries_in, most_blocks, IsWellFormed}
+use Rattle.spec_format.specs.Maps.{is_block_marked}
+use Rattle.spec_folder.specs.View.{list_of, view_of}
+use Rattle.spec_folder.specs.Found.{found}
+use Rattle.spec_folder.specs.Layout.{Represents}
+use Rattle.spec_folder.specs.Emptiness.{no_view, no_layout}
+use Rattle.spec_folder.specs.Sound.{OnlyLinked, IsSound}
+use Rattle.spec_folder.specs.StandsFor.{StandsFor}
+
+-- a folder that shows nothing represents the empty state
+abbrev pub NothingRepresentsTheEmptyState : Type 0
+NothingRepresentsTheEmptyState = (limits : Bounds) → Represents no_view (open_state [] limits) no_layout
+
+-- the index has no list, no chain and no counts
+pub record IsIndexWithoutEntries (image : Image) : Type 0 where
+  pub head : (list_of image).head ≡ 0
+  pub tail : (list_of image).tail ≡ 0
+  pub transaction : (list_of image).transaction ≡ 0
+  pub table : (bucket : ℕ) → bucket < table_length → bucket_of (byte image Index) bucket ≡ 0
+  pub sizes : sizes_of (byte image Index) 0 ≡ 0
+  pub num_entries : num_entries_of (byte image Index) ≡ 0
+  pub num_bytes : num_bytes_of (byte image Index) ≡ 0
+
+-- a block file has its header, and no block
+pub record IsFileWithoutBlocks (image : Image) (n : ℕ) : Type 0 where
+  pub long_enough : header_size ≤ length_of image (Block n)
+  pub allocations : allocations_of (byte image (Block n)) ≡ 0
+  pub max_entries : max_entries_in image n ≡ 0
+  pub empty : (i : ℕ) → i < 4 → empty_of (byte image (Block n)) i ≡ 0
+  pub updating : updating_of (byte image (Block n)) ≡ 0
+  pub map : (b : ℕ) → b < most_blocks → is_block_marked image n b ≡ false
+
+-- a well-formed folder of a bare index and bare block files, with no other files
+pub record HasNoEntries (image : Image) : Type 0 where
+  pub well_formed : IsWellFormed image
+  pub index : IsIndexWithoutEntries image
+  pub blocks : (n : ℕ) → is_some (linked_as image n) ≡ true → IsFileWithoutBlocks image n
+  pub only_linked : OnlyLinked image
+  pub no_externals : (n : ℕ) → n < 2 ^ 32 → has_file image (External n) ≡ false
+
+-- a bare folder holds nothing
+abbrev pub FoldersWithoutEntriesHoldNothing : Type 0
+FoldersWithoutEntriesHoldNothing = (image : Image) → HasNoEntries image → found image ≡ []
+
+-- it is sound
+abbrev pub FoldersWithoutEntriesAreSound : Type 0
+FoldersWithoutEntriesAreSound = (image : Image) → HasNoEntries image → IsSound image
+
+-- it represents the empty state
+abbrev pub FoldersWithoutEntriesRepresentTheEmptyState : Type 0
+FoldersWithoutEntriesRepresentTheEmptyState = (image : Image) (limits : Bounds) → HasNoEntries image → Represents (view_of image) (open_state [] limits) no_layout
+
+-- it stands for the empty state
+abbrev pub FoldersWithoutEntriesStandForTheEmptyState : Type 0
+FoldersWithoutEntriesStandForTheEmptyState = (image : Image) (limits : Bounds) → HasNoEntries image → StandsFor image (open_state [] limits)
+
+-- a new folder is bare
+abbrev pub NewFoldersHaveNoEntries : Type 0
+NewFoldersHaveNoEntries = (moment : ℕ) (image : Image) → IsMade moment image → HasNoEntries image

@@ -1,0 +1,45 @@
+-- The laws of names and charges: the model and the formats say the same.
+use Rattle.std.specs.Prelude.{◌≡◌, ℕ, ◌+◌, List, length, true}
+use Rattle.std.specs.List.{sum_by, count_by}
+use Rattle.std.specs.declared.option.Option.TheVariants.{Some}
+use Rattle.spec_image.specs.Image.{Image}
+use Rattle.blk_model.specs.Items.{Item}
+use Rattle.blk_model.specs.Charge.{part_name}
+use Rattle.blk_model.specs.State.{State, Bounds, IsValidState}
+use Rattle.blk_model.specs.Holding.{open_state, rows}
+use Rattle.blk_model.specs.Room.{total, items}
+use Rattle.blk_model.specs.Totals.{row_charge, doomed_charge, is_doomed_slot}
+use Rattle.spec_format.specs.Names.{child_name}
+use Rattle.spec_folder.specs.View.{View, view_of}
+use Rattle.spec_folder.specs.Loads.{listed_rule, Loaded}
+use Rattle.spec_folder.specs.Audit.{kept_by}
+use Rattle.spec_folder.specs.Found.{row_of_loaded, charge_of, found}
+use Rattle.spec_folder.specs.Layout.{Layout, is_listed, Represents}
+
+-- the name of a part in the model is its name in the formats
+abbrev pub PartNamesAreNames : Type 0
+PartNamesAreNames = (key : List ℕ) (signature n : ℕ) → part_name key signature n ≡ child_name key signature n
+
+-- what lies at the node of a listed item is charged what its row is charged
+abbrev pub ItemsAreChargedAsRows : Type 0
+ItemsAreChargedAsRows = (view : View) (state : State) (layout : Layout) → Represents view state layout → (item : Item) (loaded : Loaded) → is_listed state item ≡ true → layout.at (layout.place item) ≡ Some loaded → charge_of loaded ≡ row_charge state (row_of_loaded loaded)
+
+-- so the charges of what is listed are those of the rows
+abbrev pub ListedChargesAreTheRows : Type 0
+ListedChargesAreTheRows = (image : Image) (state : State) (layout : Layout) → Represents (view_of image) state layout → IsValidState state → sum_by charge_of (kept_by listed_rule (view_of image)) ≡ sum_by (row_charge state) (rows state)
+
+-- and with the doomed objects they are the totals
+pub record AreTotals (image : Image) (state : State) : Type 0 where
+  pub bytes : total state ≡ sum_by charge_of (kept_by listed_rule (view_of image)) + sum_by doomed_charge state.objects
+  pub count : items state ≡ length (kept_by listed_rule (view_of image)) + count_by is_doomed_slot state.objects
+
+abbrev pub ListedChargesAreTheTotals : Type 0
+ListedChargesAreTheTotals = (image : Image) (state : State) (layout : Layout) → Represents (view_of image) state layout → IsValidState state → AreTotals image state
+
+-- a state that was just opened has no doomed objects: its totals are the charges, and the number, of what is listed
+pub record AreOpenedTotals (image : Image) (state : State) : Type 0 where
+  pub bytes : total state ≡ sum_by charge_of (kept_by listed_rule (view_of image))
+  pub count : items state ≡ length (kept_by listed_rule (view_of image))
+
+abbrev pub OpenedChargesAreTheTotals : Type 0
+OpenedChargesAreTheTotals = (image : Image) (limits : Bounds) (layout : Layout) → Represents (view_of image) (open_state (found image) limits) layout → IsValidState (open_state (found image) limits) → AreOpenedTotals image (open_state (found image) limits)

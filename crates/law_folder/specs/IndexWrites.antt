@@ -1,0 +1,59 @@
+-- What the write of a word of the index does to what is shown.
+use Rattle.std.specs.Prelude.{◌≡◌, ℕ, ◌<◌, ◌%◌, false, List, [], ◌∷◌}
+use Rattle.spec_image.specs.Image.{Index, Image, word}
+use Rattle.spec_image.specs.Footprint.{SameOutside, one_word}
+use Rattle.spec_format.specs.Headers.{header_length, place_of_bucket, zero_places, heads_place, tails_place, transaction_place, operation_place}
+use Rattle.spec_format.specs.BlockFiles.{is_among, stands_in, IsWellFormed}
+use Rattle.spec_folder.specs.ListView.{ListWrite, Head, Tail, Transaction, Operation, put}
+use Rattle.spec_folder.specs.View.{list_of, store_of, view_of}
+use Rattle.spec_folder.specs.ShownChanges.{OnlyListChanges}
+
+-- one word of the index is this, and all else is as before
+pub record IsIndexWord (at x : ℕ) (from image : Image) : Type 0 where
+  pub there : word image Index at ≡ x
+  pub outside : SameOutside (one_word Index at) from image
+
+-- the head of the use list, the tail, the transaction and the operation are each written as one write into the list
+abbrev pub IsListWord : ℕ → (ℕ → ListWrite) → Type 0
+IsListWord at write = (from image : Image) (x : ℕ) → IsIndexWord at x from image → OnlyListChanges (write x ∷ []) from image
+
+abbrev pub HeadsAreWritten : Type 0
+HeadsAreWritten = IsListWord heads_place Head
+
+abbrev pub TailsAreWritten : Type 0
+TailsAreWritten = IsListWord tails_place Tail
+
+abbrev pub TransactionsAreWritten : Type 0
+TransactionsAreWritten = IsListWord transaction_place Transaction
+
+abbrev pub OperationsAreWritten : Type 0
+OperationsAreWritten = IsListWord operation_place Operation
+
+-- of the words of the index's header these four are shown
+abbrev pub shown_words : List ℕ
+shown_words = heads_place ∷ tails_place ∷ transaction_place ∷ operation_place ∷ []
+
+-- the others are not
+abbrev pub OtherWordsAreNotShown : Type 0
+OtherWordsAreNotShown = (from image : Image) (at : ℕ) → at % 4 ≡ 0 → at < header_length → is_among shown_words at ≡ false → SameOutside (one_word Index at) from image → view_of image ≡ view_of from
+
+-- the word of a bucket is all that changes where it is written
+abbrev pub BucketsAreWritten : Type 0
+BucketsAreWritten = (from image : Image) (bucket x : ℕ) → IsIndexWord (place_of_bucket bucket) x from image
+    → (list_of image ≡ list_of from) × (store_of image ≡ record (store_of from) { table = put (store_of from).table bucket x })
+
+-- the places of the index's words that a check reads
+abbrev pub checked_words : List ℕ
+checked_words = 0 ∷ 4 ∷ 24 ∷ 28 ∷ 36 ∷ zero_places
+
+-- the write of another word keeps a folder well formed
+abbrev pub OtherWordsAreNotChecked : Type 0
+OtherWordsAreNotChecked = (from image : Image) (at : ℕ) → at % 4 ≡ 0 → is_among checked_words at ≡ false → SameOutside (one_word Index at) from image → IsWellFormed from → IsWellFormed image
+
+-- and so does the write of the word of a bucket
+abbrev pub BucketsAreNotChecked : Type 0
+BucketsAreNotChecked = (from image : Image) (bucket : ℕ) → SameOutside (one_word Index (place_of_bucket bucket)) from image → IsWellFormed from → IsWellFormed image
+
+-- no word of the index says what stands
+abbrev pub IndexWordsStandApart : Type 0
+IndexWordsStandApart = (from image : Image) (at : ℕ) → SameOutside (one_word Index at) from image → (u : ℕ) → stands_in image u ≡ stands_in from u

@@ -1,0 +1,37 @@
+-- The laws of items that are used and of items that are new, whatever store shows the same.
+use Rattle.std.specs.Prelude.{◌≡◌, ℕ, List, map, take, true, nat_lt, if◌then◌else◌}
+use Rattle.std.specs.declared.option.Option.{Option}
+use Rattle.blk_model.specs.Items.{Item}
+use Rattle.blk_model.specs.State.{State, Object, IsValidState}
+use Rattle.blk_model.specs.Holding.{rest}
+use Rattle.blk_model.specs.Effects.{used}
+use Rattle.spec_folder.specs.ListView.{after_writes}
+use Rattle.spec_folder.specs.ListPlans.{touch_writes}
+use Rattle.spec_folder.specs.View.{View, StoreView}
+use Rattle.spec_folder.specs.Loads.{held_rule, Loaded}
+use Rattle.spec_folder.specs.Audit.{kept_by}
+use Rattle.spec_folder.specs.Found.{row_of_loaded, completed}
+use Rattle.spec_folder.specs.Layout.{Layout, is_listed, IsLayoutOf, Represents, OneChanged}
+use Rattle.spec_folder.specs.Creation.{with_first, with_item, IsNewItem}
+use Rattle.spec_folder.specs.ShownChanges.{ShowsTheSame}
+
+-- where a store shows the same, the same is represented
+abbrev pub SameStoresRepresent : Type 0
+SameStoresRepresent = (view : View) (state : State) (layout : Layout) → Represents view state layout → (store : StoreView) → ShowsTheSame view.store store → Represents (record view { store = store }) state layout
+
+-- any listed item is touched: what is kept is what is at rest before, and from the second write on what is at rest with the item in front
+abbrev pub TouchedItemsAtEachWrite : Type 0
+TouchedItemsAtEachWrite = (view : View) (state : State) (layout : Layout) → Represents view state layout → IsValidState state → (item : Item) → is_listed state item ≡ true
+    → (store : StoreView) → ShowsTheSame view.store store → (count : ℕ) → map row_of_loaded (kept_by held_rule (completed (record { list = after_writes (take count (touch_writes (layout.place item) view.list)) view.list; store = store })))
+    ≡ (if nat_lt count 2 then rest state else rest (record state { uses = used item state.uses }))
+
+-- and in the end the state with the item in front is represented, and valid
+abbrev pub TouchedItemsEnd : Type 0
+TouchedItemsEnd = (view : View) (state : State) (layout : Layout) → Represents view state layout → IsValidState state → (item : Item) → is_listed state item ≡ true
+    → (store : StoreView) → ShowsTheSame view.store store
+    → Represents (record { list = after_writes (touch_writes (layout.place item) view.list) view.list; store = store }) (record state { uses = used item state.uses }) layout × IsValidState (record state { uses = used item state.uses })
+
+-- what joins the list in front, a main item or a part, is laid out for the state with it
+abbrev pub NewItemsArePlaced : Type 0
+NewItemsArePlaced = (state : State) (objects : List (Option Object)) (layout : Layout) (item : Item) (loaded : Loaded) → IsLayoutOf state layout → OneChanged state objects item → IsNewItem state objects layout item loaded
+    → IsLayoutOf (with_first state objects item) (with_item layout item loaded)

@@ -1,0 +1,36 @@
+-- What the update of a node does to what is shown, at each of its words.
+use Rattle.std.specs.Prelude.{◌≡◌, ℕ, ◌^◌, ◌<◌, ◌==◌, if◌then◌else◌, List, [], ◌∷◌, All, take, true}
+use Rattle.std.specs.declared.option.Option.TheVariants.{Some}
+use Rattle.spec_image.specs.Image.{Image, AreBytes}
+use Rattle.spec_folder.specs.ListView.{Next, Prev}
+use Rattle.spec_folder.specs.View.{NodeFields, list_of, store_of}
+use Rattle.spec_format.specs.Sealed.{AreChanges, IsMidUpdate, seal_place}
+use Rattle.spec_folder.specs.ShownChanges.{OnlyListChanges, OnlyNodeFieldsChange}
+use Rattle.spec_format.specs.Records.{node_next_place, node_prev_place, node_contents_place, node_dirty_place}
+
+-- a node stands and checks, in an image of bytes
+pub record IsNode (image : Image) (w : ℕ) : Type 0 where
+  pub good : (list_of image).checks w ≡ true
+  pub bytes : AreBytes image
+
+-- its next is written as one write into the list
+abbrev pub NextsAreWritten : Type 0
+NextsAreWritten = (from image : Image) (w x : ℕ) → IsNode from w → x < 2 ^ 32 → (moment : IsMidUpdate from w ((node_next_place, x) ∷ []) image) → OnlyListChanges (take moment.made (Next w x ∷ [])) from image
+
+-- and so is its prev
+abbrev pub PrevsAreWritten : Type 0
+PrevsAreWritten = (from image : Image) (w x : ℕ) → IsNode from w → x < 2 ^ 32 → (moment : IsMidUpdate from w ((node_prev_place, x) ∷ []) image) → OnlyListChanges (take moment.made (Prev w x ∷ [])) from image
+
+-- its times, before the place of next, are not shown
+abbrev pub TimesAreNotShown : Type 0
+TimesAreNotShown = (from image : Image) (w : ℕ) (changes : List (ℕ × ℕ)) → IsNode from w → AreChanges (seal_place w) changes → All (λ change. change.0 < node_next_place) changes → IsMidUpdate from w changes image → OnlyListChanges [] from image
+
+-- its contents are all that changes of what it says
+abbrev pub ContentsAreWritten : Type 0
+ContentsAreWritten = (from image : Image) (w x : ℕ) → IsNode from w → x < 2 ^ 32 → (moment : IsMidUpdate from w ((node_contents_place, x) ∷ []) image) → (node_fields : NodeFields) → (store_of from).node_fields w ≡ Some node_fields
+    → OnlyNodeFieldsChange w from image × ((store_of image).node_fields w ≡ Some (if moment.made == 0 then node_fields else record node_fields { contents = x }))
+
+-- and so is its dirty word
+abbrev pub DirtyWordsAreWritten : Type 0
+DirtyWordsAreWritten = (from image : Image) (w x : ℕ) → IsNode from w → x < 2 ^ 32 → (moment : IsMidUpdate from w ((node_dirty_place, x) ∷ []) image) → (node_fields : NodeFields) → (store_of from).node_fields w ≡ Some node_fields
+    → OnlyNodeFieldsChange w from image × ((store_of image).node_fields w ≡ Some (if moment.made == 0 then node_fields else record node_fields { dirty = x }))

@@ -1,0 +1,26 @@
+-- The laws of folders that have a state: maps, counters, lengths and seals beside what is shown.
+use Rattle.std.specs.Prelude.{◌≡◌, ℕ, List, true}
+use Rattle.spec_image.specs.Image.{Image}
+use Rattle.spec_image.specs.Steps.{after}
+use Rattle.spec_image.specs.Footprint.{Footprint, SameOutside}
+use Rattle.spec_format.specs.BlockFiles.{IsWellFormed}
+use Rattle.blk_model.specs.Items.{Item}
+use Rattle.blk_model.specs.State.{State}
+use Rattle.blk_model.specs.Effects.{used}
+use Rattle.spec_folder.specs.Layout.{Layout, is_listed}
+use Rattle.spec_folder.specs.ListImages.{IsWritable, steps_of_touch}
+use Rattle.spec_folder.specs.StandsFor.{StandsFor}
+use Rattle.spec_folder.specs.Tidy.{HasState, IsBehindHeaders, FilesStand}
+
+-- a change behind the headers leaves the files as they stand
+abbrev pub FilesStandBehindHeaders : Type 0
+FilesStandBehindHeaders = (footprint : Footprint) (from image : Image) → IsBehindHeaders footprint → SameOutside footprint from image → IsWellFormed from → FilesStand from image
+
+-- an image that has a state stands for it
+abbrev pub StatesAreStoodFor : Type 0
+StatesAreStoodFor = (image : Image) (state : State) (layout : Layout) (numbers : List ℕ) → HasState state layout numbers image → StandsFor image state
+
+-- a touch of any listed item leaves the state with the item in front
+abbrev pub TouchesKeepStates : Type 0
+TouchesKeepStates = (from : Image) (state : State) (layout : Layout) (numbers : List ℕ) → HasState state layout numbers from → IsWritable from → (item : Item) (moment : ℕ) → is_listed state item ≡ true
+    → HasState (record state { uses = used item state.uses }) layout numbers (after (steps_of_touch (layout.place item) moment from) from)

@@ -1,0 +1,126 @@
+-- The steps by which the chains are repaired, and what is held at each of their words.
+use Rattle.std.specs.declared.result.Result.TheVariants.{Ok}
+use Rattle.std.specs.declared.option.Option.TheVariants.{Some}
+use Rattle.std.specs.Prelude.{◌≤◌, true, ◌≡◌, ℕ, zero, suc, ◌+◌, ◌<◌, ◌==◌, if◌then◌else◌, List, [], ◌∷◌, ◌++◌, Bool, map}
+use Rattle.std.specs.List.{list_any, filter}
+use Rattle.spec_image.specs.Image.{Index, Image}
+use Rattle.spec_image.specs.Steps.{TrailStep, word_step, after}
+use Rattle.spec_image.specs.Told.{Along}
+use Rattle.spec_format.specs.Records.{entry_next_place}
+use Rattle.spec_format.specs.Headers.{table_length, place_of_bucket}
+use Rattle.spec_format.specs.BlockFiles.{is_among, stands_in, IsWellFormed}
+use Rattle.spec_format.specs.Address.{kind_of, rankings, blocks_256}
+use Rattle.spec_format.specs.Sealed.{RecordChecks, sealed_steps}
+use Rattle.spec_folder.specs.ListView.{first_or}
+use Rattle.spec_folder.specs.View.{list_of, store_of}
+use Rattle.spec_folder.specs.Chains.{chain, IsChain}
+use Rattle.spec_folder.specs.Loads.{held_rule, Loaded, load}
+use Rattle.spec_folder.specs.Found.{kept}
+use Rattle.spec_folder.specs.ListImages.{IsWritable, walked}
+use Rattle.spec_folder.specs.Audit.{kept_nodes, kept_as}
+use Rattle.spec_folder.specs.ShownChanges.{ShowsTheSame}
+use Rattle.law_recovery.specs.RecordSeals.{KeepsRecordsSealed}
+use Rattle.law_recovery.specs.ListRepair.{HoldsTheSame}
+
+-- a word names the record of a kept node
+abbrev pub is_kept_record : List Loaded → ℕ → Bool
+is_kept_record kept w = list_any (λ k. k.contents == w) kept
+
+-- the kept records of a bucket, in the order of its chain
+unfoldable pub kept_records : Image → ℕ → List ℕ
+kept_records image bucket = filter (is_kept_record (kept image)) (chain (store_of image) bucket).reached
+
+-- the word of a bucket becomes this one, unless it is
+abbrev pub bucket_steps : ℕ → ℕ → Image → List TrailStep
+bucket_steps bucket w image = if (store_of image).table bucket == w then [] else word_step Index (place_of_bucket bucket) w
+
+-- the next of a record becomes this word by a sealed update, unless it is
+abbrev pub next_steps : ℕ → ℕ → Image → List TrailStep
+next_steps record_word w image = if (store_of image).chain_next record_word == w then [] else sealed_steps image record_word ((entry_next_place, w) ∷ [])
+
+-- each of some records gets the one behind it as its next, and the last gets 0
+abbrev pub next_words_steps : List ℕ → Image → List TrailStep
+next_words_steps [] image = []
+next_words_steps (w ∷ words) image = next_steps w (first_or 0 words) image ++ next_words_steps words (after (next_steps w (first_or 0 words) image) image)
+
+-- a bucket is made the chain of some records, from the front
+abbrev pub chain_steps : ℕ → List ℕ → Image → List TrailStep
+chain_steps bucket words image = bucket_steps bucket (first_or 0 words) image ++ next_words_steps words (after (bucket_steps bucket (first_or 0 words) image) image)
+
+-- and so is each of so many buckets from one on, in rising order
+abbrev pub chains_steps : (ℕ → List ℕ) → (bucket count : ℕ) → Image → List TrailStep
+chains_steps records bucket zero image = []
+chains_steps records bucket (suc count) image = chain_steps bucket (records bucket) image ++ chains_steps records (bucket + 1) count (after (chain_steps bucket (records bucket) image) image)
+
+-- each bucket, in rising order, is made the chain of its kept records, in the order of the chain
+unfoldable pub chain_repair_steps : Image → List TrailStep
+chain_repair_steps image = chains_steps (kept_records image) 0 table_length image
+
+-- no operation is in flight, and all walked nodes are kept
+pub record KeepsAllWalked (image : Image) : Type 0 where
+  pub idle : (list_of image).transaction ≡ 0
+  pub all_kept : kept_nodes (store_of image) held_rule (walked image) ≡ walked image
+
+-- each chain is that of the kept records of its bucket, and ends at the word 0; the list is as before, and what was sealed is so still
+pub record AreChainsMended (from image : Image) : Type 0 where
+  pub list : list_of image ≡ list_of from
+  pub seals : KeepsRecordsSealed from image
+  pub chains : (bucket : ℕ) → bucket < table_length → IsChain (store_of image) bucket (kept_records from bucket)
+
+-- at each word of the repair of the chains the same is held; in the end they are repaired
+abbrev pub ChainsAreRepaired : Type 0
+ChainsAreRepaired = (image : Image) → IsWellFormed image → IsWritable image → KeepsAllWalked image → Along (HoldsTheSame image) image (chain_repair_steps image) × AreChainsMended image (after (chain_repair_steps image) image)
+
+-- The buckets, one after the other.
+
+-- the chains of the buckets below one are those of their kept records, and the others are as they were; the list is as it was, what was sealed is so still, and each kept node loads as it did
+pub record HasChainsUpTo (from : Image) (bucket : ℕ) (image : Image) : Type 0 where
+  pub holds : HoldsTheSame from image
+  pub list : list_of image ≡ list_of from
+  pub seals : KeepsRecordsSealed from image
+  pub loads : (node : ℕ) (loaded : Loaded) → is_among (walked from) node ≡ true → kept_as (store_of from) held_rule (walked from) node ≡ Some loaded → load (store_of image) held_rule node ≡ Ok loaded
+  pub mended : (other : ℕ) → other < bucket → IsChain (store_of image) other (kept_records from other)
+  pub as_before : (other : ℕ) → bucket ≤ other → chain (store_of image) other ≡ chain (store_of from) other
+
+-- at first none is mended
+abbrev pub ChainsBegin : Type 0
+ChainsBegin = (image : Image) → IsWellFormed image → IsWritable image → KeepsAllWalked image → HasChainsUpTo image 0 image
+
+-- a bucket is made the chain of its kept records, and the same is held at each word of that
+abbrev pub BucketsAreMended : Type 0
+BucketsAreMended = (from image : Image) (bucket : ℕ) → IsWellFormed from → KeepsAllWalked from → bucket < table_length → HasChainsUpTo from bucket image
+    → Along (HoldsTheSame from) image (chain_steps bucket (kept_records from bucket) image) × HasChainsUpTo from (bucket + 1) (after (chain_steps bucket (kept_records from bucket) image) image)
+
+-- a bucket that is the chain of these records already needs no step
+abbrev pub WholeChainsNeedNoSteps : Type 0
+WholeChainsNeedNoSteps = (image : Image) (bucket : ℕ) (words : List ℕ) → IsChain (store_of image) bucket words → chain_steps bucket words image ≡ []
+
+-- in the end all are mended
+abbrev pub ChainRepairsEnd : Type 0
+ChainRepairsEnd = (from image : Image) → HasChainsUpTo from table_length image → AreChainsMended from image
+
+-- What the repair of the list leaves of the chains.
+
+-- where the same is kept, and nothing else is shown to change, each bucket has the same kept records
+abbrev pub KeptRecordsStay : Type 0
+KeptRecordsStay = (from image : Image) → HoldsTheSame from image → ShowsTheSame (store_of from) (store_of image) → (bucket : ℕ) → kept_records image bucket ≡ kept_records from bucket
+
+-- and a whole chain stays one
+abbrev pub WholeChainsStay : Type 0
+WholeChainsStay = (from image : Image) → ShowsTheSame (store_of from) (store_of image) → (bucket : ℕ) (words : List ℕ) → IsChain (store_of from) bucket words → IsChain (store_of image) bucket words
+
+-- What is kept can be written.
+
+-- a record of a kind stands and checks
+pub record IsStandingRecord (kind : ℕ) (image : Image) (w : ℕ) : Type 0 where
+  pub stands : stands_in image w ≡ true
+  pub kind_is : kind_of w ≡ kind
+  pub checks : RecordChecks w image
+
+-- the node of what is kept stands and checks
+abbrev pub KeptNodesCheck : Type 0
+KeptNodesCheck = (image : Image) → IsWritable image → (node : ℕ) → is_among (map (λ k. k.node) (kept image)) node ≡ true → IsStandingRecord rankings image node
+
+-- and so does its record
+abbrev pub KeptRecordsCheck : Type 0
+KeptRecordsCheck = (image : Image) → IsWritable image → (w : ℕ) → is_kept_record (kept image) w ≡ true → IsStandingRecord blocks_256 image w

@@ -1,0 +1,56 @@
+-- Folders in which nothing is left to repair: they stand for what they hold, opened.
+use Rattle.std.specs.Prelude.{◌≡◌, ◌%◌, ◌^◌, ℕ, true, length, is_some}
+use Rattle.std.specs.List.{AllByRecursion, flat_map, sum_by}
+use Rattle.spec_image.specs.Image.{Index, Image, AreBytes, byte}
+use Rattle.blk_model.specs.State.{Bounds}
+use Rattle.blk_model.specs.Holding.{open_state}
+use Rattle.spec_format.specs.Headers.{sizes_of, num_entries_of, num_bytes_of}
+use Rattle.spec_format.specs.BlockFiles.{linked_as}
+use Rattle.spec_folder.specs.Loads.{claims_of_loaded}
+use Rattle.spec_folder.specs.Found.{charge_of, kept, found}
+use Rattle.spec_folder.specs.Sound.{MapsAre, OnlyClaimed, OnlyLinked, AreLongEnough, words_of, CountersAgree, AreSealed, IsSound}
+use Rattle.spec_folder.specs.StandsFor.{StandsFor}
+use Rattle.law_recovery.specs.MendedLinks.{HasMendedLinks}
+
+-- What repair mends behind the links, part by part.
+
+-- the map and the counters of each linked block file are those of what is kept, no change of them is under way, and the file has all its blocks
+pub record HasMendedFiles (image : Image) : Type 0 where
+  pub maps : MapsAre image (claims_of_loaded (kept image))
+  pub counted : (n : ℕ) → is_some (linked_as image n) ≡ true → CountersAgree image (flat_map words_of (kept image)) n
+  pub long_enough : AreLongEnough image
+
+-- the block files that are there are linked, and the external files that are there are claimed by what is kept
+pub record HasOnlyKeptFiles (image : Image) : Type 0 where
+  pub only_linked : OnlyLinked image
+  pub only_claimed : OnlyClaimed image (claims_of_loaded (kept image))
+
+-- the nodes and the records of what is kept have their hash as their seal
+abbrev pub AreKeptSealed : Image → Type 0
+AreKeptSealed image = AllByRecursion (AreSealed image) (kept image)
+
+-- the counters of the index count what is kept
+pub record HasMendedCounters (image : Image) : Type 0 where
+  pub sizes : sizes_of (byte image Index) 0 ≡ length (kept image)
+  pub num_entries : num_entries_of (byte image Index) ≡ length (kept image)
+  pub num_bytes : num_bytes_of (byte image Index) ≡ sum_by charge_of (kept image) % 2 ^ 32
+
+-- all of it, and the links
+pub record IsMended (image : Image) : Type 0 where
+  pub links : HasMendedLinks image
+  pub files : HasMendedFiles image
+  pub only : HasOnlyKeptFiles image
+  pub sealed : AreKeptSealed image
+  pub counters : HasMendedCounters image
+
+-- then the folder stands for what it holds, opened
+abbrev pub MendedFoldersStandFor : Type 0
+MendedFoldersStandFor = (image : Image) (limits : Bounds) → IsMended image → AreBytes image → StandsFor image (open_state (found image) limits)
+
+-- and is sound
+abbrev pub MendedFoldersAreSound : Type 0
+MendedFoldersAreSound = (image : Image) → IsMended image → AreBytes image → IsSound image
+
+-- a sound folder is mended already
+abbrev pub SoundFoldersAreMended : Type 0
+SoundFoldersAreMended = (image : Image) → IsSound image → IsMended image

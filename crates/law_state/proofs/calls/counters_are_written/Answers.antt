@@ -1,0 +1,5 @@
+use Rattle.law_state.proofs.Counters.{counter-keeps, counters-count}
+use Rattle.law_state.proofs.calls.counters_are_written.Goals as goal
+
+pub returns : goal.returns
+returns c = record { each = counter-keeps; counted = counters-count }

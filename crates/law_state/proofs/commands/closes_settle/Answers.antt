@@ -1,0 +1,5 @@
+use Rattle.law_state.proofs.CommandEnding.{closes-doomed, closes-free, closes-left, closes-settle}
+use Rattle.law_state.proofs.commands.closes_settle.Goals as goal
+
+pub returns : goal.returns
+returns c = record { several = closes-free; ends = closes-settle; leaves = closes-left; doomed = closes-doomed }

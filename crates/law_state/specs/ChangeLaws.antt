@@ -1,0 +1,73 @@
+-- What each kind of call does to a folder that keeps a state.
+use Rattle.std.specs.Prelude.{◌≡◌, ◌≢◌, ℕ, ◌+◌, ◌<◌, ◌≤◌, ◌%◌, List, [], ◌∷◌, Bool, true, false}
+use Rattle.blk_model.specs.State.{State}
+use Rattle.spec_image.specs.Image.{Index, Block, External, Image, has_file}
+use Rattle.spec_image.specs.Footprint.{SameOutside, one_word, range, whole}
+use Rattle.spec_format.specs.Address.{byte_size, external, file_selector, kind_of, place}
+use Rattle.spec_format.specs.BlockFiles.{is_among, stands_in, IsWellFormed}
+use Rattle.spec_format.specs.Claims.{Claim, ExternalOf, claims_of, has_claim, same_claim}
+use Rattle.spec_format.specs.Growth.{HaveGrown}
+use Rattle.spec_format.specs.Headers.{header_length}
+use Rattle.spec_folder.specs.Layout.{Layout}
+use Rattle.law_folder.specs.IndexWrites.{checked_words, shown_words}
+use Rattle.law_state.specs.Keeping.{Keeps, KeepsUncounted}
+use Rattle.law_state.specs.Changes.{AddsAllocation, AddsExternal, AreOfWords, ChangesOnly, KeepsWith, RemovesAllocation, RemovesExternal, SameCounters, StillFinds}
+
+-- Any call.
+
+-- where a state is kept at a moment, what is at rest in it is found
+abbrev pub WhatIsKeptIsFound : Type 0
+WhatIsKeptIsFound = (before after : List ℕ) (from image : Image) → KeepsWith before after from image → StillFinds before from image
+
+-- where a call leaves the counters of the index, and they counted the items, they count them still
+abbrev pub SameCountersCountTheSame : Type 0
+SameCountersCountTheSame = (state : State) (layout : Layout) (before after : List ℕ) (from image : Image) → Keeps state layout before from → KeepsUncounted state layout after image → SameCounters from image → Keeps state layout after image
+
+-- Writes into unlinked places.
+
+-- a change of what unlinked words name keeps the state, with the same words unlinked
+abbrev pub UnlinkedPlacesMayChange : Type 0
+UnlinkedPlacesMayChange = (touched : Claim → Bool) (words : List ℕ) (from image : Image) → AreOfWords touched words → ChangesOnly touched from image → KeepsWith words words from image
+
+-- the bytes of the blocks of a standing address are such a change
+abbrev pub BlockWritesChangeOnly : Type 0
+BlockWritesChangeOnly = (from image : Image) (w at n : ℕ) → stands_in from w ≡ true → kind_of w ≢ external → place w ≤ at → at + n ≤ place w + byte_size w → SameOutside (range (Block (file_selector w)) at n) from image → ChangesOnly (has_claim (claims_of w)) from image
+
+-- and so are an external file's bytes and its length
+abbrev pub ExternalWritesChangeOnly : Type 0
+ExternalWritesChangeOnly = (from image : Image) (n : ℕ) → SameOutside (whole (External n)) from image → has_file image (External n) ≡ has_file from (External n) → ChangesOnly (λ claim. same_claim claim (ExternalOf n)) from image
+
+-- Words of the index.
+
+-- the words of the session, and the counters
+abbrev pub kept_words : List ℕ
+kept_words = 20 ∷ 32 ∷ []
+
+-- a word of the index's header that is neither shown nor checked, and not of the session, changes nothing that is kept
+abbrev pub OtherWordsChangeOnly : Type 0
+OtherWordsChangeOnly = (from image : Image) (at : ℕ) → at % 4 ≡ 0 → at < header_length → is_among shown_words at ≡ false → is_among checked_words at ≡ false → is_among kept_words at ≡ false
+    → SameOutside (one_word Index at) from image → ChangesOnly (λ claim. false) from image
+
+-- Growth.
+
+-- while block files grow or are added, their maps and counters change, in a folder that stays well formed, what is at rest is found
+abbrev pub GrowthFindsTheSame : Type 0
+GrowthFindsTheSame = (words : List ℕ) (from image : Image) → HaveGrown from image → (IsWellFormed from → IsWellFormed image) → StillFinds words from image
+
+-- Allocations.
+
+-- blocks that are allocated are unlinked
+abbrev pub AllocatedBlocksAreUnlinked : Type 0
+AllocatedBlocksAreUnlinked = (w : ℕ) (from image : Image) → AddsAllocation from w image → KeepsWith [] (w ∷ []) from image
+
+-- and unlinked blocks that are freed are in use no longer
+abbrev pub FreedBlocksAreGone : Type 0
+FreedBlocksAreGone = (w : ℕ) (from image : Image) → RemovesAllocation from w image → KeepsWith (w ∷ []) [] from image
+
+-- an external file that is made is unlinked
+abbrev pub MadeFilesAreUnlinked : Type 0
+MadeFilesAreUnlinked = (w : ℕ) (from image : Image) → AddsExternal from w image → KeepsWith [] (w ∷ []) from image
+
+-- and an unlinked one that is deleted is in use no longer
+abbrev pub DeletedFilesAreGone : Type 0
+DeletedFilesAreGone = (w : ℕ) (from image : Image) → RemovesExternal from w image → KeepsWith (w ∷ []) [] from image

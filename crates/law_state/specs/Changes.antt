@@ -1,0 +1,127 @@
+-- What a call does to a folder that keeps a state: how calls are composed, and changes that leave all but some blocks and external files.
+use Rattle.std.specs.Prelude.{◌^◌, ◌==◌, filter, not, ◌≢◌, ◌≤◌, [], ◌∷◌, false, is_some, ◌≡◌, ℕ, ◌<◌, List, ◌++◌, Bool, true}
+use Rattle.blk_model.specs.Items.{Row}
+use Rattle.blk_model.specs.State.{State}
+use Rattle.blk_model.specs.Holding.{rest}
+use Rattle.spec_image.specs.Image.{Index, Block, External, File, Image, byte, has_file, length_of}
+use Rattle.spec_format.specs.Address.{block_place, external, external_number, file_selector, header_size, kind_of}
+use Rattle.spec_format.specs.Growth.{HaveGrown}
+use Rattle.spec_format.specs.Maps.{AreAllocations, EmptyAgrees}
+use Rattle.spec_format.specs.BlockFiles.{is_among, linked_as, max_entries_in, stands_in, IsWellFormed}
+use Rattle.spec_format.specs.Claims.{Claim, ExternalOf, claims_of_all, has_claim, same_claim}
+use Rattle.spec_format.specs.Headers.{crash_of, num_bytes_of, num_entries_of, sizes_of, this_id_of, updating_of}
+use Rattle.spec_folder.specs.Found.{found}
+use Rattle.spec_folder.specs.Footprint.{AgreeBut}
+use Rattle.spec_folder.specs.Layout.{Layout}
+use Rattle.law_state.specs.Keeping.{IsMapped, KeepsUncounted}
+
+-- How calls are composed.
+
+-- a well-formed folder holds these rows
+abbrev pub Finds : List Row → Image → Type 0
+Finds rows image = IsWellFormed image × (found image ≡ rows)
+
+-- at a moment of a call: whatever state was kept with these words unlinked, what is found is what is at rest in it
+abbrev pub StillFinds : List ℕ → Image → Image → Type 0
+StillFinds words from image = (state : State) (layout : Layout) (unlinked : List ℕ) → KeepsUncounted state layout (words ++ unlinked) from → Finds (rest state) image
+
+-- at the end of a call: whatever state was kept with some words unlinked is kept with others in their place
+abbrev pub KeepsWith : (before after : List ℕ) → Image → Image → Type 0
+KeepsWith before after from image = (state : State) (layout : Layout) (unlinked : List ℕ) → KeepsUncounted state layout (before ++ unlinked) from → KeepsUncounted state layout (after ++ unlinked) image
+
+-- What stays.
+
+-- the headers of the block files and their lengths are as before, and the same files are there
+pub record SameHeaders (from image : Image) : Type 0 where
+  pub headers : (n i : ℕ) → i < header_size → byte image (Block n) i ≡ byte from (Block n) i
+  pub lengths : (n : ℕ) → length_of image (Block n) ≡ length_of from (Block n)
+  pub files : (file : File) → has_file image file ≡ has_file from file
+
+-- the crash word and the number of the session are as before
+pub record SameSession (from image : Image) : Type 0 where
+  pub crash : crash_of (byte image Index) ≡ crash_of (byte from Index)
+  pub id : this_id_of (byte image Index) ≡ this_id_of (byte from Index)
+
+-- the counters of the index are as before
+pub record SameCounters (from image : Image) : Type 0 where
+  pub sizes : sizes_of (byte image Index) 0 ≡ sizes_of (byte from Index) 0
+  pub num_entries : num_entries_of (byte image Index) ≡ num_entries_of (byte from Index)
+  pub num_bytes : num_bytes_of (byte image Index) ≡ num_bytes_of (byte from Index)
+
+-- nothing but some blocks and external files changes of what is shown, and nothing of headers, lengths and the session
+pub record ChangesOnly (touched : Claim → Bool) (from image : Image) : Type 0 where
+  pub agree : AgreeBut touched from image
+  pub headers : SameHeaders from image
+  pub session : SameSession from image
+  pub well_formed : IsWellFormed from → IsWellFormed image
+
+-- the blocks and external files are among those of some words
+abbrev pub AreOfWords : (Claim → Bool) → List ℕ → Type 0
+AreOfWords touched words = (claim : Claim) → touched claim ≡ true → has_claim (claims_of_all words) claim ≡ true
+
+-- Allocations.
+
+-- a block file is linked as before, or isn't, and has its length and its blocks
+pub record SameExtent (from image : Image) (n : ℕ) : Type 0 where
+  pub linked : linked_as image n ≡ linked_as from n
+  pub there : has_file image (Block n) ≡ has_file from (Block n)
+  pub length : length_of image (Block n) ≡ length_of from (Block n)
+  pub blocks : max_entries_in image n ≡ max_entries_in from n
+
+-- and it has its allocations
+pub record StaysLinked (from image : Image) (n : ℕ) : Type 0 where
+  pub extent : SameExtent from image n
+  pub mapped : (words : List ℕ) → is_some (linked_as from n) ≡ true → IsMapped from words n → IsMapped image words n
+
+-- the blocks of a word are allocated: its file has one allocation more, or is a new one with this alone, and has all its blocks; block files have grown at most, and each other file stays
+pub record AddsAllocation (from : Image) (w : ℕ) (image : Image) : Type 0 where
+  pub block_kind : kind_of w ≢ external
+  pub grown : HaveGrown from image
+  pub well_formed : IsWellFormed from → IsWellFormed image
+  pub session : SameSession from image
+  pub allocations : is_some (linked_as from (file_selector w)) ≡ true → (words : List ℕ) → AreAllocations from (file_selector w) words → AreAllocations image (file_selector w) (w ∷ words)
+  pub fresh : is_some (linked_as from (file_selector w)) ≡ false → AreAllocations image (file_selector w) (w ∷ [])
+  pub empty : EmptyAgrees image (file_selector w)
+  pub updating : updating_of (byte image (Block (file_selector w))) ≡ 0
+  pub there : has_file image (Block (file_selector w)) ≡ true
+  pub long_enough : block_place (kind_of w) (max_entries_in image (file_selector w)) ≤ length_of image (Block (file_selector w))
+  pub elsewhere : (n : ℕ) → n ≢ file_selector w → StaysLinked from image n
+
+-- the blocks of a word are freed: its file has all allocations but this one, and each other file stays; block files have grown at most, and are linked as before
+pub record RemovesAllocation (from : Image) (w : ℕ) (image : Image) : Type 0 where
+  pub block_kind : kind_of w ≢ external
+  pub grown : HaveGrown from image
+  pub well_formed : IsWellFormed from → IsWellFormed image
+  pub session : SameSession from image
+  pub extent : SameExtent from image (file_selector w)
+  pub allocations : (words : List ℕ) → AreAllocations from (file_selector w) words → is_among words w ≡ true → AreAllocations image (file_selector w) (filter (λ x. not (x == w)) words)
+  pub empty : EmptyAgrees from (file_selector w) → EmptyAgrees image (file_selector w)
+  pub updating : updating_of (byte image (Block (file_selector w))) ≡ 0
+  pub elsewhere : (n : ℕ) → n ≢ file_selector w → StaysLinked from image n
+
+-- External files.
+
+-- the external file of a word is made: it wasn't there, and is there now, and no other file and no block comes or goes
+pub record AddsExternal (from : Image) (w : ℕ) (image : Image) : Type 0 where
+  pub some : (w == 0) ≡ false
+  pub external_kind : (kind_of w == external) ≡ true
+  pub small : external_number w < 2 ^ 32
+  pub stands : stands_in image w ≡ true
+  pub absent : has_file from (External (external_number w)) ≡ false
+  pub there : has_file image (External (external_number w)) ≡ true
+  pub others : (m : ℕ) → m ≢ external_number w → has_file image (External m) ≡ has_file from (External m)
+  pub agree : AgreeBut (λ claim. same_claim claim (ExternalOf (external_number w))) from image
+  pub well_formed : IsWellFormed from → IsWellFormed image
+  pub session : SameSession from image
+  pub blocks : (n : ℕ) → StaysLinked from image n
+
+-- the external file of a word is deleted, and no other file and no block comes or goes
+pub record RemovesExternal (from : Image) (w : ℕ) (image : Image) : Type 0 where
+  pub some : (w == 0) ≡ false
+  pub external_kind : (kind_of w == external) ≡ true
+  pub gone : has_file image (External (external_number w)) ≡ false
+  pub others : (m : ℕ) → m ≢ external_number w → has_file image (External m) ≡ has_file from (External m)
+  pub agree : AgreeBut (λ claim. same_claim claim (ExternalOf (external_number w))) from image
+  pub well_formed : IsWellFormed from → IsWellFormed image
+  pub session : SameSession from image
+  pub blocks : (n : ℕ) → StaysLinked from image n

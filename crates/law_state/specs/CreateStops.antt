@@ -1,0 +1,48 @@
+-- A Create, once all that it evicts is out and its entry is written: where it may be stopped, and what is kept in the end.
+use Rattle.std.specs.Prelude.{◌≡◌, ◌++◌, ℕ, List, None, length}
+use Rattle.spec_image.specs.Image.{Image}
+use Rattle.law_folder.specs.IndexWrites.{IsIndexWord}
+use Rattle.blk_model.specs.Refusals.{refused}
+use Rattle.blk_model.specs.Request.{IsRequest, to_create}
+use Rattle.blk_model.specs.State.{IsValidState, State}
+use Rattle.blk_model.specs.Step.{step}
+use Rattle.spec_folder.specs.Completion.{insert}
+use Rattle.spec_folder.specs.Creation.{with_new}
+use Rattle.spec_folder.specs.Layout.{Layout}
+use Rattle.spec_folder.specs.ListPlans.{writes_of}
+use Rattle.spec_folder.specs.ListSteps.{IsPartly}
+use Rattle.spec_folder.specs.Loads.{Loaded}
+use Rattle.spec_folder.specs.Sound.{words_of}
+use Rattle.spec_folder.specs.View.{list_of}
+use Rattle.law_state.specs.Commands.{MayStop}
+use Rattle.law_state.specs.CommandStates.{with_room}
+use Rattle.law_state.specs.CounterLaws.{counted_bytes}
+use Rattle.law_state.specs.Keeping.{Keeps, KeepsUncounted}
+use Rattle.law_state.specs.NewEntryLaws.{IsInsertDone, HasRecordInFront, IsNewEntryOf}
+
+-- a Create that isn't refused, of a state that is valid, in a folder that keeps what it doesn't evict, with the words of its entry unlinked, and the entry is written
+pub record IsCreating (state : State) (moment handle : ℕ) (key : List ℕ) (layout : Layout) (unlinked : List ℕ) (loaded : Loaded) (from : Image) : Type 0 where
+  pub valid : IsValidState state
+  pub can : IsRequest (to_create handle key)
+  pub passes : refused moment (to_create handle key) state ≡ None
+  pub kept : KeepsUncounted (with_room state moment (to_create handle key)) layout (words_of loaded ++ unlinked) from
+  pub entry : IsNewEntryOf (with_room state moment (to_create handle key)) layout key loaded from
+
+-- at each word of the insert of its node it may be stopped
+abbrev pub InsertsMayStop : Type 0
+InsertsMayStop = (state : State) (moment handle : ℕ) (key : List ℕ) (layout : Layout) (unlinked : List ℕ) (loaded : Loaded) (from image : Image) → IsCreating state moment handle key layout unlinked loaded from
+    → IsPartly from (writes_of insert loaded.node (list_of from)) image → MayStop state moment (to_create handle key) image
+
+-- and where its record is linked after that
+abbrev pub LinksMayStop : Type 0
+LinksMayStop = (state : State) (moment handle : ℕ) (key : List ℕ) (layout : Layout) (unlinked : List ℕ) (loaded : Loaded) (from between image : Image) → IsCreating state moment handle key layout unlinked loaded from
+    → IsInsertDone from loaded.node between → HasRecordInFront between loaded.contents image → MayStop state moment (to_create handle key) image
+
+-- once the three counters are written too, the state after it is kept
+abbrev pub CreatesEndOnceCounted : Type 0
+CreatesEndOnceCounted = (state : State) (moment handle : ℕ) (key : List ℕ) (layout : Layout) (unlinked : List ℕ) (loaded : Loaded) (from between linked first second image : Image) → IsCreating state moment handle key layout unlinked loaded from
+    → IsInsertDone from loaded.node between → HasRecordInFront between loaded.contents linked
+    → IsIndexWord 8 (length (step state moment (to_create handle key)).state.uses) linked first
+    → IsIndexWord 12 (counted_bytes (step state moment (to_create handle key)).state (with_new layout key loaded)) first second
+    → IsIndexWord 268 (length (step state moment (to_create handle key)).state.uses) second image
+    → Keeps (step state moment (to_create handle key)).state (with_new layout key loaded) unlinked image

@@ -1,0 +1,23 @@
+-- What the steps of the use list's operations leave is what is asked of them when they are done: so each may be done in every folder of bytes.
+use Rattle.std.specs.Prelude.{ℕ, List, ◌∷◌, ◌++◌}
+use Rattle.spec_image.specs.Image.{Image}
+use Rattle.spec_image.specs.Steps.{after}
+use Rattle.spec_folder.specs.Completion.{insert, remove}
+use Rattle.spec_folder.specs.ListImages.{HasListAtRest, IsWritable, operation_steps, steps_of_touch, walked}
+use Rattle.spec_folder.specs.ListView.{CanBeInserted}
+use Rattle.spec_folder.specs.View.{list_of}
+use Rattle.law_state.specs.ListLaws.{IsTouchDone}
+use Rattle.law_state.specs.NewEntryLaws.{IsInsertDone}
+use Rattle.law_state.specs.RemovalLaws.{IsRemovalDone}
+
+-- a touch
+abbrev pub TouchStepsAreDone : Type 0
+TouchStepsAreDone = (image : Image) (node moment : ℕ) (prefix suffix : List ℕ) → IsWritable image → HasListAtRest (prefix ++ node ∷ suffix) image → IsTouchDone image node (after (steps_of_touch node moment image) image)
+
+-- an insert
+abbrev pub InsertStepsAreDone : Type 0
+InsertStepsAreDone = (image : Image) (node : ℕ) → IsWritable image → CanBeInserted (list_of image) (walked image) node → IsInsertDone image node (after (operation_steps insert node image) image)
+
+-- a removal
+abbrev pub RemovalStepsAreDone : Type 0
+RemovalStepsAreDone = (image : Image) (node : ℕ) (prefix suffix : List ℕ) → IsWritable image → HasListAtRest (prefix ++ node ∷ suffix) image → IsRemovalDone image node (after (operation_steps remove node image) image)

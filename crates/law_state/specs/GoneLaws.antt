@@ -1,0 +1,33 @@
+-- A doomed object is gone: its words are unlinked then, and nothing is written for that.
+use Rattle.std.specs.Prelude.{ℕ, List, ◌++◌, if◌then◌else◌}
+use Rattle.std.specs.declared.option.Option.{Option}
+use Rattle.std.specs.declared.option.Option.TheVariants.{None}
+use Rattle.blk_model.specs.Effects.{with_slot}
+use Rattle.blk_model.specs.State.{State, Object, IsValidState}
+use Rattle.spec_image.specs.Image.{Image}
+use Rattle.spec_format.specs.Claims.{Claim}
+use Rattle.law_folder.specs.CommandLaws.{IsPlacedAsDoomed}
+use Rattle.spec_folder.specs.Layout.{Layout, emptied_at}
+use Rattle.spec_folder.specs.Loads.{Loaded}
+use Rattle.spec_folder.specs.Sound.{words_of}
+use Rattle.law_state.specs.CommandStates.{with_names}
+use Rattle.law_state.specs.Keeping.{Keeps, KeepsUncounted}
+use Rattle.law_state.specs.ObjectLaws.{is_owned_by}
+
+-- the owners with nothing at a node: what was the node's is nobody's
+abbrev pub owner_without : Layout → ℕ → Claim → Option ℕ
+owner_without layout node claim = if is_owned_by node (layout.owner claim) then None else layout.owner claim
+
+-- the layout with nothing there
+abbrev pub layout_without : Layout → ℕ → Layout
+layout_without layout node = emptied_at layout node (owner_without layout node)
+
+-- a doomed object that is gone from the state, with the names that were its handles, has its words unlinked, in the same folder
+abbrev pub GoneObjectsAreUnlinked : Type 0
+GoneObjectsAreUnlinked = (state : State) (layout : Layout) (unlinked : List ℕ) (image : Image) (number : ℕ) (object : Object) (was : Loaded) (names : List (Option ℕ)) → KeepsUncounted state layout unlinked image → IsPlacedAsDoomed state layout number object was
+    → IsValidState (with_names names (with_slot number None state)) → KeepsUncounted (with_names names (with_slot number None state)) (layout_without layout (layout.place_of_doomed number)) (words_of was ++ unlinked) image
+
+-- and it was not counted
+abbrev pub GoneObjectsAreNotCounted : Type 0
+GoneObjectsAreNotCounted = (state : State) (layout : Layout) (unlinked : List ℕ) (image : Image) (number : ℕ) (object : Object) (was : Loaded) (names : List (Option ℕ)) → Keeps state layout unlinked image → IsPlacedAsDoomed state layout number object was
+    → IsValidState (with_names names (with_slot number None state)) → Keeps (with_names names (with_slot number None state)) (layout_without layout (layout.place_of_doomed number)) (words_of was ++ unlinked) image

@@ -1,0 +1,48 @@
+-- The laws of the invariant: what it gives, and which folders have it.
+use Rattle.std.specs.Prelude.{◌≡◌, ◌≢◌, ℕ, List, [], true, IfSome, ◌&&◌}
+use Rattle.blk_model.specs.State.{State, Bounds, IsValidState, object_at}
+use Rattle.blk_model.specs.Holding.{open_state, rest}
+use Rattle.spec_image.specs.Image.{Index, Image, byte}
+use Rattle.spec_image.specs.Footprint.{SameOutside, one_word}
+use Rattle.spec_format.specs.BlockFiles.{IsWellFormed}
+use Rattle.spec_format.specs.Headers.{crash_of, this_id_of}
+use Rattle.spec_folder.specs.View.{view_of}
+use Rattle.spec_folder.specs.Found.{found}
+use Rattle.spec_folder.specs.Layout.{Layout, Represents}
+use Rattle.spec_folder.specs.Emptiness.{no_layout}
+use Rattle.spec_folder.specs.Sound.{IsSound}
+use Rattle.spec_folder.specs.StandsFor.{AllIsOwned, StandsFor}
+use Rattle.spec_folder.specs.Tidy.{IsTidy}
+use Rattle.law_folder.specs.BareLaws.{HasNoEntries}
+use Rattle.law_state.specs.Keeping.{IsInSession, KeepsUncounted, Keeps}
+
+-- what is found is what is at rest, whatever is unlinked or uncounted
+abbrev pub KeptStatesAreFound : Type 0
+KeptStatesAreFound = (state : State) (layout : Layout) (unlinked : List ℕ) (image : Image) → KeepsUncounted state layout unlinked image → found image ≡ rest state
+
+-- with nothing unlinked the image stands for the state
+abbrev pub KeptStatesAreStoodFor : Type 0
+KeptStatesAreStoodFor = (state : State) (layout : Layout) (image : Image) → Keeps state layout [] image → StandsFor image state
+
+-- each object is live and settled
+abbrev pub AllAreAtRest : State → Type 0
+AllAreAtRest state = (number : ℕ) → IfSome (object_at state number) (λ object. (object.live && object.settled) ≡ true)
+
+-- and it is sound, where each object is live and settled
+abbrev pub KeptStatesAreSound : Type 0
+KeptStatesAreSound = (state : State) (layout : Layout) (image : Image) → Keeps state layout [] image → AllAreAtRest state → IsSound image
+
+-- a folder without entries, in which a session is open, keeps the empty state
+abbrev pub FoldersWithoutEntriesKeepTheEmptyState : Type 0
+FoldersWithoutEntriesKeepTheEmptyState = (image : Image) (limits : Bounds) → HasNoEntries image → crash_of (byte image Index) ≡ 1 → this_id_of (byte image Index) ≢ 0 → Keeps (open_state [] limits) no_layout [] image
+
+-- How a session begins.
+
+-- a word of the index changes
+abbrev pub ChangesWord : ℕ → Image → Image → Type 0
+ChangesWord at from image = SameOutside (one_word Index at) from image
+
+-- where a folder represents a state, with exact maps and all in order, and the number of the session and then the crash word are written, it keeps the state
+abbrev pub OpenedFoldersKeepTheirState : Type 0
+OpenedFoldersKeepTheirState = (from between image : Image) (state : State) (layout : Layout) (numbers : List ℕ) → IsValidState state → IsWellFormed from → Represents (view_of from) state layout → AllIsOwned from state layout numbers → IsTidy from state layout numbers
+    → ChangesWord 20 from between → ChangesWord 32 between image → IsInSession image state layout → Keeps state layout [] image

@@ -1,0 +1,76 @@
+-- Commands of one call, from the moments of that call: Open, Read and Close; and the call by which a request unsettles its object.
+use Rattle.std.specs.Prelude.{◌≡◌, ◌++◌, ◌==◌, ℕ, List, None, Some, false, true}
+use Rattle.spec_image.specs.Image.{Image}
+use Rattle.blk_model.specs.Effects.{with_name}
+use Rattle.blk_model.specs.Items.{main}
+use Rattle.blk_model.specs.Refusals.{refused}
+use Rattle.blk_model.specs.Request.{IsRequest, Request, to_close, to_open, to_read}
+use Rattle.blk_model.specs.State.{IsValidState, Object, State, is_named, named_by, object_at}
+use Rattle.blk_model.specs.Step.{step}
+use Rattle.law_folder.specs.CommandLaws.{IsPlacedAsDoomed, dirtied}
+use Rattle.spec_folder.specs.Layout.{Layout}
+use Rattle.spec_folder.specs.Loads.{Loaded}
+use Rattle.spec_folder.specs.Sound.{words_of}
+use Rattle.law_state.specs.CommandStates.{IsLast, Unsettles, with_room}
+use Rattle.law_state.specs.Commands.{MayStop}
+use Rattle.law_state.specs.GoneLaws.{layout_without}
+use Rattle.law_state.specs.Keeping.{Keeps, KeepsUncounted}
+use Rattle.law_state.specs.ListLaws.{IsTouchDone}
+use Rattle.law_state.specs.RecordLaws.{IsMarked, IsMarking}
+use Rattle.law_state.specs.WordStops.{IsMidUse}
+
+-- a handle names this object
+pub record Names (state : State) (handle number : ℕ) (object : Object) : Type 0 where
+  pub names : named_by state handle ≡ Some number
+  pub here : object_at state number ≡ Some object
+
+-- Open: where it may be stopped at each word is said of touches.
+
+-- once the item of its key is touched, the state after it is kept
+abbrev pub OpensEndByTouch : Type 0
+OpensEndByTouch = (state : State) (layout : Layout) (unlinked : List ℕ) (from image : Image) (moment handle : ℕ) (key : List ℕ) → Keeps state layout unlinked from → IsRequest (to_open handle key) → refused moment (to_open handle key) state ≡ None → IsTouchDone from (layout.place (main key)) image
+    → Keeps (step state moment (to_open handle key)).state layout unlinked image
+
+-- Read.
+
+-- at each word of the touch of its object's main item it may be stopped
+abbrev pub ReadsMayStop : Type 0
+ReadsMayStop = (state : State) (layout : Layout) (unlinked : List ℕ) (from image : Image) (moment handle stream offset count number : ℕ) (object : Object) → KeepsUncounted state layout unlinked from → refused moment (to_read handle stream offset count) state ≡ None
+    → Names state handle number object → object.live ≡ true → IsMidUse layout (main object.key) from image → MayStop state moment (to_read handle stream offset count) image
+
+-- and once it is touched the state after it is kept
+abbrev pub ReadsEndByTouch : Type 0
+ReadsEndByTouch = (state : State) (layout : Layout) (unlinked : List ℕ) (from image : Image) (moment handle stream offset count number : ℕ) (object : Object) → Keeps state layout unlinked from → refused moment (to_read handle stream offset count) state ≡ None
+    → Names state handle number object → object.live ≡ true → IsTouchDone from (layout.place (main object.key)) image → Keeps (step state moment (to_read handle stream offset count)).state layout unlinked image
+
+-- one of a doomed object leaves the state as it is
+abbrev pub DoomedReadsEnd : Type 0
+DoomedReadsEnd = (state : State) (moment handle stream offset count number : ℕ) (object : Object) → refused moment (to_read handle stream offset count) state ≡ None → Names state handle number object → object.live ≡ false → (step state moment (to_read handle stream offset count)).state ≡ state
+
+-- Close.
+
+-- while the dirty word of the object of its last handle becomes 0 it may be stopped
+abbrev pub ClosesMayStop : Type 0
+ClosesMayStop = (state : State) (layout : Layout) (unlinked : List ℕ) (from image : Image) (moment handle number : ℕ) (object : Object) (loaded : Loaded) → KeepsUncounted state layout unlinked from → IsRequest (to_close handle) → IsLast state handle number object
+    → layout.at (layout.place (main object.key)) ≡ Some loaded → IsMarking from (layout.place (main object.key)) 0 image → MayStop state moment (to_close handle) image
+
+-- and once it is 0 the state after it is kept
+abbrev pub ClosesEndByMark : Type 0
+ClosesEndByMark = (state : State) (layout : Layout) (unlinked : List ℕ) (from image : Image) (moment handle number : ℕ) (object : Object) (loaded : Loaded) → Keeps state layout unlinked from → IsRequest (to_close handle) → IsLast state handle number object
+    → layout.at (layout.place (main object.key)) ≡ Some loaded → IsMarked from (layout.place (main object.key)) 0 image → Keeps (step state moment (to_close handle)).state (dirtied layout (layout.place (main object.key)) loaded 0) unlinked image
+
+-- one of the last handle of a doomed object unlinks the object's words, and nothing is written for that
+abbrev pub ClosesOfDoomedUnlink : Type 0
+ClosesOfDoomedUnlink =
+    (state : State) (layout : Layout) (unlinked : List ℕ) (image : Image) (moment handle number : ℕ) (object : Object) (was : Loaded)
+    → Keeps state layout unlinked image → IsRequest (to_close handle) → named_by state handle ≡ Some number
+    → is_named (with_name handle None state) number ≡ false
+    → IsPlacedAsDoomed state layout number object was → Keeps (step state moment (to_close handle)).state (layout_without layout (layout.place_of_doomed number)) (words_of was ++ unlinked) image
+
+-- Unsettling.
+
+-- while the dirty word of the object that a request unsettles becomes a mark that isn't 0, the request may be stopped
+abbrev pub UnsettlingMarksMayStop : Type 0
+UnsettlingMarksMayStop = (state : State) (layout : Layout) (unlinked : List ℕ) (from image : Image) (moment : ℕ) (request : Request) (number mark : ℕ) (object : Object) (loaded : Loaded) → IsValidState state → Unsettles state moment request number object
+    → KeepsUncounted (with_room state moment request) layout unlinked from → is_named (with_room state moment request) number ≡ true → layout.at (layout.place (main object.key)) ≡ Some loaded → (mark == 0) ≡ false
+    → IsMarking from (layout.place (main object.key)) mark image → MayStop state moment request image

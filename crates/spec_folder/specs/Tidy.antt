@@ -1,0 +1,61 @@
+-- Files, counters and seals in order, told by a layout, and what leaves files as they stand.
+use Rattle.std.specs.Prelude.{◌≡◌, ℕ, ◌%◌, ◌^◌, ◌<◌, List, ◌++◌, length, map, is_some, true, false}
+use Rattle.std.specs.List.{filter_map, flat_map, sum_by}
+use Rattle.std.specs.declared.option.Option.TheVariants.{Some}
+use Rattle.spec_image.specs.Image.{File, Image, Index, Block, External, byte, has_file}
+use Rattle.spec_image.specs.Footprint.{Footprint}
+use Rattle.spec_format.specs.Address.{header_size}
+use Rattle.spec_format.specs.BlockFiles.{IsWellFormed, linked_as, most_blocks}
+use Rattle.spec_format.specs.Headers.{num_entries_of, num_bytes_of, sizes_of}
+use Rattle.spec_format.specs.Maps.{is_block_marked}
+use Rattle.blk_model.specs.State.{State, IsValidState}
+use Rattle.spec_folder.specs.View.{view_of}
+use Rattle.spec_folder.specs.Loads.{Loaded}
+use Rattle.spec_folder.specs.Found.{charge_of}
+use Rattle.spec_folder.specs.Layout.{Layout, Represents, order}
+use Rattle.spec_folder.specs.Sound.{AreLongEnough, AreSealed, CountersAgree, OnlyLinked, words_of}
+use Rattle.spec_folder.specs.StandsFor.{AllIsOwned}
+
+-- what lies at some nodes
+abbrev pub loaded_at : Layout → List ℕ → List Loaded
+loaded_at layout nodes = filter_map layout.at nodes
+
+-- the nodes of doomed objects, by their numbers
+abbrev pub doomed_nodes : Layout → List ℕ → List ℕ
+doomed_nodes layout numbers = map layout.place_of_doomed numbers
+
+-- files, counters and seals are in order for what lies at the nodes of a layout
+pub record IsTidy (image : Image) (state : State) (layout : Layout) (numbers : List ℕ) : Type 0 where
+  pub only_linked : OnlyLinked image
+  pub long_enough : AreLongEnough image
+  pub counted : (n : ℕ) → is_some (linked_as image n) ≡ true
+      → CountersAgree image (flat_map words_of (loaded_at layout (order state layout ++ doomed_nodes layout numbers))) n
+  pub sizes : sizes_of (byte image Index) 0 ≡ length state.uses
+  pub num_entries : num_entries_of (byte image Index) ≡ length state.uses
+  pub num_bytes : num_bytes_of (byte image Index) ≡ sum_by charge_of (loaded_at layout (order state layout)) % 2 ^ 32
+  pub sealed : (node : ℕ) (loaded : Loaded) → layout.at node ≡ Some loaded → AreSealed image loaded
+
+-- an image has a state by a layout, in which these are the numbers of the doomed objects: it is well formed and represents the state, its maps and
+-- external files are exact, and its files, counters and seals are in order
+pub record HasState (state : State) (layout : Layout) (numbers : List ℕ) (image : Image) : Type 0 where
+  pub valid : IsValidState state
+  pub well_formed : IsWellFormed image
+  pub represents : Represents (view_of image) state layout
+  pub allocated : AllIsOwned image state layout numbers
+  pub tidy : IsTidy image state layout numbers
+
+-- Changes behind the headers.
+
+-- a change of bytes that touches no header of a block file, and by which no file comes, goes or changes its length
+pub record IsBehindHeaders (footprint : Footprint) : Type 0 where
+  pub bytes : (n i : ℕ) → i < header_size → footprint.bytes (Block n) i ≡ false
+  pub sizes : (file : File) → footprint.sizes file ≡ false
+
+-- files stand as they did: the same are linked, with the same marks and counters, and as long, and the same external files are there
+pub record FilesStand (from image : Image) : Type 0 where
+  pub links : (n : ℕ) → linked_as image n ≡ linked_as from n
+  pub marks : (n b : ℕ) → b < most_blocks → is_block_marked image n b ≡ is_block_marked from n b
+  pub counted : (n : ℕ) (words : List ℕ) → is_some (linked_as from n) ≡ true → CountersAgree from words n → CountersAgree image words n
+  pub only_linked : OnlyLinked from → OnlyLinked image
+  pub long_enough : AreLongEnough from → AreLongEnough image
+  pub externals : (n : ℕ) → has_file image (External n) ≡ has_file from (External n)

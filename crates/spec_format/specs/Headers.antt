@@ -1,0 +1,280 @@
+-- The headers of the index and of the block files: each field by its place, and the checks of the index.
+-- A field is read from a content, a function that gives the byte at each place: of a file, or of a window of bytes.
+use Rattle.std.specs.Prelude.{ℕ, ◌+◌, ◌*◌, ◌<◌, ◌≡◌, ◌⊎◌, ◌↔◌, List, [], ◌∷◌, ◌++◌, map, Bool, not, ◌||◌, ◌&&◌, ◌==◌, nat_le, nat_lt, IsTrue, IsNone}
+use Rattle.std.specs.declared.option.Option.{Option}
+use Rattle.spec_image.specs.Bytes.{half_at, word_at, long_at}
+use Rattle.spec_image.specs.Image.{Index, Image, has_file, length_of, byte}
+use Rattle.spec_image.specs.Checks.{Damage, first_of, check_word, check_length}
+
+-- the bytes of the index's header
+abbrev pub header_length : ℕ
+header_length = 368
+
+-- the words of the index's table
+abbrev pub table_length : ℕ
+table_length = 65536
+
+-- the bytes of a whole index
+abbrev pub index_length : ℕ
+index_length = 262512
+
+-- the bytes that the fields of a block file's header take, before its map
+abbrev pub block_fields_length : ℕ
+block_fields_length = 80
+
+-- the magic number of a finished index
+abbrev pub index_magic : ℕ
+index_magic = 0xC103CAC3
+
+-- the magic number of a block file
+abbrev pub block_magic : ℕ
+block_magic = 0xC104CAC3
+
+-- the version of both headers
+abbrev pub version : ℕ
+version = 0x20000
+
+-- Both headers begin alike.
+
+abbrev pub magic_place : ℕ
+magic_place = 0
+
+abbrev pub version_place : ℕ
+version_place = 4
+
+-- the magic number
+abbrev pub magic_of : (ℕ → ℕ) → ℕ
+magic_of f = word_at f magic_place
+
+-- the version
+abbrev pub version_of : (ℕ → ℕ) → ℕ
+version_of f = word_at f version_place
+
+-- The header of the index.
+
+-- the places of the counters: of the items, of their bytes, and of the nodes of the use list
+abbrev pub num_entries_place : ℕ
+num_entries_place = 8
+
+abbrev pub num_bytes_place : ℕ
+num_bytes_place = 12
+
+abbrev pub sizes_place : ℕ
+sizes_place = 268
+
+abbrev pub counter_places : List ℕ
+counter_places = num_entries_place ∷ num_bytes_place ∷ sizes_place ∷ []
+
+-- the number of listed items
+abbrev pub num_entries_of : (ℕ → ℕ) → ℕ
+num_entries_of f = word_at f num_entries_place
+
+-- the sum of their charges, modulo 2 ^ 32
+abbrev pub num_bytes_of : (ℕ → ℕ) → ℕ
+num_bytes_of f = word_at f num_bytes_place
+
+-- the last external number that was made
+abbrev pub last_file_of : (ℕ → ℕ) → ℕ
+last_file_of f = word_at f 16
+
+-- the number of the session, raised at each opening
+abbrev pub this_id_of : (ℕ → ℕ) → ℕ
+this_id_of f = word_at f 20
+
+-- always 0
+abbrev pub stats_of : (ℕ → ℕ) → ℕ
+stats_of f = word_at f 24
+
+-- the words of the table; 0 stands for them too
+abbrev pub table_len_of : (ℕ → ℕ) → ℕ
+table_len_of f = word_at f 28
+
+-- 1 while a session is open
+abbrev pub crash_of : (ℕ → ℕ) → ℕ
+crash_of f = word_at f 32
+
+-- always 0
+abbrev pub experiment_of : (ℕ → ℕ) → ℕ
+experiment_of f = word_at f 36
+
+-- the moment of making
+abbrev pub create_time_of : (ℕ → ℕ) → ℕ
+create_time_of f = long_at f 40
+
+-- word i of 52 that are not read
+abbrev pub pad_of : (ℕ → ℕ) → ℕ → ℕ
+pad_of f i = word_at f (48 + 4 * i)
+
+-- word i of 2 that are not read
+abbrev pub pad1_of : (ℕ → ℕ) → ℕ → ℕ
+pad1_of f i = word_at f (256 + 4 * i)
+
+-- not read
+abbrev pub filled_of : (ℕ → ℕ) → ℕ
+filled_of f = word_at f 264
+
+-- word i of 5: the number of nodes, and then zeros
+abbrev pub sizes_of : (ℕ → ℕ) → ℕ → ℕ
+sizes_of f i = word_at f (sizes_place + 4 * i)
+
+-- the places of the four words that say where the use list begins and ends, and what is in flight
+abbrev pub heads_place : ℕ
+heads_place = 288
+
+abbrev pub tails_place : ℕ
+tails_place = 308
+
+abbrev pub transaction_place : ℕ
+transaction_place = 328
+
+abbrev pub operation_place : ℕ
+operation_place = 332
+
+-- word i of 5: the head of the use list, and then zeros
+abbrev pub heads_of : (ℕ → ℕ) → ℕ → ℕ
+heads_of f i = word_at f (heads_place + 4 * i)
+
+-- word i of 5: the tail of the use list, and then zeros
+abbrev pub tails_of : (ℕ → ℕ) → ℕ → ℕ
+tails_of f i = word_at f (tails_place + 4 * i)
+
+-- the node of the operation in flight, or 0
+abbrev pub transaction_of : (ℕ → ℕ) → ℕ
+transaction_of f = word_at f transaction_place
+
+-- the operation: 1 insert, 2 remove, 3 move
+abbrev pub operation_of : (ℕ → ℕ) → ℕ
+operation_of f = word_at f operation_place
+
+-- always 0
+abbrev pub operation_list_of : (ℕ → ℕ) → ℕ
+operation_list_of f = word_at f 336
+
+-- word i of 7 that are not read
+abbrev pub pad2_of : (ℕ → ℕ) → ℕ → ℕ
+pad2_of f i = word_at f (340 + 4 * i)
+
+-- the place of bucket b in the table
+abbrev pub place_of_bucket : ℕ → ℕ
+place_of_bucket b = header_length + 4 * b
+
+-- the word of bucket b
+abbrev pub bucket_of : (ℕ → ℕ) → ℕ → ℕ
+bucket_of f b = word_at f (place_of_bucket b)
+
+-- The header of a block file.
+
+-- the places of its fields
+abbrev pub this_file_place : ℕ
+this_file_place = 8
+
+abbrev pub next_file_place : ℕ
+next_file_place = 10
+
+abbrev pub entry_size_place : ℕ
+entry_size_place = 12
+
+abbrev pub allocations_place : ℕ
+allocations_place = 16
+
+abbrev pub blocks_place : ℕ
+blocks_place = 20
+
+abbrev pub empty_place : ℕ → ℕ
+empty_place i = 24 + 4 * i
+
+abbrev pub updating_place : ℕ
+updating_place = 56
+
+-- its number
+abbrev pub this_file_of : (ℕ → ℕ) → ℕ
+this_file_of f = half_at f this_file_place
+
+-- the number of the next file of its kind, or 0
+abbrev pub next_file_of : (ℕ → ℕ) → ℕ
+next_file_of f = half_at f next_file_place
+
+-- the bytes of a block
+abbrev pub entry_size_of : (ℕ → ℕ) → ℕ
+entry_size_of f = word_at f entry_size_place
+
+-- the number of allocations
+abbrev pub allocations_of : (ℕ → ℕ) → ℕ
+allocations_of f = word_at f allocations_place
+
+-- the number of blocks
+abbrev pub max_entries_of : (ℕ → ℕ) → ℕ
+max_entries_of f = word_at f blocks_place
+
+-- word i of 4: the number of groups whose longest free run is i + 1
+abbrev pub empty_of : (ℕ → ℕ) → ℕ → ℕ
+empty_of f i = word_at f (empty_place i)
+
+-- word i of 4: the group where a search for i + 1 blocks begins
+abbrev pub hints_of : (ℕ → ℕ) → ℕ → ℕ
+hints_of f i = word_at f (40 + 4 * i)
+
+-- 1 while the map and the counters change
+abbrev pub updating_of : (ℕ → ℕ) → ℕ
+updating_of f = word_at f updating_place
+
+-- word i of 5 that are not read
+abbrev pub user_of : (ℕ → ℕ) → ℕ → ℕ
+user_of f i = word_at f (60 + 4 * i)
+
+-- The checks of the index.
+
+-- the index has all its bytes
+abbrev pub HasWholeIndex : Image → Type 0
+HasWholeIndex image = length_of image Index ≡ index_length
+
+-- the index is not there, has fewer than 4 bytes, or has the magic number 0
+unfoldable pub IsUnfinished : Image → Type 0
+IsUnfinished image = IsNone (image Index) ⊎ ((length_of image Index < 4) ⊎ (magic_of (byte image Index) ≡ 0))
+
+-- the test of it
+unfoldable pub unfinished : Image → Bool
+unfinished image = not (has_file image Index) || nat_lt (length_of image Index) 4 || (magic_of (byte image Index) == 0)
+
+-- the test agrees with what it tests
+abbrev pub UnfinishedAgrees : Type 0
+UnfinishedAgrees = (image : Image) → IsTrue (unfinished image) ↔ IsUnfinished image
+
+-- the checks of a finished index's header and length, in their order: the magic, the length, and the fields that have one value, or one of two
+unfoldable pub head_checks : (ℕ → ℕ) → ℕ → List (Option Damage)
+head_checks f length =
+    check_word Index f magic_place (magic_of f == index_magic)
+    ∷ check_length Index index_length length (length == index_length)
+    ∷ check_word Index f version_place (version_of f == version)
+    ∷ check_word Index f 24 (stats_of f == 0)
+    ∷ check_word Index f 28 ((table_len_of f == 0) || (table_len_of f == table_length))
+    ∷ check_word Index f 36 (experiment_of f == 0)
+    ∷ []
+
+-- the places after the first of sizes, of heads and of tails, and that of operation_list
+abbrev pub zero_places : List ℕ
+zero_places =
+    272 ∷ 276 ∷ 280 ∷ 284 ∷
+    292 ∷ 296 ∷ 300 ∷ 304 ∷
+    312 ∷ 316 ∷ 320 ∷ 324 ∷
+    336 ∷ []
+
+-- the checks that the words there are 0
+unfoldable pub list_checks : (ℕ → ℕ) → List (Option Damage)
+list_checks f = map (λ at. check_word Index f at (word_at f at == 0)) zero_places
+
+-- the first check of a finished index that fails: of its header, and then of the words that are to be 0
+abbrev pub first_index_damage : Image → Option Damage
+first_index_damage image = first_of (head_checks (byte image Index) (length_of image Index) ++ list_checks (byte image Index))
+
+-- a place lies in the word there
+abbrev pub is_in_word : ℕ → ℕ → Bool
+is_in_word word i = nat_le word i && nat_lt i (word + 4)
+
+-- the places of the index that are compared here: the head, the tail, the transaction, and the table; the operation is not among them
+abbrev pub is_shown_place : ℕ → Bool
+is_shown_place i = is_in_word heads_place i || is_in_word tails_place i || is_in_word transaction_place i || nat_le header_length i
+
+-- the places of a block file's header that say which blocks there are: next_file and max_entries
+abbrev pub is_extent_place : ℕ → Bool
+is_extent_place i = (i == next_file_place) || (i == next_file_place + 1) || is_in_word blocks_place i

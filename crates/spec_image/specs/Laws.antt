@@ -1,0 +1,36 @@
+-- The laws of this crate, which say that its definitions fit together.
+use Rattle.std.specs.Prelude.{◌≡◌, ℕ, ◌+◌, ◌<◌, List, ◌++◌, Some, length}
+use Rattle.std.specs.List.{All}
+use Rattle.spec_image.specs.Image.{File, Image, HasRange, with_file}
+use Rattle.spec_image.specs.Steps.{TrailStep, IsTrail, after, words, written_over}
+use Rattle.spec_image.specs.Told.{Told, Trail, Applies, Along}
+use Rattle.spec_image.specs.Notes.{AreTrue, notes_in}
+use Rattle.spec_image.specs.Footprint.{SameOutside, range, touched_by_all}
+
+-- the word steps of a write leave the file with the bytes at their place, and every other file as it was
+abbrev pub WordsWriteTheBytes : Type 0
+WordsWriteTheBytes = (file : File) (place : ℕ) (bytes : List ℕ) (image : Image)
+    → after (words file place bytes) image ≡ with_file image file (written_over place bytes (image file))
+
+-- each of them is a write of one to four bytes inside one aligned word
+abbrev pub WordsAreAligned : Type 0
+WordsAreAligned = (file : File) (place : ℕ) (bytes : List ℕ) (image : Image) → All (λ b. b < 256) bytes → HasRange image file place (length bytes)
+    → IsTrail image (words file place bytes)
+
+-- at each of them only bytes of the range have changed, and bytes stay bytes
+abbrev pub WordsStayInside : Type 0
+WordsStayInside = (file : File) (place : ℕ) (bytes : List ℕ) (image : Image)
+    → Along (SameOutside (range file place (length bytes)) image) image (words file place bytes)
+
+-- at each of some steps, what none of them touches is as before
+abbrev pub StepsStayInside : Type 0
+StepsStayInside = (steps : List TrailStep) (image : Image) → Along (SameOutside (touched_by_all steps) image) image steps
+
+-- where the trail is told, the steps of a call are known: so what two clauses of it say of each moment holds of the same steps
+abbrev pub StepsOfOneCallAreOne : Type 0
+StepsOfOneCallAreOne = (old new : Told) (trail : Trail) (steps others : List TrailStep) → old.trail ≡ Some trail → Applies old new steps
+    → Applies old new others → steps ≡ others
+
+-- notes that are true, and true notes behind them
+abbrev pub NotesGoOn : Type 0
+NotesGoOn = (n : ℕ) (steps more : List TrailStep) → AreTrue n steps → AreTrue (n + notes_in steps) more → AreTrue n (steps ++ more)

@@ -1,0 +1,36 @@
+-- The order of the files of a folder: the index, the block files by number, the external files by number.
+use Rattle.std.specs.Prelude.{◌≡◌, ◌⊎◌, ℕ, ◌<◌, Option, None, Some, true}
+use Rattle.std.specs.Option.{ForSome}
+use Rattle.spec_image.specs.Image.{File, Index, Block, External, Image, has_file}
+
+-- the place of a kind of file in the order
+abbrev pub file_rank : File → ℕ
+file_rank Index = 0
+file_rank (Block n) = 1
+file_rank (External n) = 2
+
+-- the number of a file of its kind
+abbrev pub file_number : File → ℕ
+file_number Index = 0
+file_number (Block n) = n
+file_number (External n) = n
+
+-- a file comes before another
+abbrev pub IsBefore : File → File → Type 0
+IsBefore one other = (file_rank one < file_rank other) ⊎ ((file_rank one ≡ file_rank other) × (file_number one < file_number other))
+
+-- a file comes after another, where there is one
+abbrev pub IsAfter : Option File → File → Type 0
+IsAfter None file = Unit {0}
+IsAfter (Some before) file = IsBefore before file
+
+-- there is a first one, and it is this file or comes before it
+abbrev pub IsUpTo : File → Option File → Type 0
+IsUpTo file None = ⊥
+IsUpTo file (Some first) = (first ≡ file) ⊎ IsBefore first file
+
+-- the least file that is there and comes after another, where there is one
+pub record IsNextFile (image : Image) (before next : Option File) : Type 0 where
+  pub there : ForSome next (λ file. has_file image file ≡ true)
+  pub follows : ForSome next (IsAfter before)
+  pub least : (file : File) → IsAfter before file → has_file image file ≡ true → IsUpTo file next

@@ -1,0 +1,98 @@
+-- What a folder tells, and what its calls do to that.
+use Rattle.std.specs.Prelude.{◌≡◌, ℕ, zero, suc, ◌-◌, ◌^◌, ◌<◌, min, List, [], ◌∷◌, ◌++◌, length, take, drop, Option, None}
+use Rattle.std.specs.Option.{option_map, ForSome}
+use Rattle.spec_image.specs.Bytes.{range_at}
+use Rattle.spec_image.specs.Image.{File, Image, AreBytes, byte, length_of}
+use Rattle.spec_image.specs.Steps.{TrailStep, Note, applied, after}
+
+-- the files at the start and the steps since
+pub record Trail : Type 0 where
+  pub start : Image
+  pub steps : List TrailStep
+
+-- what a folder tells of its files now, and of how they came about
+pub record Told : Type 0 where
+  pub files : Option Image
+  pub trail : Option Trail
+
+-- the files are those at the start after the steps, where both are told
+abbrev pub AgreesWithTrail : Told → Type 0
+AgreesWithTrail told = ForSome told.files (λ image. ForSome told.trail (λ trail. image ≡ after trail.steps trail.start))
+
+-- the files that are told hold bytes
+abbrev pub TellsBytes : Told → Type 0
+TellsBytes told = ForSome told.files AreBytes
+
+-- the trail with more steps
+abbrev pub longer : List TrailStep → Trail → Trail
+longer steps trail = record { start = trail.start; steps = trail.steps ++ steps }
+
+-- these steps were made: the files, where told, are those after them, and the trail, where told, has them at its end
+pub record Applies (old new : Told) (steps : List TrailStep) : Type 0 where
+  pub files : new.files ≡ option_map (after steps) old.files
+  pub trail : new.trail ≡ option_map (longer steps) old.trail
+
+-- no step was made
+abbrev pub Stays : Told → Told → Type 0
+Stays old new = new ≡ old
+
+-- some of these steps were made, from the first on
+pub record AppliesPrefix (old new : Told) (steps : List TrailStep) : Type 0 where
+  pub made : List TrailStep
+  pub left : List TrailStep
+  pub split : steps ≡ made ++ left
+  pub applies : Applies old new made
+
+-- of files that are told, some of the steps that they ask for were made, from the first on; files that aren't told stay untold
+pub record MakesPartOf (old new : Told) (steps_on : Image → List TrailStep) : Type 0 where
+  pub made : ForSome old.files (λ from. AppliesPrefix old new (steps_on from))
+  pub silent : old.files ≡ None → new.files ≡ None
+
+-- P holds of the files before each step, and Q after the last
+abbrev pub Until : (Image → Type 0) → (Image → Type 0) → Image → List TrailStep → Type 0
+Until P Q image [] = Q image
+Until P Q image (step ∷ steps) = P image × Until P Q (applied step image) steps
+
+-- P holds of the files, and after each step
+abbrev pub Along : (Image → Type 0) → Image → List TrailStep → Type 0
+Along P image steps = Until P P image steps
+
+-- P holds of the files until so many steps are made, and Q of them from then on
+abbrev pub CommitsAt : ℕ → (P Q : Image → Type 0) → Image → List TrailStep → Type 0
+CommitsAt zero P Q image steps = Along Q image steps
+CommitsAt (suc count) P Q image [] = P image
+CommitsAt (suc count) P Q image (step ∷ steps) = P image × CommitsAt count P Q (applied step image) steps
+
+-- no step is a note
+abbrev pub IsQuiet : List TrailStep → Type 0
+IsQuiet [] = Unit {0}
+IsQuiet (Note number ∷ steps) = ⊥
+IsQuiet (step ∷ steps) = IsQuiet steps
+
+-- steps were made, none of them a note; P holds of the files before each of them, and Q after the last
+pub record PassesTo (old new : Told) (P Q : Image → Type 0) : Type 0 where
+  pub steps : List TrailStep
+  pub applies : Applies old new steps
+  pub quiet : IsQuiet steps
+  pub along : ForSome old.files (λ image. Until P Q image steps)
+
+-- the same, where P holds after the last step too
+abbrev pub Passes : Told → Told → (Image → Type 0) → Type 0
+Passes old new P = PassesTo old new P P
+
+-- the count rose, unless it stands at the last value of a u64
+abbrev pub Rises : ℕ → ℕ → Type 0
+Rises before now = now < 2 ^ 64 - 1 → before < now
+
+-- the bytes of the file from a place on, as many as fit, are at the front of the new buffer; behind them it is the old
+pub record GivesBytes (image : Image) (file : File) (place : ℕ) (old new : List ℕ) (count : ℕ) : Type 0 where
+  pub many : count ≡ min (length old) (length_of image file - place)
+  pub front : take count new ≡ range_at (byte image file) place count
+  pub rest : drop count new ≡ drop count old
+
+-- steps were made, none of them a note; P holds until so many of them are made, and Q from then on
+pub record Commits (count : ℕ) (old new : Told) (P Q : Image → Type 0) : Type 0 where
+  pub steps : List TrailStep
+  pub applies : Applies old new steps
+  pub quiet : IsQuiet steps
+  pub commits : ForSome old.files (λ image. CommitsAt count P Q image steps)

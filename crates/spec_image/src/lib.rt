@@ -1,0 +1,36 @@
+//! What the files of a cache folder hold, and how they change: images, steps, trails and footprints.
+//!
+//! The crate has definitions that the contracts of the other crates cite, and their laws.
+#![tactic(auto)]
+
+ghost use Rattle.spec_image.specs.Laws.{WordsWriteTheBytes, WordsAreAligned, WordsStayInside, StepsStayInside, StepsOfOneCallAreOne, NotesGoOn};
+
+/// The word steps of a write leave its bytes in the file, and nothing else changes.
+pub fn words_write_the_bytes()
+    ensures { WordsWriteTheBytes }
+{}
+
+/// Each word step of a write lies inside one aligned word.
+pub fn words_are_aligned()
+    ensures { WordsAreAligned }
+{}
+
+/// At each word step of a write only bytes of its range have changed.
+pub fn words_stay_inside()
+    ensures { WordsStayInside }
+{}
+
+/// What none of some steps touches is as before at each of them.
+pub fn steps_stay_inside()
+    ensures { StepsStayInside }
+{}
+
+/// Where the trail is told, a call made the steps that the trail has more, so two clauses of it speak of the same steps.
+pub fn steps_of_one_call_are_one()
+    ensures { StepsOfOneCallAreOne }
+{}
+
+/// True notes go on behind true notes.
+pub fn notes_go_on()
+    ensures { NotesGoOn }
+{}

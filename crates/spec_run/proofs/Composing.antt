@@ -1,0 +1,235 @@
+-- A run goes on with a command, or stops in one, between two, or at its end.
+use Rattle.std.proofs.Common.{ℕ, ◌+◌, ◌≡◌, inl, inr, true, List, [], ◌∷◌, ◌++◌, length, Option, Some, refl, sym, ◌∙◌, ap, subst, arith, append_assoc}
+use Rattle.std.specs.Option.{option_map}
+use Rattle.std.proofs.lemmas.List.{append-nil, length-append}
+use Rattle.spec_image.specs.Image.{Image}
+use Rattle.spec_image.specs.Steps.{TrailStep, Note, applied, after}
+use Rattle.spec_image.specs.Told.{Told, Applies, Along, Passes, IsQuiet}
+use Rattle.spec_image.specs.Notes.{AlongFrom, notes_in}
+use Rattle.spec_image.proofs.Cuts.{after-append}
+use Rattle.spec_image.proofs.Runs.{grows_then, passes_end}
+use Rattle.spec_image.proofs.NotesLemmas.{along_from-last, along_from-append, along_from-one, at_each_front, notes_in-append, are_true-append}
+use Rattle.spec_format.specs.BlockFiles.{IsWellFormed}
+use Rattle.spec_format.specs.Headers.{IsUnfinished}
+use Rattle.spec_format.proofs.Finished.{finished_whole}
+use Rattle.blk_model.specs.Items.{Row}
+use Rattle.blk_model.specs.State.{State, IsValidState}
+use Rattle.blk_model.specs.Holding.{rest}
+use Rattle.blk_model.specs.Stops.{StopOutcome}
+use Rattle.blk_model.proofs.StopRests.{rest_before}
+use Rattle.spec_folder.specs.Found.{found}
+use Rattle.spec_folder.specs.StandsFor.{StandsFor}
+use Rattle.law_folder.proofs.states.StoodFor.{stood-found}
+use Rattle.law_state.specs.Commands.{MayStop}
+use Rattle.spec_run.specs.Run.{Stamped, state_after, state_then, state_at, command_after}
+use Rattle.spec_run.specs.Moments.{IsStopped, IsLeftAt, Completes}
+use Rattle.spec_run.specs.Opening.{HoldsStill, has_opened}
+use Rattle.spec_run.specs.Progress.{Progress, Stops}
+use Rattle.spec_run.specs.Laws.{RunsGoOn, RunsMayStopInACommand, RunsMayStopBetween, RunsEnd}
+use Rattle.spec_run.proofs.StepFacts.{true_false, along_head, quiet_first, quiet_later, quiet_true, opened_more, quiet_counts, not_complete, snoc_step}
+use Rattle.spec_run.proofs.CommandStates.{state_after-one, state_here, next_here, state_next}
+
+-- What is found.
+
+-- what a stop in the next command leaves
+pub left_in : (opened : State) (commands done more : List Stamped) (c : Stamped) (rows : List Row) → commands ≡ done ++ c ∷ more
+    → StopOutcome (state_after opened done) c.moment c.request (state_then (state_after opened done) c) rows
+    → IsLeftAt opened commands (length done) (command_after commands (length done)) rows
+left_in opened commands done more c rows e outcome =
+    let now = state_here opened commands done (c ∷ more) e in
+    let next = state_next opened commands done more c e in
+    let first = subst (λ (s : State). StopOutcome s c.moment c.request (state_then (state_after opened done) c) rows) (sym now) outcome in
+    let second = subst (λ (s : State). StopOutcome (state_at opened commands (length done)) c.moment c.request s rows) (sym next) first in
+    subst (λ (o : Option Stamped). IsLeftAt opened commands (length done) o rows) (sym (next_here commands done (c ∷ more) e)) second
+
+-- what a stop between two commands leaves
+pub left_between : (opened : State) (commands done more : List Stamped) (rows : List Row) → commands ≡ done ++ more
+    → IsValidState (state_after opened done) → rows ≡ rest (state_after opened done) → IsLeftAt opened commands (length done) (command_after commands (length done)) rows
+left_between opened commands done [] rows e valid same =
+    subst (λ (o : Option Stamped). IsLeftAt opened commands (length done) o rows) (sym (next_here commands done [] e))
+    (same ∙ ap rest (sym (state_here opened commands done [] e)))
+left_between opened commands done (c ∷ more) rows e valid same =
+    left_in opened commands done more c rows e
+    (subst (StopOutcome (state_after opened done) c.moment c.request (state_then (state_after opened done) c)) (sym same) (rest_before (state_after opened done) c.moment c.request valid))
+
+-- a well-formed folder isn't unfinished
+pub finished : (image : Image) → IsWellFormed image → IsUnfinished image → ⊥
+finished image well_formed = (finished_whole image well_formed).finished
+
+-- The folder after some steps.
+
+-- at rest: the folder was opened and these commands are done
+pub stopped_at_rest : (from : Image) (opened : State) (commands done more : List Stamped) (steps : List TrailStep) (image : Image) → commands ≡ done ++ more
+    → has_opened steps ≡ true → notes_in steps ≡ length done → StandsFor image (state_after opened done)
+    → IsStopped from opened commands steps image
+stopped_at_rest from opened commands done more steps image e marked count stands = record {
+  usable = inr stands.well_formed;
+  making = λ unfinished. absurd (finished image stands.well_formed unfinished);
+  left = record {
+    opening = λ none. true_false marked none;
+    later = λ some. subst (λ (n : ℕ). IsLeftAt opened commands n (command_after commands n) (found image)) (sym count)
+        (left_between opened commands done more (found image) e stands.shows.valid same);
+    completed = λ before last split complete. same ∙ ap rest (sym here);
+  };
+  unnoted = λ none. true_false marked none;
+  stands = λ before last split complete. subst (λ (s : State). StandsFor image s) (sym here) stands;
+}
+  where
+    same : found image ≡ rest (state_after opened done)
+    same = stood-found image (state_after opened done) stands
+
+    here : state_at opened commands (notes_in steps) ≡ state_after opened done
+    here = ap (λ (n : ℕ). state_at opened commands n) count ∙ state_here opened commands done more e
+
+-- behind a step that completes nothing
+pub stopped_within : (from : Image) (opened : State) (commands : List Stamped) (n : ℕ) (made : List TrailStep) (x : TrailStep) (image : Image)
+    → has_opened made ≡ true → notes_in made ≡ n → IsQuiet (x ∷ []) → IsWellFormed image → IsLeftAt opened commands n (command_after commands n) (found image)
+    → IsStopped from opened commands (made ++ x ∷ []) image
+stopped_within from opened commands n made x image marked count quiet well_formed left = record {
+  usable = inr well_formed;
+  making = λ unfinished. absurd (finished image well_formed unfinished);
+  left = record {
+    opening = λ none. true_false (opened_more made (x ∷ []) marked) none;
+    later = λ some. subst (λ (n : ℕ). IsLeftAt opened commands n (command_after commands n) (found image)) (sym (quiet_counts made (x ∷ []) n count quiet)) left;
+    completed = λ before last split complete. absurd (never before last split complete);
+  };
+  unnoted = λ none. true_false (opened_more made (x ∷ []) marked) none;
+  stands = λ before last split complete. absurd (never before last split complete);
+}
+  where
+    never : (before : List TrailStep) (last : TrailStep) → made ++ x ∷ [] ≡ before ++ last ∷ [] → Completes before last → ⊥
+    never before last split complete =
+        let same = snoc_step made before x last split in
+        not_complete made x marked quiet (subst (λ (b : List TrailStep). Completes b x) (sym same.0) (subst (Completes before) (sym same.1) complete))
+
+-- quiet steps once the opening has ended
+pub quiet_along : (from : Image) (opened : State) (commands : List Stamped) (n : ℕ) (R : Image → Type 0)
+    → ((image : Image) → R image → IsWellFormed image × IsLeftAt opened commands n (command_after commands n) (found image))
+    → (made : List TrailStep) (image : Image) (steps : List TrailStep) → has_opened made ≡ true → notes_in made ≡ n → IsQuiet steps
+    → IsStopped from opened commands made image → Along R image steps → AlongFrom (IsStopped from opened commands) made image steps
+quiet_along from opened commands n R gives made image [] marked count quiet here all = here
+quiet_along from opened commands n R gives made image (x ∷ steps) marked count quiet here all =
+    let next = gives (applied x image) (along_head R (applied x image) steps all.1) in
+    let one = quiet_first x steps quiet in (
+      here,
+      quiet_along from opened commands n R gives (made ++ x ∷ []) (applied x image) steps
+          (opened_more made (x ∷ []) marked) (quiet_counts made (x ∷ []) n count one) (quiet_later x steps quiet)
+          (stopped_within from opened commands n made x (applied x image) marked count one next.0 next.1) all.1,
+    )
+
+-- Calls.
+
+pub some_after : {a b : Told} {s : List TrailStep} (from : Image) → a.files ≡ Some from → Applies a b s → b.files ≡ Some (after s from)
+some_after {s = s} from there applies = applies.files ∙ ap (option_map (after s)) there
+
+-- a stop in a command, as one of the run
+stopped_in_left : (opened : State) (commands done more : List Stamped) (c : Stamped) → commands ≡ done ++ c ∷ more → (image : Image) → MayStop (state_after opened done) c.moment c.request image
+    → IsWellFormed image × IsLeftAt opened commands (length done) (command_after commands (length done)) (found image)
+stopped_in_left opened commands done more c e image stopped = (stopped.well_formed, left_in opened commands done more c (found image) e stopped.left)
+
+-- a command that was done
+pub one_more : RunsGoOn
+one_more from opened done old mid new c there before made =
+    let s = before.steps in
+    let t = made.steps in
+    let note : TrailStep = Note (length done + 1) in
+    let middle : Image = after s from in
+    let at_middle = some_after from there before.applies in
+    let same_image : after (t ++ note ∷ []) middle ≡ after t middle = after-append t (note ∷ []) middle in
+    let at_end = some_after middle at_middle made.applies ∙ ap Some same_image in
+    let last = state_after-one opened done c in
+    let rests : StandsFor (after t middle) (state_after opened (done ++ c ∷ [])) = subst (λ (x : State). StandsFor (after t middle) x) (sym last) (made.stands (after t middle) at_end) in
+    let marked = opened_more s t before.opens in
+    let count = quiet_counts s t (length done) before.noted made.quiet in
+    let grown : length (done ++ c ∷ []) ≡ length done + 1 = length-append done (c ∷ []) in
+    let noted : notes_in (s ++ t ++ note ∷ []) ≡ length (done ++ c ∷ []) = notes_in-append (s ++ t) (note ∷ []) ∙ ap (λ (n : ℕ). n + 1) count ∙ sym grown in
+    let joined : s ++ (t ++ note ∷ []) ≡ s ++ t ++ note ∷ [] = sym (append_assoc s t (note ∷ [])) in
+    record {
+      steps = s ++ t ++ note ∷ [];
+      applies = subst (Applies old new) joined (grows_then before.applies made.applies);
+      opens = opened_more (s ++ t) (note ∷ []) marked;
+      noted = noted;
+      notes = are_true-append 0 (s ++ t) (note ∷ [])
+          (are_true-append 0 s t before.notes (quiet_true (0 + notes_in s) t made.quiet))
+          (let zero_in : 0 + notes_in (s ++ t) ≡ length done = omega (arith, count) in (ap (λ (n : ℕ). n + 1) (sym zero_in), tt));
+      stands = λ image is. subst (λ (i : Image). StandsFor i (state_after opened (done ++ c ∷ []))) (some_same (sym at_end ∙ is)) rests;
+      along = λ commands more e.
+          let more_after : commands ≡ done ++ c ∷ more = e ∙ append_assoc done (c ∷ []) more in
+          let first = before.along commands (c ∷ more) more_after in
+          let P : List TrailStep → Image → Type 0 = IsStopped from opened commands in
+          let second = quiet_along from opened commands (length done) (MayStop (state_after opened done) c.moment c.request) (stopped_in_left opened commands done more c more_after)
+          s middle t before.opens before.noted made.quiet (along_from-last P [] from s first) (made.stops middle at_middle) in
+          let both = along_from-append P [] from s t first second in
+          let final_image : after (s ++ t) from ≡ after t middle = after-append s t from in
+          along_from-one P [] from (s ++ t) note both
+          (subst (P (s ++ t ++ note ∷ [])) (sym final_image)
+          (stopped_at_rest from opened commands (done ++ c ∷ []) more (s ++ t ++ note ∷ []) (after t middle) e
+          (opened_more (s ++ t) (note ∷ []) marked) noted rests));
+    }
+  where
+    some_same : {x y : Image} → Some x ≡ Some y → x ≡ y
+    some_same e = cc
+
+-- a run that was ended in the midst of a call, or after its last
+pub stops_with : {from : Image} {opened : State} {commands done : List Stamped} {old mid new : Told} (more : List Stamped) (R : Image → Type 0) → old.files ≡ Some from
+    → Progress from opened done old mid → Passes mid new R → commands ≡ done ++ more
+    → ((image : Image) → R image → IsWellFormed image × IsLeftAt opened commands (length done) (command_after commands (length done)) (found image))
+    → Stops from opened commands old new
+stops_with {from} {opened} {commands} {done} {old} {mid} {new} more R there before made e gives =
+    let s = before.steps in
+    let t = made.steps in
+    let middle : Image = after s from in
+    let at_middle = some_after from there before.applies in
+    let P : List TrailStep → Image → Type 0 = IsStopped from opened commands in
+    let first = before.along commands more e in
+    let second = quiet_along from opened commands (length done) R gives s middle t before.opens before.noted made.quiet (along_from-last P [] from s first) (made.along middle at_middle) in
+    let count = quiet_counts s t (length done) before.noted made.quiet in
+    let all = ap (λ (l : List Stamped). length l) e ∙ length-append done more in
+    record {
+      steps = s ++ t;
+      applies = grows_then before.applies made.applies;
+      stops = at_each_front P from (s ++ t) (along_from-append P [] from s t first second);
+      notes = are_true-append 0 s t before.notes (quiet_true (0 + notes_in s) t made.quiet);
+      few = omega (arith, count, all);
+    }
+
+-- a run that stands where it is
+pub stays : RunsMayStopBetween
+stays from opened done more old new before =
+    let count = before.noted in
+    let all = length-append done more in
+    record {
+      steps = before.steps;
+      applies = before.applies;
+      stops = at_each_front (IsStopped from opened (done ++ more)) from before.steps (before.along (done ++ more) more refl);
+      notes = before.notes;
+      few = omega (arith, count, all);
+    }
+
+-- a command that was done in part, or noted
+pub stopped : RunsMayStopInACommand
+stopped from opened done more old mid new c there before (inl made) =
+    stops_with (c ∷ more) (MayStop (state_after opened done) c.moment c.request) there before made refl (stopped_in_left opened (done ++ c ∷ more) done more c refl)
+stopped from opened done more old mid new c there before (inr made) =
+    subst (λ (l : List Stamped). Stops from opened l old new) (append_assoc done (c ∷ []) more)
+    (stays from opened (done ++ c ∷ []) more old new (one_more from opened done old mid new c there before made))
+
+-- the end of a run, of whose commands none is left
+pub ended : RunsEnd
+unfolding stops_with
+ended from opened commands old mid new there before still =
+    let image : Image = after before.steps from in
+    let at_middle = some_after from there before.applies in
+    let passed = still image at_middle in
+    let stands = before.stands image at_middle in
+    let all : commands ≡ commands ++ [] = sym (append-nil commands) in
+    let same : found image ≡ rest (state_after opened commands) = stood-found image (state_after opened commands) stands in
+    let gives : (other : Image) → HoldsStill image other → IsWellFormed other × IsLeftAt opened commands (length commands) (command_after commands (length commands)) (found other) =
+    λ other held. (held.formed stands.well_formed, left_between opened commands commands [] (found other) all stands.shows.valid (held.found_same ∙ same)) in
+    let stop = stops_with [] (HoldsStill image) there before passed all gives in
+    record {
+      stops = stop;
+      opens = opened_more before.steps passed.steps before.opens;
+      noted = quiet_counts before.steps passed.steps (length commands) before.noted passed.quiet;
+      holds = λ other is. (passes_end passed other is).found_same ∙ same;
+    }

@@ -1,0 +1,108 @@
+-- Quiet steps, marks, and the last of some steps.
+use Rattle.std.proofs.Common.{ℕ, ◌≡◌, Bool, true, false, ◌||◌, List, [], ◌∷◌, ◌++◌, refl, sym, ◌∙◌, ap, arith}
+use Rattle.std.proofs.lemmas.List.Folds.{list_any-append}
+use Rattle.spec_image.specs.Image.{Image}
+use Rattle.spec_image.specs.Steps.{TrailStep, Word, SetLength, Delete, Note}
+use Rattle.spec_image.specs.Told.{Along, IsQuiet}
+use Rattle.spec_image.specs.Notes.{AreTrue, notes_in}
+use Rattle.spec_image.proofs.NotesLemmas.{notes_in-append}
+use Rattle.spec_run.specs.Opening.{has_opened, marks_open}
+use Rattle.spec_run.specs.Moments.{Completes}
+
+pub true_false : {P : Type 0} {b : Bool} → b ≡ true → b ≡ false → P
+true_false {b = b} t f = absurd (clash (sym t ∙ f))
+  where
+    clash : true ≡ false → ⊥
+    clash c = cc
+
+pub along_head : (P : Image → Type 0) (image : Image) (s : List TrailStep) → Along P image s → P image
+along_head P image [] all = all
+along_head P image (x ∷ s) all = all.0
+
+pub quiet_first : (x : TrailStep) (s : List TrailStep) → IsQuiet (x ∷ s) → IsQuiet (x ∷ [])
+quiet_first (Word f at bs) s quiet = tt
+quiet_first (SetLength f n) s quiet = tt
+quiet_first (Delete f) s quiet = tt
+quiet_first (Note n) s quiet = quiet
+
+pub quiet_later : (x : TrailStep) (s : List TrailStep) → IsQuiet (x ∷ s) → IsQuiet s
+quiet_later (Word f at bs) s quiet = quiet
+quiet_later (SetLength f n) s quiet = quiet
+quiet_later (Delete f) s quiet = quiet
+quiet_later (Note n) s quiet = absurd quiet
+
+pub quiet_notes : (s : List TrailStep) → IsQuiet s → notes_in s ≡ 0
+quiet_notes [] quiet = refl
+quiet_notes (Word f at bs ∷ s) quiet = quiet_notes s quiet
+quiet_notes (SetLength f n ∷ s) quiet = quiet_notes s quiet
+quiet_notes (Delete f ∷ s) quiet = quiet_notes s quiet
+quiet_notes (Note n ∷ s) quiet = absurd quiet
+
+pub quiet_true : (n : ℕ) (s : List TrailStep) → IsQuiet s → AreTrue n s
+quiet_true n [] quiet = tt
+quiet_true n (Word f at bs ∷ s) quiet = quiet_true n s quiet
+quiet_true n (SetLength f m ∷ s) quiet = quiet_true n s quiet
+quiet_true n (Delete f ∷ s) quiet = quiet_true n s quiet
+quiet_true n (Note m ∷ s) quiet = absurd quiet
+
+pub opened-append : (s t : List TrailStep) → has_opened (s ++ t) ≡ (has_opened s || has_opened t)
+opened-append s t = list_any-append marks_open s t
+
+pub opened_more : (made s : List TrailStep) → has_opened made ≡ true → has_opened (made ++ s) ≡ true
+opened_more made s marked = opened-append made s ∙ ap (λ b. b || has_opened s) marked
+
+pub none_before : (s t : List TrailStep) → has_opened (s ++ t) ≡ false → has_opened s ≡ false
+none_before s t none = first (has_opened s) (has_opened t) (sym (opened-append s t) ∙ none)
+  where
+    first : (a b : Bool) → (a || b) ≡ false → a ≡ false
+    first true b e = true_false refl e
+    first false b e = refl
+
+pub quiet_counts : (made s : List TrailStep) (n : ℕ) → notes_in made ≡ n → IsQuiet s → notes_in (made ++ s) ≡ n
+quiet_counts made s n count quiet = let none = quiet_notes s quiet in let all = notes_in-append made s in omega (arith, none, all, count)
+
+-- a step that is no note completes nothing once the opening has ended
+pub not_complete : (made : List TrailStep) (x : TrailStep) → has_opened made ≡ true → IsQuiet (x ∷ []) → Completes made x → ⊥
+not_complete made (Word f at bs) marked quiet complete = true_false marked complete.0
+not_complete made (SetLength f n) marked quiet complete = complete
+not_complete made (Delete f) marked quiet complete = complete
+not_complete made (Note n) marked quiet complete = quiet
+
+-- nor where it isn't the mark
+pub not_marked : (made : List TrailStep) (x : TrailStep) → has_opened (made ++ x ∷ []) ≡ false → IsQuiet (x ∷ []) → Completes made x → ⊥
+not_marked made (Word f at bs) none quiet complete =
+    true_false (opened-append made (Word f at bs ∷ []) ∙ ap (λ b. has_opened made || b) (ap (λ b. b || false) complete.1) ∙ or_true (has_opened made)) none
+  where
+    or_true : (b : Bool) → (b || true) ≡ true
+    or_true true = refl
+    or_true false = refl
+not_marked made (SetLength f n) none quiet complete = complete
+not_marked made (Delete f) none quiet complete = complete
+not_marked made (Note n) none quiet complete = quiet
+
+head_same : {A : Type 0} {x y : A} {xs ys : List A} → x ∷ xs ≡ y ∷ ys → x ≡ y
+head_same e = cc
+
+tail_same : {A : Type 0} {x y : A} {xs ys : List A} → x ∷ xs ≡ y ∷ ys → xs ≡ ys
+tail_same e = cc
+
+nil_clash : {A : Type 0} {P : Type 0} {x : A} {xs : List A} → [] ≡ x ∷ xs → P
+nil_clash {x = x} {xs = xs} e = absurd (clash e)
+  where
+    clash : [] ≡ x ∷ xs → ⊥
+    clash c = cc
+
+-- no steps have no last one
+pub no_last : {P : Type 0} (before : List TrailStep) (last : TrailStep) → [] ≡ before ++ last ∷ [] → P
+no_last [] last c = nil_clash c
+no_last (x ∷ before) last c = nil_clash c
+
+-- the last of some steps is one
+pub snoc_step : (s t : List TrailStep) (x y : TrailStep) → s ++ x ∷ [] ≡ t ++ y ∷ [] → (s ≡ t) × (x ≡ y)
+snoc_step [] [] x y e = (refl, head_same e)
+snoc_step [] (b ∷ t) x y e = no_last t y (tail_same e)
+snoc_step (a ∷ s) [] x y e = no_last s x (sym (tail_same e))
+snoc_step (a ∷ s) (b ∷ t) x y e =
+    let more = snoc_step s t x y (tail_same e) in
+    let first : a ≡ b = head_same e in
+    (ap (λ (h : TrailStep). h ∷ s) first ∙ ap (λ (l : List TrailStep). b ∷ l) more.0, more.1)

@@ -1,0 +1,194 @@
+-- The laws by which a run composes: an opening, commands one after another, the closing, and the turns of a script.
+use Rattle.std.specs.Prelude.{◌≡◌, ◌<◌, ◌≤◌, ◌+◌, ◌*◌, ◌^◌, ℕ, Bool, true, false, List, [], ◌∷◌, ◌++◌, length, Some, None, is_some, slice_set}
+use Rattle.std.specs.List.{Contains}
+use Rattle.std.specs.Option.{ForSome}
+use Rattle.spec_image.specs.Image.{Image}
+use Rattle.spec_image.specs.Steps.{TrailStep}
+use Rattle.spec_image.specs.Notes.{notes_in}
+use Rattle.spec_image.specs.Told.{Told, Passes}
+use Rattle.blk_model.specs.Sizes.{handle_names}
+use Rattle.blk_model.specs.Items.{Item, Row}
+use Rattle.blk_model.specs.State.{State, Bounds, IsValidState, named_by}
+use Rattle.blk_model.specs.Holding.{open_state, owner, rest, row_of}
+use Rattle.blk_model.specs.Request.{Request, to_close}
+use Rattle.blk_model.specs.ListSteps.{list_after, list_steps}
+use Rattle.blk_model.specs.Step.{Outcome}
+use Rattle.blk_model.specs.Stops.{is_safe}
+use Rattle.blk_io.specs.Streams.{Readings, later_of}
+use Rattle.blk_script.specs.declared.fault.LineFault.{LineFault}
+use Rattle.blk_script.specs.Reply.{line_fault_text}
+use Rattle.law_state.specs.Commands.{IsNoted, IsStepped, note_number}
+use Rattle.spec_folder.specs.Found.{found}
+use Rattle.spec_run.specs.Lines.{Cut, with_bytes, lines, whole_lines}
+use Rattle.spec_run.specs.Script.{Script, ended, errs, says, asks, session_script}
+use Rattle.spec_run.specs.Run.{Stamped, Turn, error_turn, text_turn, command_turn, stamped_by, outcome_in, state_then, state_after, clock_after, turns, commands_of, bound_names, closings, run_of, cut_after, commands, command_after, state_at}
+use Rattle.spec_run.specs.Moments.{IsStopped}
+use Rattle.spec_run.specs.Opening.{IsUsable, HoldsStill, Opens, FailsToOpen, has_opened}
+use Rattle.spec_run.specs.Progress.{Progress, Stops, IsWholeRun, AreNoted}
+use Rattle.spec_run.specs.Playing.{IsPlayed}
+
+-- The opening.
+
+-- a run begins with an opening
+abbrev pub RunsBegin : Type 0
+RunsBegin = (from : Image) (opened : State) (old new : Told) → old.files ≡ Some from → IsUsable from → Opens from opened old new → Progress from opened [] old new
+
+-- and in an opening that failed it may stop, whatever commands would follow
+abbrev pub RunsMayStopInTheOpening : Type 0
+RunsMayStopInTheOpening = (from : Image) (opened : State) (commands : List Stamped) (old new : Told) → old.files ≡ Some from → IsUsable from → FailsToOpen from opened old new → Stops from opened commands old new
+
+-- Commands.
+
+-- a run goes on with a command that is done and noted
+abbrev pub RunsGoOn : Type 0
+RunsGoOn = (from : Image) (opened : State) (done : List Stamped) (old mid new : Told) (command : Stamped) → old.files ≡ Some from → Progress from opened done old mid
+    → IsNoted mid new command.moment command.request (length done + 1) (state_after opened done) → Progress from opened (done ++ command ∷ []) old new
+
+-- and with commands that are done in turn
+abbrev pub RunsGoOnInTurn : Type 0
+RunsGoOnInTurn = (from : Image) (opened : State) (done more : List Stamped) (old mid new : Told) → old.files ≡ Some from → Progress from opened done old mid
+    → AreNoted mid new (state_after opened done) (length done + 1) more → Progress from opened (done ++ more) old new
+
+-- in a command that is made in part, or done and noted, a run may stop
+abbrev pub RunsMayStopInACommand : Type 0
+RunsMayStopInACommand = (from : Image) (opened : State) (done more : List Stamped) (old mid new : Told) (command : Stamped) → old.files ≡ Some from → Progress from opened done old mid
+    → IsStepped mid new command.moment command.request (length done + 1) (state_after opened done) → Stops from opened (done ++ command ∷ more) old new
+
+-- and it may stop where it is, whatever commands would follow
+abbrev pub RunsMayStopBetween : Type 0
+RunsMayStopBetween = (from : Image) (opened : State) (done more : List Stamped) (old new : Told) → Progress from opened done old new → Stops from opened (done ++ more) old new
+
+-- commands that are done in turn, and one more, and several more
+abbrev pub NotedCommandsFollow : Type 0
+NotedCommandsFollow = (old mid new : Told) (state : State) (number : ℕ) (done more : List Stamped) → AreNoted old mid state number done
+    → AreNoted mid new (state_after state done) (number + length done) more → AreNoted old new state number (done ++ more)
+
+-- a note's number is exact below the last value of a u64
+abbrev pub NoteNumbersAreExact : Type 0
+NoteNumbersAreExact = (count : ℕ) → count < 2 ^ 64 → note_number count ≡ count
+
+-- The end.
+
+-- where all commands are done, steps at which the folder holds what it held end the run
+abbrev pub RunsEnd : Type 0
+RunsEnd = (from : Image) (opened : State) (commands : List Stamped) (old mid new : Told) → old.files ≡ Some from → Progress from opened commands old mid
+    → ForSome mid.files (λ image. Passes mid new (HoldsStill image)) → IsWholeRun from opened commands old new
+
+-- Turns.
+
+-- the turns of some lines and of those behind them: these begin where the others left the state and the clock
+abbrev pub LinesArePlayedInTurn : Type 0
+LinesArePlayedInTurn = (number : ℕ) (texts more : List (List ℕ)) (state : State) (clock : Readings)
+    → IsPlayed (session_script number (texts ++ more)) state clock (turns (session_script number texts) state clock) (session_script (number + length texts) more)
+    (state_after state (commands_of (turns (session_script number texts) state clock))) (clock_after clock (length (commands_of (turns (session_script number texts) state clock))))
+
+-- nothing is played at first
+abbrev pub NothingIsPlayed : Type 0
+NothingIsPlayed = (script : Script) (state : State) (clock : Readings) → IsPlayed script state clock [] script state clock
+
+-- a command is played: its turn is made, and what follows its outcome is left
+abbrev pub CommandsArePlayed : Type 0
+CommandsArePlayed = (script : Script) (state : State) (clock : Readings) (made : List Turn) (request : Request) (shown : Outcome → Bool) (next : Outcome → Script) (now : State) (readings : Readings)
+    → IsPlayed script state clock made (asks request shown next) now readings
+    → IsPlayed script state clock (made ++ command_turn (stamped_by readings request) (shown (outcome_in now (stamped_by readings request))) (outcome_in now (stamped_by readings request)) ∷ [])
+    (next (outcome_in now (stamped_by readings request))) (state_then now (stamped_by readings request)) (later_of readings)
+
+-- a line that is no command is played
+abbrev pub ErrorsArePlayed : Type 0
+ErrorsArePlayed = (script : Script) (state : State) (clock : Readings) (made : List Turn) (number : ℕ) (why : LineFault) (next : Script) (now : State) (readings : Readings)
+    → IsPlayed script state clock made (errs number why next) now readings → IsPlayed script state clock (made ++ error_turn (line_fault_text number why) ∷ []) next now readings
+
+-- a text of the state is played
+abbrev pub TextsArePlayed : Type 0
+TextsArePlayed = (script : Script) (state : State) (clock : Readings) (made : List Turn) (text : State → List ℕ) (next : Script) (now : State) (readings : Readings)
+    → IsPlayed script state clock made (says text next) now readings → IsPlayed script state clock (made ++ text_turn (text now) ∷ []) next now readings
+
+-- a script that was played is played on
+abbrev pub PlayingGoesOn : Type 0
+PlayingGoesOn = (script : Script) (state : State) (clock : Readings) (made : List Turn) (left : Script) (now : State) (readings : Readings) (more : List Turn) (last : Script) (state_last : State) (clock_last : Readings)
+    → IsPlayed script state clock made left now readings → IsPlayed left now readings more last state_last clock_last → IsPlayed script state clock (made ++ more) last state_last clock_last
+
+-- of a script that was played up to some turns, the run that is cut there has these turns; then its names are closed
+abbrev pub PlayedRunsAreCut : Type 0
+PlayedRunsAreCut = (script : Script) (found : List Row) (limits : Bounds) (readings : Readings) (made : List Turn) (left : Script) (now : State) (readings_now : Readings)
+    → IsPlayed script (open_state found limits) (later_of readings) made left now readings_now
+    → ((cut_after (length made) (run_of script found limits readings)).turns ≡ made)
+    × (commands (cut_after (length made) (run_of script found limits readings)) ≡ commands_of made ++ closings (bound_names now) readings_now)
+
+-- and a script that was played to its end has them all
+abbrev pub PlayedRunsAreWhole : Type 0
+PlayedRunsAreWhole = (script : Script) (found : List Row) (limits : Bounds) (readings : Readings) (made : List Turn) (now : State) (readings_now : Readings)
+    → IsPlayed script (open_state found limits) (later_of readings) made ended now readings_now
+    → ((run_of script found limits readings).turns ≡ made) × (commands (run_of script found limits readings) ≡ commands_of made ++ closings (bound_names now) readings_now)
+
+-- of a script that was played so far, these commands come first in the run
+abbrev pub PlayedCommandsComeFirst : Type 0
+PlayedCommandsComeFirst = (script : Script) (found : List Row) (limits : Bounds) (readings : Readings) (made : List Turn) (left : Script) (now : State) (readings_now : Readings)
+    → IsPlayed script (open_state found limits) (later_of readings) made left now readings_now → (more : List Stamped) × (commands (run_of script found limits readings) ≡ commands_of made ++ more)
+
+-- and a command that is asked next is the next
+abbrev pub AskedCommandsAreNext : Type 0
+AskedCommandsAreNext = (script : Script) (found : List Row) (limits : Bounds) (readings : Readings) (made : List Turn) (request : Request) (shown : Outcome → Bool) (next : Outcome → Script) (now : State) (readings_now : Readings)
+    → IsPlayed script (open_state found limits) (later_of readings) made (asks request shown next) now readings_now
+    → (more : List Stamped) × (commands (run_of script found limits readings) ≡ commands_of made ++ stamped_by readings_now request ∷ more)
+
+-- a session makes fewer commands than its input has bytes: each has a line that isn't empty
+abbrev pub CommandsAreFew : Type 0
+CommandsAreFew = (number : ℕ) (bytes : List ℕ) (state : State) (clock : Readings) → 2 * length (commands_of (turns (session_script number (lines bytes)) state clock)) ≤ length bytes + 1
+
+-- Lines.
+
+-- bytes that come later are cut behind those that came before: whole lines stay, and what had no end goes on
+abbrev pub LinesGoOn : Type 0
+LinesGoOn = (cut : Cut) (bytes more : List ℕ) → (with_bytes cut (bytes ++ more) ≡ with_bytes (with_bytes cut bytes) more)
+    × ((with_bytes cut more).whole ≡ cut.whole ++ (with_bytes (record { whole = []; rest = cut.rest }) more).whole)
+    × ((with_bytes cut more).rest ≡ (with_bytes (record { whole = []; rest = cut.rest }) more).rest)
+
+-- the whole lines of the bytes that come first are the first lines
+abbrev pub WholeLinesComeFirst : Type 0
+WholeLinesComeFirst = (bytes more : List ℕ) → (later : List (List ℕ)) × (lines (bytes ++ more) ≡ whole_lines bytes ++ later)
+
+-- The closings.
+
+-- a name is bound, and no lesser one is
+pub record IsLeastBound (state : State) (name : ℕ) : Type 0 where
+  pub bound : is_some (named_by state name) ≡ true
+  pub least : (other : ℕ) → other < name → is_some (named_by state other) ≡ false
+
+-- the least bound name is closed first, and the names that are bound after its Close are the others
+abbrev pub LeastNamesAreClosedFirst : Type 0
+LeastNamesAreClosedFirst = (state : State) (clock : Readings) (name : ℕ) → IsValidState state → IsLeastBound state name
+    → closings (bound_names state) clock ≡ stamped_by clock (to_close name) ∷ closings (bound_names (state_then state (stamped_by clock (to_close name)))) (later_of clock)
+
+-- where none is bound none is closed
+abbrev pub NoneIsClosedWhereNoneIsBound : Type 0
+NoneIsClosedWhereNoneIsBound = (state : State) → ((name : ℕ) → is_some (named_by state name) ≡ false) → bound_names state ≡ []
+
+-- a Close gives its name free, and leaves the others as they are
+abbrev pub ClosesFreeTheirName : Type 0
+ClosesFreeTheirName = (state : State) (moment name : ℕ) → IsValidState state → is_some (named_by state name) ≡ true
+    → (state_then state (record { moment = moment; request = to_close name })).names ≡ slice_set state.names name None
+
+-- no more names are bound than there are
+abbrev pub BoundNamesAreFew : Type 0
+BoundNamesAreFew = (state : State) → IsValidState state → length (bound_names state) ≤ handle_names
+
+-- What the next opening finds.
+
+-- an entry that a command leaves as it is: it is safe, and its item is listed at each step of the command on the use list
+pub record IsLeftAlone (state : State) (command : Stamped) (item : Item) (row : Row) : Type 0 where
+  pub number : ℕ
+  pub owned : owner state item ≡ Some number
+  pub safe : is_safe state (state_then state command) number ≡ true
+  pub row_is : row_of state item ≡ Some row
+  pub listed : (count : ℕ) → count ≤ length (list_steps state command.moment command.request) → Contains (list_after state command.moment command.request count) item
+
+-- wherever a run is stopped once its folder is opened, each settled entry that the next command leaves as it is is found with its exact bytes
+abbrev pub SettledEntriesAreFound : Type 0
+SettledEntriesAreFound = (from : Image) (opened : State) (commands : List Stamped) (steps : List TrailStep) (image : Image) (command : Stamped) (item : Item) (row : Row) → IsStopped from opened commands steps image → has_opened steps ≡ true
+    → command_after commands (notes_in steps) ≡ Some command → IsLeftAlone (state_at opened commands (notes_in steps)) command item row → Contains (found image) row
+
+-- and where no command is left just what is at rest is found
+abbrev pub RestsAreFound : Type 0
+RestsAreFound = (from : Image) (opened : State) (commands : List Stamped) (steps : List TrailStep) (image : Image) → IsStopped from opened commands steps image → has_opened steps ≡ true
+    → command_after commands (notes_in steps) ≡ None → found image ≡ rest (state_at opened commands (notes_in steps))

@@ -1,0 +1,46 @@
+-- How far a run has come, and that its steps so far leave what they may.
+use Rattle.std.specs.Prelude.{ℕ, ◌≡◌, ◌≤◌, ◌+◌, List, [], ◌∷◌, ◌++◌, length, true}
+use Rattle.std.specs.Option.{ForSome}
+use Rattle.spec_image.specs.Image.{Image}
+use Rattle.spec_image.specs.Steps.{TrailStep}
+use Rattle.spec_image.specs.Told.{Told, Applies, Stays}
+use Rattle.spec_image.specs.Notes.{AlongFrom, AtEachFront, AreTrue, notes_in}
+use Rattle.blk_model.specs.Holding.{rest}
+use Rattle.blk_model.specs.State.{State}
+use Rattle.law_state.specs.Commands.{IsNoted}
+use Rattle.spec_folder.specs.Found.{found}
+use Rattle.spec_folder.specs.StandsFor.{StandsFor}
+use Rattle.spec_run.specs.Run.{Stamped, state_after, state_then}
+use Rattle.spec_run.specs.Moments.{IsStopped}
+use Rattle.spec_run.specs.Opening.{has_opened}
+
+-- the steps of a call that began with an image, where commands are made in turn: after each front of them the folder is as a stop may leave it, and the notes are true and no more than the commands
+pub record Stops (from : Image) (opened : State) (commands : List Stamped) (old new : Told) : Type 0 where
+  pub steps : List TrailStep
+  pub applies : Applies old new steps
+  pub stops : AtEachFront (IsStopped from opened commands) from steps
+  pub notes : AreTrue 0 steps
+  pub few : notes_in steps ≤ length commands
+
+-- a whole run: the folder was opened, each command has its note, and in the end what is at rest after them is found
+pub record IsWholeRun (from : Image) (opened : State) (commands : List Stamped) (old new : Told) : Type 0 where
+  pub stops : Stops from opened commands old new
+  pub opens : has_opened stops.steps ≡ true
+  pub noted : notes_in stops.steps ≡ length commands
+  pub holds : ForSome new.files (λ image. found image ≡ rest (state_after opened commands))
+
+-- the folder was opened and these commands are done, since a call began with an image: whatever commands follow, after each front of the steps the folder is as a stop may leave it, and now it stands for the state after the commands
+pub record Progress (from : Image) (opened : State) (done : List Stamped) (old new : Told) : Type 0 where
+  pub steps : List TrailStep
+  pub applies : Applies old new steps
+  pub opens : has_opened steps ≡ true
+  pub noted : notes_in steps ≡ length done
+  pub notes : AreTrue 0 steps
+  pub stands : ForSome new.files (λ image. StandsFor image (state_after opened done))
+  pub along : (commands more : List Stamped) → commands ≡ done ++ more → AlongFrom (IsStopped from opened commands) [] from steps
+
+-- commands were done in turn from a state, each noted, the first with this number
+abbrev pub AreNoted : Told → Told → State → ℕ → List Stamped → Type 0
+AreNoted old new state number [] = Stays old new
+AreNoted old new state number (command ∷ commands) =
+    (mid : Told) × IsNoted old mid command.moment command.request number state × AreNoted mid new (state_then state command) (number + 1) commands

@@ -1,0 +1,141 @@
+-- The run of a script over the map model.
+use Rattle.std.specs.Prelude.{ℕ, ◌+◌, Bool, false, true, ◌&&◌, if◌then◌else◌, List, [], ◌∷◌, ◌++◌, length, take, drop}
+use Rattle.std.specs.List.{filter_map, flat_map, list_any}
+use Rattle.std.specs.declared.option.Option.{Option}
+use Rattle.std.specs.declared.option.Option.TheVariants.{None, Some}
+use Rattle.blk_model.specs.Items.{Row}
+use Rattle.blk_model.specs.State.{State, Bounds}
+use Rattle.blk_model.specs.Holding.{open_state}
+use Rattle.blk_model.specs.Request.{Request, to_close}
+use Rattle.blk_model.specs.Step.{Outcome, step}
+use Rattle.blk_io.specs.Streams.{Readings, reading_of, later_of}
+use Rattle.blk_script.specs.Reply.{line_fault_text}
+use Rattle.spec_run.specs.Script.{Script, ended, errs, says, asks, is_refused, outcome_text}
+
+-- a command, with the clock's reading before it
+pub record Stamped : Type 0 where
+  pub moment : ℕ
+  pub request : Request
+
+-- the outcome of a command in a state
+abbrev pub outcome_in : State → Stamped → Outcome
+outcome_in state command = step state command.moment command.request
+
+-- the state after a command
+abbrev pub state_then : State → Stamped → State
+state_then state command = (outcome_in state command).state
+
+-- a turn of a run: the command, where it is one; what is printed; and whether that is a refusal or a fault
+pub record Turn : Type 0 where
+  pub command : Option Stamped
+  pub text : List ℕ
+  pub refuses : Bool
+
+-- the turn of a line that is no command
+abbrev pub error_turn : List ℕ → Turn
+error_turn text = record { command = None; text = text; refuses = true }
+
+-- the turn of a text of the state
+abbrev pub text_turn : List ℕ → Turn
+text_turn text = record { command = None; text = text; refuses = false }
+
+-- the turn of a command, whose reply is shown or not: a refusal that isn't shown doesn't count
+abbrev pub command_turn : Stamped → Bool → Outcome → Turn
+command_turn command shown outcome = record {
+  command = Some command;
+  text = if shown then outcome_text outcome else [];
+  refuses = shown && is_refused outcome;
+}
+
+-- a command at the next reading
+abbrev pub stamped_by : Readings → Request → Stamped
+stamped_by clock request = record { moment = reading_of clock; request = request }
+
+-- the turns of a script from a state on, with the readings to come: each command at the next reading
+unfoldable pub turns : Script → State → Readings → List Turn
+turns ended state clock = []
+turns (errs number why script) state clock = error_turn (line_fault_text number why) ∷ turns script state clock
+turns (says text script) state clock = text_turn (text state) ∷ turns script state clock
+turns (asks request shown script) state clock =
+    let command = stamped_by clock request in
+    let outcome = outcome_in state command in
+    command_turn command (shown outcome) outcome ∷ turns (script outcome) outcome.state (later_of clock)
+
+-- the commands of turns
+abbrev pub commands_of : List Turn → List Stamped
+commands_of turns = filter_map (λ turn. turn.command) turns
+
+-- what turns print
+abbrev pub text_of : List Turn → List ℕ
+text_of turns = flat_map (λ turn. turn.text) turns
+
+-- whether one of them is a refusal or a fault
+abbrev pub refuse : List Turn → Bool
+refuse turns = list_any (λ turn. turn.refuses) turns
+
+-- the state after commands
+unfoldable pub state_after : State → List Stamped → State
+state_after state [] = state
+state_after state (command ∷ commands) = state_after (state_then state command) commands
+
+-- the readings to come after so many commands
+abbrev pub clock_after : Readings → ℕ → Readings
+clock_after clock count = record { ahead = drop count clock.ahead; last = clock.last }
+
+-- The closings.
+
+-- the numbers of the slots in which a name is bound, counted from a number on
+abbrev pub bound_from : ℕ → List (Option ℕ) → List ℕ
+bound_from name [] = []
+bound_from name (None ∷ slots) = bound_from (name + 1) slots
+bound_from name (Some number ∷ slots) = name ∷ bound_from (name + 1) slots
+
+-- the bound handle names, the least first
+abbrev pub bound_names : State → List ℕ
+bound_names state = bound_from 0 state.names
+
+-- each of these names is closed, at the next reading
+unfoldable pub closings : List ℕ → Readings → List Stamped
+closings [] clock = []
+closings (name ∷ names) clock = stamped_by clock (to_close name) ∷ closings names (later_of clock)
+
+-- Runs.
+
+-- a run: the state that was opened, the readings to come, and the turns up to the closings
+pub record Run : Type 0 where
+  pub opened : State
+  pub clock : Readings
+  pub turns : List Turn
+
+-- the run of a script over what was found; the first reading was that of the opening
+abbrev pub run_of : Script → List Row → Bounds → Readings → Run
+run_of script found limits readings =
+    let opened = open_state found limits in
+    record { opened = opened; clock = later_of readings; turns = turns script opened (later_of readings) }
+
+-- the same run, ended after so many turns
+abbrev pub cut_after : ℕ → Run → Run
+cut_after count run = record { opened = run.opened; clock = run.clock; turns = take count run.turns }
+
+-- its commands, the closings last
+unfoldable pub commands : Run → List Stamped
+commands run =
+    let asked = commands_of run.turns in
+    asked ++ closings (bound_names (state_after run.opened asked)) (clock_after run.clock (length asked))
+
+-- the state after all of them
+abbrev pub last_state : Run → State
+last_state run = state_after run.opened (commands run)
+
+-- the state after the first n of some commands
+abbrev pub state_at : State → List Stamped → ℕ → State
+state_at opened commands n = state_after opened (take n commands)
+
+-- the first of commands, where there is one
+abbrev pub first_in : List Stamped → Option Stamped
+first_in [] = None
+first_in (command ∷ commands) = Some command
+
+-- the command after the first n of them, where there is one
+abbrev pub command_after : List Stamped → ℕ → Option Stamped
+command_after commands n = first_in (drop n commands)
