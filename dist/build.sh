@@ -3,7 +3,7 @@
 # that is proved, for later builds and for the gate.
 
 # How many bytes of the crates' folders one processor proves in a second: by it a first build is judged.
-bytes_a_second=3000
+bytes_a_second=2200
 
 # Lists the crates that the program stands on, each after those that it stands on, and last the program.
 declare -A below=() line_of=() seen=()
@@ -43,8 +43,8 @@ announce() {
     else
         bytes=$({ CDPATH= cd -- "$here/crates" && du -scb --exclude=out -- "${order[@]}"; } 2>/dev/null) || :
         bytes=${bytes##*$'\n'}
-        # (More than four at once gain little, as crates stand on one another.)
-        time=$((10#0${bytes%%[!0-9]*} / bytes_a_second / (at_once < 4 ? at_once : 4) / 60 + 1))
+        # (More than two at once gain little: the upper half of the crates is one chain, and memory holds two of its proofs.)
+        time=$((10#0${bytes%%[!0-9]*} / bytes_a_second / (at_once < 2 ? at_once : 2) / 60 + 1))
         time="the first time takes about $time min, judged by the size of the sources, and less where rt has proved some before"
     fi
     say "proving and building ${#order[@]} crates${why:+, since $why}, up to $at_once at once where memory holds them; $time"
