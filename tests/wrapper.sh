@@ -412,7 +412,7 @@ for it in INT:130 TERM:143 HUP:129; do
     is "${it%:*}: the output" '' "$(cat "$room/said")"
     is "${it%:*}: the last line" 'blkcache: interrupted; what is proved so far is kept' "$(tail -n 1 "$room/complained")"
     is "${it%:*}: nothing is left" $'*\n' "$(left)"$'\n'
-    is "${it%:*}: what was proved is kept" 'spec_image blk_run' "$(echo $(ls "$room/kept"))"
+    is "${it%:*}: what was proved is kept" 'blk_run spec_image' "$(echo $(ls "$room/kept"))"
     is "${it%:*}: rt has ended" no "$(does_rt_hang)"
 done
 
