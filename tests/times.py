@@ -155,15 +155,18 @@ def kind_of(row):
     return name, kind
 
 
-def parts_of(rows, log):
+def text_of(log):
+    with open(log, errors="replace") as it:
+        return it.read()
+
+
+def parts_of(rows, said):
     """Returns the parts by crate and kind."""
     parts = collections.defaultdict(Part)
     for row in rows:
         key = kind_of(row)
         if key:
             parts[key].add(row)
-    with open(log, errors="replace") as it:
-        said = it.read()
     for name, tests in re.findall(r"^rt: (\w+)(: its tests are)? proved$", said, re.M):
         parts[name, "tests" if tests else "proof"].is_whole = True
     for name in re.findall(r"^rt: must-fail (\w+)/", said, re.M):
@@ -219,13 +222,12 @@ def cell(part, began):
     return f"{part.seconds:.0f}{'' if part.is_whole else '+'} ({clock(part.began - began)} to {clock(part.ended - began)})"
 
 
-def head(log, told):
-    """Returns the line above the table."""
-    with open(log, errors="replace") as it:
-        said = re.findall(r"^\d+ passed, \d+ failed$", it.read(), re.M)
+def head(said, told):
+    """Returns what was told of a run."""
+    said = re.findall(r"^\d+ passed, \d+ failed$", said, re.M)
     said = said[-1] if said else "not to its end"
     lasted = (told["ended"] - told["began"]) / 60
-    text = f"`rt ci` from nothing: {said}. It took {lasted:.0f} minutes of the clock and {told['spent'] / 60:.0f} processor minutes"
+    text = f"{said}, in {lasted:.0f} minutes of the clock and {told['spent'] / 60:.0f} processor minutes"
     if "busy" in told:
         text += f" on {told['processors']} processors, which were busy for {told['busy'] / 60:.0f} minutes with all that ran"
     return text + "."
@@ -241,18 +243,20 @@ def cells_of(parts, name, began):
     return [f"`{name}`", *[cell(it, began) for it in found[:2]], count + cell(edits, began)]
 
 
-def table(log, samples):
-    """Returns the table and what stands around it."""
-    rows, told = read(samples)
-    parts = parts_of(rows, log)
+def table(*files):
+    """Returns the table and what stands around it, of runs of which each took what those before it had proved: a log and samples for each."""
+    runs = [(text_of(log), *read(samples)) for log, samples in zip(files[::2], files[1::2])]
+    parts = parts_of([row for _, rows, _ in runs for row in rows], "\n".join(said for said, _, _ in runs))
+    began, spent = min(told["began"] for _, _, told in runs), sum(told["spent"] for _, _, told in runs)
     sums = [sum(part.seconds for (_, it), part in parts.items() if it == kind) for kind in KINDS]
-    lines = [head(log, told), "", "| Crate | Proof | Proof of its tests | Edits |", "|---|---|---|---|"]
-    lines += [f"| {' | '.join(it)} |" for it in (cells_of(parts, name, told["began"]) for name in crates()) if it]
+    whats = ["`rt ci` from nothing"] if len(runs) == 1 else ["A run of `rt ci` from nothing", *["one over what was proved before"] * (len(runs) - 1)]
+    lines = [*[f"{what}: {head(said, told)}" for what, (said, _, told) in zip(whats, runs)], "", "| Crate | Proof | Proof of its tests | Edits |", "|---|---|---|---|"]
+    lines += [f"| {' | '.join(it)} |" for it in (cells_of(parts, name, began) for name in crates()) if it]
     lines.append(f"| **Together** | {sums[0]:.0f} | {sums[1]:.0f} | {sum(it.edits for it in parts.values())}: {sums[2]:.0f} |")
     seconds, steps = longest_way(parts)
     whose = {"proof": "", "tests": " (its tests)", "edits": " (its edits)"}
     way = ", ".join(f"`{name}`{whose[kind]}" for name, kind in steps)
-    lines += ["", *LEGEND, "", f"All else (layout, running programs and tests): {max(told['spent'] - sum(sums), 0):.0f}."]
+    lines += ["", *LEGEND, "", f"All else (layout, running programs and tests): {max(spent - sum(sums), 0):.0f}."]
     lines += [f"**The longest way**: {seconds / 60:.1f} processor minutes, {way}."]
     return "\n".join(lines)
 
@@ -270,13 +274,13 @@ def put_into(file, text):
 def main(words):
     if words[:1] == ["--gate"] and len(words) >= 3:
         return run_gate(words[1], words[2], words[3:])
-    if words[:1] == ["--into"] and len(words) == 4:
+    if words[:1] == ["--into"] and len(words) >= 4 and len(words) % 2 == 0:
         put_into(words[1], table(*words[2:]))
         return 0
-    if len(words) == 2:
+    if words and len(words) % 2 == 0 and not words[0].startswith("--"):
         print(table(*words))
         return 0
-    print("tests/times --gate LOG SAMPLES [COMMAND..], tests/times LOG SAMPLES, or tests/times --into FILE LOG SAMPLES", file=sys.stderr)
+    print("tests/times --gate LOG SAMPLES [COMMAND..], tests/times LOG SAMPLES.., or tests/times --into FILE LOG SAMPLES..", file=sys.stderr)
     return 2
 
 
