@@ -1,6 +1,6 @@
 # With BLKCACHE_ERASE=1 what is removed is gone: no byte of it stands in any file of the folder, also behind a kill and the next opening.
 # Without it the bytes are found. ERASE_KILLS says how many places of a kill are tried of each word, in even steps from the first to the
-# last, and always the same ones: 24; or all, those before each write, behind its first word, midway and before its last; or words, those
+# last, and always the same ones: 16; or all, those before each write, behind its first word, midway and before its last; or words, those
 # between any two words that are written. ERASE_SEED is what the script is drawn from.
 . "$(dirname "${BASH_SOURCE[0]}")/common.sh"
 
@@ -10,7 +10,7 @@ for tool in awk grep basenc; do
         finish
     }
 done
-places_of_each=${ERASE_KILLS:-24}
+places_of_each=${ERASE_KILLS:-16}
 seed=${ERASE_SEED:-$RANDOM}
 
 # Letters and digits that are drawn, so that no 16 of them stand anywhere by chance. Each secret begins at a multiple of 16, and is found
@@ -478,6 +478,8 @@ places=0
 # Shows that nothing of what was removed is left in a folder, and that the entries that stay have their bytes: NAME FOLDER
 is_clean() {
     local sum
+    # How many sessions there were is no matter.
+    patch "$2/index" 20 '\0\0\0\0'
     sum=$(sha256sum -- "$2"/*)
     [ -n "${looked[$sum]-}" ] ||
         looked[$sum]="$(left_in "$2") $(blocks_left_in "$2") $(behind_ends_in "$2") $(told_of "$2" "${stay[@]}" | cksum)"
