@@ -395,14 +395,19 @@ is 'README: the examples' '' "$(wrong_examples "$readme" "$came")"
 is 'README: there are examples' 0 $?
 plant "$readme" 'main greeting 6 0 0' 'main greeting 7 0 0'
 is 'planted: another output in README' "'main greeting 7 0 0' on the page, 'main greeting 6 0 0' by the program" "$(wrong_examples "$room/planted" "$came")"
-came=$(run_examples "$manual")
-is 'the manual page: the examples' '' "$(wrong_examples "$manual" "$came")"
 [ "$(examples_of "$manual" | count_like '$ *')" -ge 10 ]
 is 'the manual page: there are examples' 0 $?
-plant "$manual" 'refused 5 BadStream' 'refused 6 BadStream'
-is 'planted: another output in the manual page' "'refused 6 BadStream' on the page, 'refused 5 BadStream' by the program" "$(wrong_examples "$room/planted" "$came")"
-plant "$manual" 'evicted page' 'evicted page'$'\n''evicted page'
-is 'planted: a line too many in the manual page' "'evicted page' on the page, 'evicted s' by the program" "$(wrong_examples "$room/planted" "$came")"
+# (reset takes the lock of the folder by flock)
+if type -P flock >/dev/null; then
+    came=$(run_examples "$manual")
+    is 'the manual page: the examples' '' "$(wrong_examples "$manual" "$came")"
+    plant "$manual" 'refused 5 BadStream' 'refused 6 BadStream'
+    is 'planted: another output in the manual page' "'refused 6 BadStream' on the page, 'refused 5 BadStream' by the program" "$(wrong_examples "$room/planted" "$came")"
+    plant "$manual" 'evicted page' 'evicted page'$'\n''evicted page'
+    is 'planted: a line too many in the manual page' "'evicted page' on the page, 'evicted s' by the program" "$(wrong_examples "$room/planted" "$came")"
+else
+    skip 'the examples of the manual page' 'flock is missing'
+fi
 
 # Each list stands in the manual page; the others have the same, or what they are to have of it.
 help=$("$repository/blkcache" --help)

@@ -421,7 +421,7 @@ for limits in '--max 400000 --items 12' '--max 9000000 --items 60'; do
         done >"$room/all$erasing"
         : >"$room/input"
     done
-    is "a script that is drawn, $limits (ERASE_SEED=$seed)" '' "$(cmp "$room/all0" "$room/all1" 2>&1)"
+    is "a script that is drawn, $limits (ERASE_SEED=$seed)" '' "$(are_same "$room/all0" "$room/all1" || echo 'other replies')"
     is "a script that is drawn, $limits: no block that is free holds a byte (ERASE_SEED=$seed)" 0 "$(blocks_left_in "$room/drawn1")"
     is "a script that is drawn, $limits: the control" yes "$([ "$(blocks_left_in "$room/drawn0")" -gt 0 ] && echo yes)"
     run "$room/drawn1" trim 0

@@ -84,7 +84,7 @@ if is_nonblocking 7 && is_nonblocking 8; then
     sleep 1
     cat <&9 >"$room/waited"
     wait
-    is 'streams that do not block: the status, and all replies' '0 same' "$(cat "$room/status" "$room/complained") $(cmp "$room/said" "$room/waited" && echo same)"
+    is 'streams that do not block: the status, and all replies' '0 same' "$(cat "$room/status" "$room/complained") $(are_same "$room/said" "$room/waited" && echo same)"
 else
     skip 'streams that do not block' 'dd or /proc cannot make and tell them'
 fi

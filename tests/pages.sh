@@ -164,12 +164,12 @@ cp -r docs crates.txt "$room/copy"
 echo 'blk_nowhere: blk_io' >>"$room/copy/crates.txt"
 is 'refused: a crate that is nowhere' $'no blk_nowhere in the picture\nno blk_nowhere in the table' "$(look_for "$room/copy" | grep blk_nowhere)"
 
-if command -v python3 >/dev/null; then
+if command -v python3 >/dev/null && command -v diff >/dev/null; then
     python3 -B docs/make-reference "$room/reference"
     is 'the reference is that of the sources' '' "$(diff -r docs/reference "$room/reference")"
     sed -i '0,/^- /s/^- .*/- `gone()`: Gone./' "$room/reference/calls.md"
     is 'refused: a reference of other sources' 1 "$(diff -rq docs/reference "$room/reference" >/dev/null; echo $?)"
 else
-    skip 'the reference of the sources' 'there is no python3'
+    skip 'the reference of the sources' 'python3 or diff is missing'
 fi
 finish
