@@ -555,7 +555,7 @@ END
 # --prove builds whatever there is, and tells in its last line whether the program is the one at hand.
 lay
 wrap --prove
-is '--prove builds, and finds the same program' "0 proved, 4 of 4 crates anew; the program is the same, byte for byte, as $hand/blkcache $((total + 1))" "$status $said $(wc -l <"$room/complained")"
+is '--prove builds, and finds the same program' "0 proved, 0 of 4 crates anew; the program is the same, byte for byte, as $hand/blkcache $((total + 1))" "$status $said $(wc -l <"$room/complained")"
 is '--prove runs the program on no folder' no "$([ -e "$room/ran" ] && echo yes || echo no)"
 wrap --prove
 is '--prove builds once more' "0 $((total + 1))" "$status $(wc -l <"$room/complained")"
@@ -565,10 +565,10 @@ wrap --program
 is '--program names what was built' "0 $out/blkcache" "$status $said$complained"
 other_byte
 wrap --prove
-is '--prove finds another program' "1 proved, 4 of 4 crates anew; the program is not the same as $hand/blkcache" "$status $said"
+is '--prove finds another program' "1 proved, 0 of 4 crates anew; the program is not the same as $hand/blkcache" "$status $said"
 rm "$hand/SOURCES"
 wrap --prove
-is '--prove finds none' "1 proved, 4 of 4 crates anew; there is no $hand/blkcache with its SOURCES to compare with" "$status $said"
+is '--prove finds none' "1 proved, 0 of 4 crates anew; there is no $hand/blkcache with its SOURCES to compare with" "$status $said"
 lay
 rm "$hand/blkcache"
 wrap --program
