@@ -1,7 +1,8 @@
-# The pages say nothing that isn't there. Refused in README.md, CONTRIBUTING.md and docs/*.md: a link that leads nowhere, a path that no file
-# has, a code word that names nothing, and one that isn't in the file in which it is said to stand; a crate that the picture or the table
-# of docs/ARCHITECTURE.md lacks; and pages of docs/reference that aren't what docs/make-reference makes of the sources. Each kind is shown to
-# be refused. It needs awk, find, grep, sed and xargs.
+# The pages say nothing that isn't there. Refused in README.md, CONTRIBUTING.md, CHANGELOG.md and docs/*.md: a link that leads nowhere, a path
+# that no file has, a code word that names nothing, one that isn't in the file in which it is said to stand (of a name without its crate: in
+# no file of that name), and a label that the call of which it is said doesn't have; a place that is left to fill; a crate that the picture or
+# the table of docs/ARCHITECTURE.md lacks; and pages of docs/reference that aren't what docs/make-reference makes of the sources. Each kind is
+# shown to be refused. It needs awk, find, grep, sed and xargs.
 . "$(dirname "${BASH_SOURCE[0]}")/common.sh"
 
 # Code words that name nothing of the repository: calls, flags, signals and errors of the system.
@@ -35,7 +36,7 @@ look_at() (
     cd "$1" || exit
     shift
     : >"$room/pairs"
-    awk -v names="$room/names" -v files="$room/files" -v anchors="$room/anchors" -v pairs="$room/pairs" '
+    awk -v names="$room/names" -v files="$room/files" -v anchors="$room/anchors" -v labels="$room/labels" -v pairs="$room/pairs" '
         function load(list, into,   line) { while ((getline line < list) > 0) { sub(/^-+/, "", line); into[line] } }
         function say(what) { print FILENAME ":" FNR ": " what }
         # A page of a link, from the folder of the page that has it on.
@@ -78,12 +79,30 @@ look_at() (
             n = split(span, words, /[^A-Za-z0-9_\047-]+/)
             for (i = 1; i <= n; i++) if ((one || words[i] ~ /[a-z0-9]_[a-z0-9]|[a-z][A-Z]/) && is_wrong(words[i])) say("no " words[i])
         }
-        # Words in a file that is named by its crate: the file has them, as the place from which they are told.
+        # Words in a file that is named by its crate: the file has them, as the place from which they are told. One that is named without its crate
+        # stands for all of that name, as a file of definitions without its ending.
         function find(text,   spans, n, i, file) {
             n = split(text, spans, "`")
-            file = "crates/" spans[n - 1]
-            if (!(file in file_at)) return
+            file = spans[n - 1]
+            if (file ~ /\//) { file = "crates/" file; if (!(file in file_at)) return }
+            else if (file ~ /\./) file = "*/" file
+            else if ((file ".antt") in defining) file = "*/" file ".antt"
+            else return
             for (i = 2; i < n - 1; i += 2) { sub(/.*::/, "", spans[i]); print FILENAME ":" FNR "\t" spans[i] "\t" file > pairs }
+        }
+        # Labels of calls: of those calls that the reference has, some one has the label.
+        function ask(text,   sides, given, calls, n, m, i, j, asked, had) {
+            split(text, sides, " of ")
+            n = split(sides[1], given, "`"); m = split(sides[2], calls, "`")
+            for (i = 2; i < n; i += 2) {
+                if (given[i] !~ /^[a-z_]+$/) return
+                asked = had = 0
+                for (j = 2; j < m; j += 2) {
+                    if ((calls[j] " later") in label_at) asked = 1
+                    if ((calls[j] " " given[i]) in label_at) had = 1
+                }
+                if (asked && !had) say("no label " given[i] " of " calls[2])
+            }
         }
         function follow(link,   page, anchor) {
             if (link ~ /:\/\//) return
@@ -92,13 +111,17 @@ look_at() (
             if (!(page in file_at)) say("no file " link)
             else if (anchor != "" && !((page "#" anchor) in anchor_at)) say("no heading " link)
         }
-        BEGIN { load(names, known); load(files, file_at); load(anchors, anchor_at) }
+        BEGIN {
+            load(names, known); load(files, file_at); load(anchors, anchor_at); load(labels, label_at)
+            for (file in file_at) if (file ~ /\/specs\//) { sub(/.*\//, "", file); defining[file] }
+        }
         FNR == 1 { fenced = 0 }
         /^ *```/ { fenced = !fenced; next }
         fenced { next }
         {
             for (rest = $0; match(rest, /`[^`]+`/); rest = substr(rest, RSTART + RLENGTH)) look(substr(rest, RSTART + 1, RLENGTH - 2))
-            for (rest = $0; match(rest, /(`[^` ]+`(, | and )?)+ in `[A-Za-z0-9_\/]+\.(rt|antt)`/); rest = substr(rest, RSTART + RLENGTH)) find(substr(rest, RSTART, RLENGTH))
+            for (rest = $0; match(rest, /(`[^` ]+`(, | and )?)+ in `([A-Za-z0-9_\/]+\.(rt|antt)|[A-Z][A-Za-z]+)`/); rest = substr(rest, RSTART + RLENGTH)) find(substr(rest, RSTART, RLENGTH))
+            for (rest = $0; match(rest, /(`[^` ]+`(, | and )?)+ of `[A-Za-z_:]+`((, | and )`[A-Za-z_:]+`)*/); rest = substr(rest, RSTART + RLENGTH)) ask(substr(rest, RSTART, RLENGTH))
             for (rest = $0; match(rest, /\]\([^) ]+\)/); rest = substr(rest, RSTART + RLENGTH)) follow(substr(rest, RSTART + 2, RLENGTH - 3))
             rest = $0
             gsub(/`[^`]*`|\]\([^)]*\)/, " ", rest)
@@ -110,8 +133,30 @@ look_at() (
                 }
         }' "$@"
     while IFS=$'\t' read -r at word file; do
-        grep -qwF -- "$word" "$top/$file" || echo "$at: no $word in $file"
+        case $file in
+            '*/'*) grep -qwsF -- "$word" "$top"/crates/*/src/"${file#*/}" "$top"/crates/*/specs/"${file#*/}" || echo "$at: no $word in ${file#*/}" ;;
+            *) grep -qwF -- "$word" "$top/$file" || echo "$at: no $word in $file" ;;
+        esac
     done <"$room/pairs"
+)
+
+# Prints the calls and laws of the reference, each with each of its labels, with those that the reference leaves out, and without its type too.
+print_labels() {
+    awk '
+        function put(name) { print name " " label; if (sub(/.*::/, "", name)) print name " " label }
+        /^- `/ {
+            name = substr($0, 4); sub(/[`(<].*/, "", name)
+            text = match($0, /\*[^*]*\*$/) ? substr($0, RSTART, RLENGTH) : ""
+            n = split("later device sink_later later_out printed_later untold silent " text, all, /[^a-z_]+/)
+            for (i = 1; i <= n; i++) if (all[i] != "") { label = all[i]; put(name) }
+        }' docs/reference/*.md
+}
+
+# Prints the places of pages that are left to fill: look_open FOLDER PAGE..
+look_open() (
+    cd "$1" || exit
+    shift
+    grep -nwE '[A-Z]+_MINUTES|TODO' "$@"
 )
 
 # Prints which crates of crates.txt have no place in the picture, between two marker lines, and which have no row in a table: look_for FOLDER
@@ -134,15 +179,17 @@ look_for() {
 
 find . \( -name .git -o -name out \) -prune -o -print | sed 's:^\./::' >"$room/files"
 print_names >"$room/names"
+print_labels >"$room/labels"
 awk '
     FNR == 1 { fenced = 0 }
     /^ *```/ { fenced = !fenced }
     !fenced && /^#+ / { sub(/^#+ +/, ""); $0 = tolower($0); gsub(/[^a-z0-9 _-]/, ""); gsub(/ /, "-"); print FILENAME "#" $0 }' \
     ./*.md docs/*.md docs/reference/*.md | sed 's:^\./::' >"$room/anchors"
 
-look_at "$top" README.md CONTRIBUTING.md docs/*.md >"$room/wrong"
+look_at "$top" README.md CONTRIBUTING.md CHANGELOG.md docs/*.md >"$room/wrong"
 cat "$room/wrong"
 is 'the pages name what there is' 0 "$(wc -l <"$room/wrong")"
+is 'no page has a place left to fill' '' "$(look_open "$top" README.md CONTRIBUTING.md CHANGELOG.md docs/*.md)"
 is 'each crate has its place in docs/ARCHITECTURE.md' '' "$(look_for "$top")"
 
 # A page that has a line more is refused: planted WHAT LINE WANTED
@@ -159,7 +206,15 @@ planted 'a source of no crate' 'It is in `blk_run/src/no_such.rt`.' 'no file blk
 planted 'a word that names nothing' 'It calls `no_such_function`.' 'no no_such_function'
 planted 'a word that names nothing, among others' 'It says `IsNoSuchThing from old`.' 'no IsNoSuchThing'
 planted 'a word that another file has' 'It is `walk` in `blk_run/src/top.rt`.' 'no walk in crates/blk_run/src/top.rt'
+planted 'a word that no file of that name has' 'It is `last_unpinned` in `opening.rt`.' 'no last_unpinned in opening.rt'
+planted 'a word that another file of definitions has' 'It is `evicted_until` in `Sizes`.' 'no evicted_until in Sizes.antt'
+planted 'a label of another call' 'The clause `mended` of `run` says so.' 'no label mended of run'
+planted 'a label of another law' 'It is `rests` of `refusals_change_nothing`.' 'no label rests of refusals_change_nothing'
 planted 'an option that there is not' 'Call it with `--nosuchoption`.' 'no --nosuchoption'
+for it in 'It takes FOUR_MINUTES.' 'TODO: more.'; do
+    printf '%s\n' "$it" >"$room/copy/docs/ARCHITECTURE.md"
+    is "refused: a place left to fill, ${it%% *}" "docs/ARCHITECTURE.md:1:$it" "$(look_open "$room/copy" docs/ARCHITECTURE.md /dev/null)"
+done
 cp -r docs crates.txt "$room/copy"
 echo 'blk_nowhere: blk_io' >>"$room/copy/crates.txt"
 is 'refused: a crate that is nowhere' $'no blk_nowhere in the picture\nno blk_nowhere in the table' "$(look_for "$room/copy" | grep blk_nowhere)"
