@@ -34,7 +34,7 @@ LINES = [
     ("Close of a changed object", "close 0"),
     ("Open at the front of the list", "open 0 new"),
     ("Close of an unchanged object", "close 0"),
-    ("Open in the midst of the list", f"open 0 {KEY.format(500)}"),
+    ("Open in the middle of the list", f"open 0 {KEY.format(500)}"),
     ("Read at the front of the list", "read 0 0 0 100"),
     ("Write over 10 bytes of a clean object", f"write 0 0 0 {digits(10)}"),
     ("Size", "size 0 0"),

@@ -1,4 +1,4 @@
-# Nothing outside the folder is read or written: links and second names of cache files are refused, before a run and in the midst of one.
+# Nothing outside the folder is read or written: links and second names of cache files are refused, before a run and during one.
 # OUTSIDE_OPENINGS says how many openings of each name are made beside a program that swaps it. Without it there are ten thousand of an
 # external file, which sessions open again and again, and some hundreds of each other, which take a run each.
 . "$(dirname "${BASH_SOURCE[0]}")/common.sh"
@@ -115,8 +115,8 @@ for what in 'a hard link' 'a link' 'a link to nothing' 'a FIFO'; do
         # Of the reply to the read no more than its front is printed, without a byte of data.
         front=
         [[ $line != read* ]] || front='data 9'
-        is "$what in the midst of a session, $line" "3 $front" "$status $reply"
-        is "$what in the midst of a session, $line: what is outside" "$before" "$(both "$elsewhere")"
+        is "$what during a session, $line" "3 $front" "$status $reply"
+        is "$what during a session, $line: what is outside" "$before" "$(both "$elsewhere")"
     done
 done
 
@@ -136,10 +136,10 @@ for name in index data_0 data_1 data_2 data_3; do
             replies+="$reply, "
         done
         ends
-        is "$what as $name in the midst of a session, which goes on" '0 ok 2, ok 1, ok, ok 3, ok 2000, ok 10000, ok, ok, ok, ' "$status $replies"
-        is "$what as $name in the midst of a session: what is outside" "$before" "$(both "$elsewhere")"
+        is "$what as $name during a session, which goes on" '0 ok 2, ok 1, ok, ok 3, ok 2000, ok 10000, ok, ok, ok, ' "$status $replies"
+        is "$what as $name during a session: what is outside" "$before" "$(both "$elsewhere")"
         run "$room/try" count
-        is "$what as $name in the midst of a session, and the next word" '3 ' "$status $said$complained"
+        is "$what as $name during a session, and the next word" '3 ' "$status $said$complained"
         is "$what as $name, and the next word: what is outside" "$before" "$(both "$elsewhere")"
     done
 done
