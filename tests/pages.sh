@@ -62,7 +62,7 @@ look_at() (
         function is_name(word,   parts, n, i) {
             if (word in known) return 1
             n = split(word, parts, "-")
-            for (i = 1; i <= n; i++) if (parts[i] != "" && !(parts[i] in known)) return 0
+            for (i = 1; i <= n; i++) if (parts[i] != "" && parts[i] !~ /^[0-9]/ && !(parts[i] in known)) return 0
             return n > 1
         }
         # Numbers, hexadecimal ones too, and words in capitals, which stand for others, name nothing.

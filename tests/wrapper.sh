@@ -235,8 +235,13 @@ total=4
 
 # What the program gets beside its words: how long it waits, what its caller set, and a limit of the size of files as a failed write.
 surrounded() {
+    local signal ignored=
+    for signal in XFSZ TERM INT HUP PIPE; do
+        # (what was ignored before this script began stays so)
+        [ "$signal" != XFSZ ] && [ -z "$("$BASH" -c "trap -p $signal")" ] || ignored+=" trap -- '' SIG$signal"
+    done
     wrap "${@:2}" "$folder" surroundings
-    is "what surrounds the program, ${*:2}" "0 $1 trap -- '' SIGXFSZ" "$status $said"
+    is "what surrounds the program, ${*:2}" "0 $1$ignored" "$status $said"
 }
 surrounded '[unset] [unset]'
 for it in 0 7 999999999; do
