@@ -121,13 +121,15 @@ is 'a first reply that is not printed leaves all but 65536 bytes of the input' '
 
 # A reply is there before the next line is given.
 coproc talk { "$program" "$room/pieces" session 2>"$room/complained"; }
+# (bash forgets them once the program has ended)
+talk_in=${talk[1]} talk_id=$talk_PID
 echo 'create 0 a' >&"${talk[1]}"
 read -r -t 20 first <&"${talk[0]}"
 echo 'total' >&"${talk[1]}"
 read -r -t 20 second <&"${talk[0]}"
 is 'each reply comes before the next line' 'ok, total 1 1' "$first, $second"
-eval "exec ${talk[1]}>&-"
-wait "$talk_PID"
+eval "exec $talk_in>&-"
+wait "$talk_id"
 is 'and the session ends with its input' 0 $?
 
 # The refusals, each with the name 0 bound to a.
