@@ -32,10 +32,20 @@ minutes() {
     printf -v "$2" '%d.%d' $((tenths / 10)) $((tenths % 10))
 }
 
+# Counts the crates that are proved at once: one a processor, where there are three gigabytes of free memory for each, and one at the least.
+# (rt reckons twice of what a proof here takes, and gives a lone crate more processors, by which it takes half again as much of them in all.)
+count_lanes() {
+    local name kilobytes rest
+    at_once=$(nproc)
+    while read -r name kilobytes rest; do
+        [ "$name" != MemAvailable: ] || [ $((kilobytes / 3000000)) -ge "$at_once" ] || at_once=$((kilobytes / 3000000))
+    done </proc/meminfo
+    [ "$at_once" -ge 1 ] || at_once=1
+}
+
 # Says what comes, and about how long it takes.
 announce() {
-    local took='' anew='' time bytes at_once
-    at_once=$(nproc)
+    local took='' anew='' time bytes
     { read -r took anew <"$out/build.times"; } 2>/dev/null || :
     if [[ $took == +([0-9]) && $anew == +([0-9]) ]]; then
         minutes "$took" time
@@ -141,7 +151,7 @@ hear() {
 run_rt() {
     local line lines status=0
     earlier=${!-}
-    exec {lines}< <({ CDPATH= cd -- "$top" && exec rt ci; } </dev/null 2>&1)
+    exec {lines}< <({ CDPATH= cd -- "$top" && RT_JOBS=$at_once exec rt ci; } </dev/null 2>&1)
     echo "$!" 2>/dev/null >"$stage/process" || :
     while IFS= read -r line <&"$lines" || [ -n "$line" ]; do
         printf '%s\n' "$line" 2>/dev/null >>"$stage/log" || :
@@ -185,7 +195,7 @@ fail() {
 
 # Proves and builds all.
 build() {
-    local earlier=${!-} held='' stage='' top made failed='' told=0 anew=0 waited
+    local earlier=${!-} held='' stage='' top made failed='' told=0 anew=0 waited at_once
     type -P rt >/dev/null || fail "${why:-there is no program}, and there is no rt here to build it"
     [ $((BASH_VERSINFO[0] * 100 + BASH_VERSINFO[1])) -ge 501 ] || fail 'to build, bash 5.1 is needed'
     trap 'stop 129' HUP
@@ -205,6 +215,7 @@ build() {
     stage=$(CDPATH= cd -- "$out" && pwd)/proving.$$
     top=$stage/top made=$stage/top/crates/blkcache/out/blkcache
     list_crates
+    count_lanes
     announce
     copy
     # The program is of the commit's crates where the copy is, whatever is changed from now on.
