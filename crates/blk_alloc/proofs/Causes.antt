@@ -1,4 +1,4 @@
--- Why a header is damaged, in a folder that tells nothing.
+-- Why a header is corrupt, in a folder that tells nothing.
 use Rattle.std.proofs.Common.{◌≡◌, ℕ, Bool, inl, inr, Option, None, Some, Result, Ok, Err, refl, sym, ◌∙◌, ⊎_elim}
 use Rattle.std.specs.Option.{option_map}
 use Rattle.spec_image.specs.Image.{Image}

@@ -10,7 +10,7 @@ pub enum OpenFault {
     Device,
     /// What the folder holds failed a check.
     Damaged(Damage),
-    /// There was too little memory. Nothing was written.
+    /// Out of memory. Nothing was written.
     Memory,
 }
 

@@ -19,8 +19,8 @@ use blk_io::{Failed, Fault, FileId, Folder, read_exact};
 impl BlockFiles {
     /// Reads bytes of the blocks of an address, from a place among them on.
     ///
-    /// Too few bytes are a damage: it has the place of the read, and finds how many bytes there were.
-    /// `Device` comes only where the folder failed in this call.
+    /// Too few bytes are corruption: the error has the place of the read, and finds how many bytes there were. `Device`
+    /// comes only where the folder failed in this call.
     pub fn read_block<F: Folder>(
         &self,
         f: &mut F,
@@ -46,7 +46,7 @@ impl BlockFiles {
 
     /// Writes bytes over the blocks of an address, from a place among them on, one word after another.
     ///
-    /// `Failed` comes only where the folder failed in this call; a front of the words has then lasted.
+    /// `Failed` comes only where the folder failed in this call; a prefix of the words has then lasted.
     pub fn write_block<F: Folder>(
         &self,
         f: &mut F,

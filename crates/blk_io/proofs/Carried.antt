@@ -20,13 +20,13 @@ carried {A} {B} r (Err x) e P is same holds =
     of_fault Device at = tt
     of_fault (Damaged damage) at = at
 
--- what a damage says under a premise
+-- what a failed check says under a premise
 pub if_damaged : {A : Type 0} (r : Result A Fault) (B : Type 0) (P : Damage → Type 0) → (B → IfDamaged r P) → IfDamaged r (λ damage. B → P damage)
 if_damaged {A} (Ok a) B P holds = tt
 if_damaged {A} (Err Device) B P holds = tt
 if_damaged {A} (Err (Damaged damage)) B P holds = holds
 
--- what a damage says, from what it says
+-- what a failed check says, from what it says
 pub if_damaged_weaker : {A : Type 0} (r : Result A Fault) (P Q : Damage → Type 0) → ((damage : Damage) → P damage → Q damage) → IfDamaged r P → IfDamaged r Q
 if_damaged_weaker {A} (Ok a) P Q weaker holds = tt
 if_damaged_weaker {A} (Err Device) P Q weaker holds = tt

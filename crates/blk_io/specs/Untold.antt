@@ -3,7 +3,7 @@ use Rattle.std.specs.Prelude.{◌≡◌, None, Some}
 use Rattle.spec_image.specs.Image.{Image}
 use Rattle.spec_image.specs.Told.{Told, AgreesWithTrail, TellsBytes}
 
--- neither files nor a trail
+-- neither files nor a write trace
 abbrev pub untold : Told
 untold = record { files = None; trail = None }
 

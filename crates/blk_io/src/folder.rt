@@ -77,7 +77,7 @@ impl fmt::Display for Failed {
 
 impl Error for Failed {}
 
-/// There was no memory. Nothing was changed.
+/// Out of memory. Nothing was changed.
 #[derive(Clone, Copy, Debug, PartialEq, Eq)]
 pub struct NoMemory;
 

@@ -1,4 +1,4 @@
--- An entry that is written comes into the use list and in front of its chain.
+-- An entry that is written comes into the LRU list and in front of its chain.
 use Rattle.std.proofs.Common.{◌≡◌, ◌⊎◌, ℕ, List, ◌∷◌, ◌++◌, Option, None, Some, sym, ◌∙◌, ap, subst, true, ⊎_elim}
 use Rattle.std.specs.Prelude.{◌==◌}
 use Rattle.std.specs.Option.{ForSome, option_map}
@@ -28,7 +28,7 @@ use Rattle.blk_object.proofs.KeptNewEntries.{new-can-be-linked}
 use Rattle.blk_object.specs.Making.{CanBeListed, FindsUntilListed, IsListed}
 use Rattle.blk_object.proofs.MakingTaken.{none-before, told-mid}
 
--- what is among the records is one that stands
+-- what is among the records is one that is there
 pub record-parts : (files : BlockFiles) (w : ℕ) → is_record_among files w ≡ true → (kind_of w ≡ blocks_256) × (stands_among files w ≡ true)
 unfolding names_among
 record-parts files w e =

@@ -1,4 +1,4 @@
--- A removal from the use list, and then an unlinking.
+-- A removal from the LRU list, and then an unlinking.
 use Rattle.std.proofs.Common.{◌≡◌, ◌⊎◌, inl, inr, ℕ, [], ◌∷◌, List, ◌++◌, Option, None, Some, refl, ap, sym, ◌∙◌, subst}
 use Rattle.std.specs.Option.{ForSome, option_map}
 use Rattle.spec_image.specs.Image.{Image}
@@ -89,7 +89,7 @@ module _ (files : BlockFiles) (node entry : ℕ) (before : Option ℕ) (a m b : 
   pub before-good : ForSome m.files (BeforeChecks before)
   before-good between is = subst (BeforeChecks before) (some_inj (sym on.is ∙ is)) (may.chained on.image (bytes_between on.image on.is) done).1
 
--- ---- damages
+-- ---- failed checks
 
 -- a node amid the list is listed
 pub amid-listed : (node : ℕ) (image : Image) → IsAmidList node image → IsListed node image

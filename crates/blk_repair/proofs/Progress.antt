@@ -10,7 +10,7 @@ use Rattle.spec_image.proofs.Runs.{along_front, grows_none, grows_then, part_the
 use Rattle.blk_disk.specs.declared.tables.BlockFiles.{BlockFiles}
 use Rattle.blk_disk.specs.Open.{IsOpen}
 
--- a front of the whole steps was made, and of these the rest is left
+-- a prefix of the whole steps was made, and of these the rest is left
 pub record Progress (old now : Told) (whole rest : Image → List TrailStep) : Type 0 where
   pub done : Image → List TrailStep
   pub split : (from : Image) → whole from ≡ done from ++ rest (after (done from) from)

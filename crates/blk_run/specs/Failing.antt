@@ -1,4 +1,4 @@
--- Why the folder of a run is damaged: a check that fails.
+-- Why the folder of a run is corrupt: a check that fails.
 use Rattle.std.specs.Prelude.{ℕ, ◌≡◌, ◌⊎◌, List}
 use Rattle.std.specs.Option.{ForSome}
 use Rattle.std.specs.declared.option.Option.{Option}
@@ -12,12 +12,12 @@ use Rattle.blk_cache.specs.Opened.{IsFirstDamage, IsOpeningDamage}
 use Rattle.blk_inspect.specs.Inspecting.{IsInspectDamage}
 use Rattle.blk_run.specs.Texts.{Prints, damage_line}
 
--- a damage was met in a command: a check of those that commands make fails, by some tables of the block files
+-- a failed check was met in a command: a check of those that commands make fails, by some tables of the block files
 pub record IsCommandDamage (told : Told) (damage : Damage) : Type 0 where
   pub files : BlockFiles
   pub fails : IsFailedCheck files told damage
 
--- some damage was met so
+-- some failed check was met so
 abbrev pub IsFailedSomewhere : Told → Type 0
 IsFailedSomewhere told = (damage : Damage) × IsCommandDamage told damage
 
@@ -28,12 +28,12 @@ pub record IsFailedInOpening (start final : Told) (old new : Option (List ℕ)) 
   pub first : ForSome start.files (IsFirstDamage damage)
   pub printed : Prints old new before now (damage_line (damage_of damage))
 
--- the folder doesn't tell its files, and a damage was met in a command, behind the opening; which one isn't seen outside, and where nothing is told some always may be
+-- the folder doesn't tell its files, and a failed check was met in a command, after the opening; which one isn't seen outside, and where nothing is told some always may be
 pub record IsFailedBehind (start final : Told) : Type 0 where
   pub untold : start.files ≡ None
   pub fails : IsFailedSomewhere final
 
--- a check of a run fails: of its opening, or behind it
+-- a check of a run fails: of its opening, or after it
 abbrev pub IsDamagedRun : (start final : Told) → (old new : Option (List ℕ)) → (before now : ℕ) → Type 0
 IsDamagedRun start final old new before now = IsFailedInOpening start final old new before now ⊎ IsFailedBehind start final
 

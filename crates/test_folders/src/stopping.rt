@@ -2,7 +2,7 @@
 use blk_io::{MemFolder, SilentFolder, StopFolder};
 use std::alloc::Global;
 
-/// A folder that tells nothing and stops.
+/// A folder that tells nothing and crashes.
 pub type Mem = SilentFolder<StopFolder>;
 
 /// A folder in which no step is made yet and all may be made.
