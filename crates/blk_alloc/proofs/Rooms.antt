@@ -216,7 +216,7 @@ if_ok_both {A} {E} (Err e) P Q R both one other = tt
 none_some : {image : Image} → None ≡ Some image → ⊥
 none_some {image} e = cc
 
--- a folder that tells nothing after a call told nothing before it
+-- a folder that is opaque after a call was opaque before it
 pub untold_before : {a b : Told} (P : Image → Image → Type 0) → ForSome a.files (λ from. PassesTo a b (P from) (P from)) → b.files ≡ None → a.files ≡ None
 untold_before {a} {b} P stops none = by_files a.files refl
   where

@@ -158,8 +158,8 @@ fn allocate_new<F: Folder, L: Ledger>(
 ///
 /// A failed check is a read of a file's header that gave too few bytes, a counter that would leave its range or that
 /// counts a group which one round of the map doesn't have, or 60 full files of the kind; then it finds the last word of
-/// the last map. Where the files of the kind have true counters and at most 655362 allocations, all of these need a
-/// folder that tells nothing.
+/// the last map. Where the files of the kind have true counters and at most 655362 allocations, all of these need an
+/// opaque folder.
 pub fn allocate_counted<F: Folder, L: Ledger>(
     f: &mut F,
     files: &mut BlockFiles,

@@ -165,8 +165,7 @@ pub fn chains<F: Folder>(
     ensures checked { IfOk result (λ reached. ForSome (F.told f.old).files (λ image. AreChainsThere files.now image (words_reached reached))) }
     ensures stays { Stays (F.told f.old) (F.told f.new) }
 
-    // A folder that tells its files reports corruption only where its index is too short or the block files don't agree with
-    // it.
+    // An observable folder reports corruption only where its index is too short or the block files don't agree with it.
     ensures damaged { IfScanDamaged result (IsChainsDamage files.now (F.told f.new)) }
     ensures untold { ForSome (F.told f.old).files (IsOpen files.now) → IfScanDamaged result (λ _. (F.told f.old).files ≡ None) }
 

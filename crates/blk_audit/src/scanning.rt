@@ -57,8 +57,7 @@ pub fn read_lists<F: Folder>(
     ensures stand { IfOk result (AreListsAmong files.now) }
     ensures stays { Stays (F.told f.old) (F.told f.new) }
 
-    // A folder that tells its files reports corruption only where its index is too short or the block files don't agree with
-    // it.
+    // An observable folder reports corruption only where its index is too short or the block files don't agree with it.
     ensures damaged { IfScanDamaged result (IsListsDamage files.now (F.told f.new)) }
     ensures untold { ForSome (F.told f.old).files (IsOpen files.now) → IfScanDamaged result (λ _. (F.told f.old).files ≡ None) }
 

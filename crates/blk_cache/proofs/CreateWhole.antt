@@ -44,7 +44,7 @@ if-any (Ok a) P all = tt
 if-any (Err fault.Device) P all = tt
 if-any (Err (fault.Damaged damage)) P all = all damage
 
--- a folder that tells its files reports no corruption, where that is so of each that it may tell
+-- an observable folder reports no corruption, where that is so of each that it may tell
 pub untold-by : {A : Type 0} (r : Result A Fault) (files : Option Image) → ((image : Image) → files ≡ Some image → IfDamaged r (λ _. files ≡ None)) → IfDamaged r (λ _. files ≡ None)
 untold-by r None all = if-any r (λ _. None ≡ None) (λ damage. refl)
 untold-by r (Some image) all = all image refl
@@ -159,7 +159,7 @@ module _ (cache : Cache) (told mid : Told) (moment handle : ℕ) (key : List ℕ
           let at = there-after told mid (MayStop state moment (to_create handle key)) (room-stops image there state k) image there in
           does at.0 at.1 state (ready image at.0 state there at.1 k)
 
-    -- a folder that tells its files reports no corruption
+    -- an observable folder reports no corruption
     pub whole-untold : {A : Type 0} (r : Result A Fault) → (ForSome mid.files (IsReadyForSome new handle key) → IfDamaged r (λ _. mid.files ≡ None)) → ForSome told.files (KeepsAny cache) → IfDamaged r (λ _. told.files ≡ None)
     whole-untold r untold some = untold-by r told.files (λ image there. if-damaged r image there (untold (ready-for-some image there (some image there)))) where
       clash : {x : Image} → ◌≡◌ {A = Option Image} None (Some x) → ⊥

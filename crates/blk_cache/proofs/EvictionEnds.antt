@@ -61,7 +61,7 @@ module _ (moment : ℕ) (request : Request) (cache : Cache) (told : Told) (passe
             let at = there-after told mid (MayStop state moment request) (evicting-stops image there state k) image there in
             does at.0 at.1 state (ready image at.0 state there at.1 k)
 
-      -- a folder that tells its files reports no corruption
+      -- an observable folder reports no corruption
       pub then-untold : {A : Type 0} (r : Result A Fault) → (((from : Image) → mid.files ≡ Some from → (state : State) × Ready state from) → IfDamaged r (λ _. mid.files ≡ None)) → ForSome told.files (KeepsAny cache) → IfDamaged r (λ _. told.files ≡ None)
       then-untold r untold some = untold-by r told.files (λ image there.
           let k = some image there in

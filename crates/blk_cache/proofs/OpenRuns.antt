@@ -143,7 +143,7 @@ stayed-mid from there well same = breaks-none (IsMidRepair from) same (λ i is. 
 pub stayed-still : {a b : Told} (from : Image) → a.files ≡ Some from → b ≡ a → BreaksOff a b (HoldsStill from)
 stayed-still from there same = breaks-none (HoldsStill from) same (λ i is. subst (HoldsStill from) (some_inj (sym there ∙ is)) (record { usable = λ h. h; formed = λ h. h; found_same = refl }))
 
--- a call that passes tells nothing of a folder that tells nothing
+-- a call that passes leaves an opaque folder opaque
 pub passes-silent : {a b : Told} {P Q : Image → Type 0} → PassesTo a b P Q → a.files ≡ None → b.files ≡ None
 passes-silent passes none = passes.applies.files ∙ ap (option_map (after passes.steps)) none
 
@@ -172,7 +172,7 @@ loading-damage q e a b same is cause =
     let r : Result Told Fault = Err e in
     carried r q e (IsOpeningDamage b) refl is (if_damaged_weaker r (IsLoadDamage a) (IsOpeningDamage b) (λ damage h. inr (inl (subst (λ (t : Told). IsLoadDamage t damage) (sym same) h))) cause)
 
--- a failed check that a folder reports only where it tells nothing
+-- a failed check that a folder reports only where it is opaque
 pub untold-on : {B : Type 0} (q : Result B Fault) (e : Fault) (a b : Told) → IsErrAnd q (λ (x : Fault). x ≡ e) → (b.files ≡ None → a.files ≡ None) → IfDamaged {A = Told} (Err e) (λ _. b.files ≡ None) → IfDamaged q (λ _. a.files ≡ None)
 untold-on q e a b is before cause =
     let r : Result Told Fault = Err e in
@@ -200,7 +200,7 @@ loading-as e a b same cause = if_damaged_weaker {A = Told} (Err e) (IsLoadDamage
 pub looking-as : (e : Fault) (a b : Told) → b ≡ a → IfDamaged {A = Told} (Err e) (IsLookDamage a) → IfDamaged {A = Told} (Err e) (IsOpeningDamage b)
 looking-as e a b same cause = if_damaged_weaker {A = Told} (Err e) (IsLookDamage a) (IsOpeningDamage b) (λ damage h. inl (subst (λ (t : Told). IsLookDamage t damage) (sym same) h)) cause
 
--- a folder that tells its files tells them
+-- an observable folder tells its files
 pub told-some : {P : Type 0} (a : Told) (image : Image) → a.files ≡ Some image → a.files ≡ None → P
 told-some a image there none = absurd (no (sym there ∙ none)) where
   no : ◌≡◌ {A = Option Image} (Some image) None → ⊥
@@ -214,6 +214,6 @@ scanned-can files scan image well open_now told = record { well_formed = well; s
 pub untold-as : (e : Fault) (a b : Told) → b ≡ a → IfDamaged {A = Told} (Err e) (λ _. b.files ≡ None) → IfDamaged {A = Told} (Err e) (λ _. a.files ≡ None)
 untold-as e a b same cause = if_damaged_weaker {A = Told} (Err e) (λ _. b.files ≡ None) (λ _. a.files ≡ None) (λ damage none. sym (ap (λ (t : Told). t.files) same) ∙ none) cause
 
--- a failed check that comes only of a folder that tells nothing says anything of one that tells its files
+-- a failed check that comes only of an opaque folder says anything of an observable one
 pub untold-says : (e : Fault) (a : Told) (old : Option Image) (P : blk.Damage → Image → Type 0) → ((image : Image) → old ≡ Some image → a.files ≡ Some image) → IfDamaged {A = Told} (Err e) (λ _. a.files ≡ None) → IfDamaged {A = Told} (Err e) (λ damage. ForSome old (P damage))
 untold-says e a old P handed cause = if_damaged_weaker {A = Told} (Err e) (λ _. a.files ≡ None) (λ damage. ForSome old (P damage)) (λ damage none image there. told-some a image (handed image there) none) cause

@@ -72,7 +72,7 @@ module _ (cache : Cache) (told : Told) (moment : ℕ) (request : Request) (quiet
 -- The whole text.
 
 module _ (old done : Cache) (told mid now : Told) (moment : ℕ) (request : Request) (stops : MayStopAtEach (KeepsState old) told mid moment request) (same : now.files ≡ mid.files) where
-  -- a folder that tells its files still does
+  -- an observable folder still is
   still-told : (state : State) (image : Image) → told.files ≡ Some image → KeepsState old state image → (i : Image) × (now.files ≡ Some i)
   still-told state image there k =
       let p = stops image there state k in

@@ -194,7 +194,7 @@ module _ (moment handle stream offset : ℕ) (cut : Bool) (bytes : List ℕ) (ca
           let at = there-after told mid (MayStop state moment (to_write handle stream offset cut bytes)) (first-stops image there state k) image there in
           does at.0 at.1 state (ready image at.0 state there at.1 k)
 
-    -- a folder that tells its files reports no corruption
+    -- an observable folder reports no corruption
     pub whole-untold : {A : Type 0} (r : Result A Fault) → (ForSome mid.files (IsReadyToWriteSome new handle stream offset cut bytes found.size) → IfDamaged r (λ _. mid.files ≡ None)) → ForSome told.files (KeepsAny cache) → IfDamaged r (λ _. told.files ≡ None)
     whole-untold r untold some = untold-by r told.files (λ image there.
         let k = some image there in

@@ -71,7 +71,7 @@ impl Cache {
         // Corruption is a check that fails on what is read here; nothing is written after it.
         ensures damaged { IfDamaged result (IsFailedCheck self.new.files (F.told f.new)) }
 
-        // A folder that tells its files reports no corruption where the cache keeps a state.
+        // An observable folder reports no corruption where the cache keeps a state.
         ensures untold { ForSome (F.told f.old).files (KeepsAny self.old) → IfDamaged result (λ _. (F.told f.old).files ≡ None) }
         ensures silent { (F.told f.old).files ≡ None → (F.told f.new).files ≡ None }
         ensures later { F.faults f.old ≤ F.faults f.new }
@@ -252,7 +252,7 @@ impl Cache {
         // Corruption is a check that fails on what is read here; nothing is written after it.
         ensures damaged { IfDamaged result (IsFailedCheck self.new.files (F.told f.new)) }
 
-        // A folder that tells its files reports no corruption where the cache keeps such a state.
+        // An observable folder reports no corruption where the cache keeps such a state.
         ensures untold { ForSome (F.told f.old).files (KeepsWithRoom self.old handle key.now) → IfDamaged result (λ _. (F.told f.old).files ≡ None) }
         ensures silent { (F.told f.old).files ≡ None → (F.told f.new).files ≡ None }
         ensures later { F.faults f.old ≤ F.faults f.new }
@@ -284,7 +284,7 @@ impl Cache {
         ensures goes_on { IfOk result (λ early. early ≡ None → open_refusal self.now.handles handle key.now ≡ None) }
         ensures stays { Stays (F.told f.old) (F.told f.new) }
 
-        // A folder that tells its files reports no corruption where the cache keeps a state.
+        // An observable folder reports no corruption where the cache keeps a state.
         ensures damaged { IfDamaged result (IsLookDamage self.now.files (F.told f.old) key.now) }
         ensures untold { ForSome (F.told f.old).files (IsOpen self.now.files) → ForSome (F.told f.old).files (KeepsAny self.now) → IfDamaged result (λ _. (F.told f.old).files ≡ None) }
         ensures later { F.faults f.old ≤ F.faults f.new }

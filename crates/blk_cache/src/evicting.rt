@@ -55,8 +55,7 @@ impl Cache {
         // Corruption is a check that fails on what is read here; nothing is written after it.
         ensures damaged { IfDamaged result (IsFailedCheck self.new.files (F.told f.new)) }
 
-        // A folder that tells its files reports no corruption where the cache keeps a state, in which these parts are
-        // covered.
+        // An observable folder reports no corruption where the cache keeps a state, in which these parts are covered.
         ensures untold { ForSome (F.told f.old).files (KeepsCovered self.old parts.now) → IfDamaged result (λ _. (F.told f.old).files ≡ None) }
         ensures silent { (F.told f.old).files ≡ None → (F.told f.new).files ≡ None }
         ensures later { F.faults f.old ≤ F.faults f.new }

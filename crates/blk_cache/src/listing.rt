@@ -29,7 +29,7 @@ impl Cache {
         ensures stays { Stays (F.told f.old) (F.told f.new) }
         ensures passes { IfOk result (λ given. IsRefused given → ⊥) }
 
-        // Too few bytes, which a folder that tells its files doesn't give where the cache keeps a state.
+        // Too few bytes, which an observable folder doesn't give where the cache keeps a state.
         ensures damaged { IfDamaged result (IsShort (F.told f.old) names.Index IndexHead.SIZES 4) }
         ensures cause { IfDamaged result (IsFailedCheck self.now.files (F.told f.new)) }
         ensures untold { ForSome (F.told f.old).files (KeepsAny self.now) → IfDamaged result (λ _. (F.told f.old).files ≡ None) }

@@ -49,7 +49,7 @@ impl Cache {
         ensures notes { self.new.notes ≡ self.old.notes }
         ensures mark { self.new.mark ≡ self.old.mark }
 
-        // A folder that tells its files reports no corruption where the cache keeps a state.
+        // An observable folder reports no corruption where the cache keeps a state.
         ensures damaged { IfDamaged result (IsOpenDamage self.old.files (F.told f.old) (F.told f.new) key.now) }
         ensures cause { IfDamaged result (IsFailedCheck self.new.files (F.told f.new)) }
         ensures untold { ForSome (F.told f.old).files (KeepsAny self.old) → IfDamaged result (λ _. (F.told f.old).files ≡ None) }

@@ -49,7 +49,7 @@ impl Cache {
 
         ensures is_open { ForSome (F.told f.new).files (IsOpen self.now.files) }
 
-        // A folder that tells its files reports no corruption where the cache keeps a state.
+        // An observable folder reports no corruption where the cache keeps a state.
         ensures damaged { IfDamaged result (IsReadDamage self.now.handles self.now.files (F.told f.old) (F.told f.new) handle) }
         ensures cause { IfDamaged result (IsFailedCheck self.now.files (F.told f.new)) }
         ensures untold { ForSome (F.told f.old).files (KeepsAny self.now) → IfDamaged result (λ _. (F.told f.old).files ≡ None) }

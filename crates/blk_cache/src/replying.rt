@@ -38,7 +38,7 @@ impl Cache {
         ensures others { OnlyRoomChanges self.old self.new }
         ensures stays { Stays (F.told f.old) (F.told f.new) }
 
-        // A folder that tells its files reports no corruption where the cache keeps the state after the command.
+        // An observable folder reports no corruption where the cache keeps the state after the command.
         ensures damaged { IfDamaged result (IsFailedCheck self.new.files (F.told f.new)) }
         ensures untold { ForSome (F.told f.old).files (KeepsAfter self.old (request_of command.now) answer.now) → IfDamaged result (λ _. (F.told f.old).files ≡ None) }
         ensures later { F.faults f.old ≤ F.faults f.new }

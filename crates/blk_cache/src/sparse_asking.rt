@@ -61,8 +61,7 @@ impl Cache {
         ensures inside { IfOk result (FindsInside (early_sparse_refusal self.now.handles handle offset count) offset count) }
         ensures stays { Stays (F.told f.old) (F.told f.new) }
 
-        // Corruption is a check that fails on what is read here. A folder that tells its files gives none where the cache keeps a
-        // state.
+        // Corruption is a check that fails on what is read here. An observable folder gives none where the cache keeps a state.
         ensures damaged { IfDamaged result (IsFailedCheck self.now.files (F.told f.new)) }
         ensures untold { ForSome (F.told f.old).files (KeepsAny self.now) → IfDamaged result (λ _. (F.told f.old).files ≡ None) }
         ensures later { F.faults f.old ≤ F.faults f.new }

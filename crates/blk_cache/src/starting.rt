@@ -29,7 +29,7 @@ impl Cache {
     ///
     /// # Errors
     ///
-    /// `Damaged` with the first check of the index and of the block files that fails; where the folder tells its files
+    /// `Damaged` with the first check of the index and of the block files that fails; where the folder is observable
     /// nothing was written then. `Memory` when out of memory, before anything was written: a session takes no more
     /// later. `Device` where the folder failed in this call.
     pub fn start<F: Folder>(
@@ -52,7 +52,7 @@ impl Cache {
         ensures stops { ForSome (F.told f.old).files (λ from. OpensOrBreaksOff from (F.told f.old) (F.told f.new)) }
         ensures last { OnOk result (ForSome (F.told f.old).files (λ from. Opens from (F.told f.old) (F.told f.new))) }
 
-        // A folder that tells its files reports corruption only where a check of its headers fails, and the first one.
+        // An observable folder reports corruption only where a check of its headers fails, and the first one.
         ensures damaged { IfOpenDamaged result (IsOpeningDamage (F.told f.new)) }
         ensures first { IfOpenDamaged result (λ damage. ForSome (F.told f.old).files (IsFirstDamage damage)) }
         ensures unwritten { IfOpenDamaged result (λ _. ForSome (F.told f.old).files (λ _. Stays (F.told f.old) (F.told f.new))) }

@@ -36,8 +36,7 @@ impl Cache {
         ensures charged { self.new.open_bytes ≡ self.old.open_bytes }
         ensures is_open { ForSome (F.told f.new).files (IsOpen self.new.files) }
 
-        // Corruption is a check that fails on what is read here; nothing is written after it. A folder that tells its files gives none where the cache keeps a
-        // state.
+        // Corruption is a check that fails on what is read here; nothing is written after it. An observable folder gives none where the cache keeps a state.
         ensures damaged { IfDamaged result (IsFailedCheck self.new.files (F.told f.new)) }
         ensures untold { ForSome (F.told f.old).files (KeepsAny self.old) → IfDamaged result (λ _. (F.told f.old).files ≡ None) }
         ensures silent { (F.told f.old).files ≡ None → (F.told f.new).files ≡ None }

@@ -78,8 +78,7 @@ impl Cache {
         ensures notes { self.new.notes ≡ self.old.notes }
         ensures mark { self.new.mark ≡ self.old.mark }
 
-        // Corruption is a check that fails on what is read here; nothing is written after it. A folder that tells its files gives none where the cache keeps a
-        // state.
+        // Corruption is a check that fails on what is read here; nothing is written after it. An observable folder gives none where the cache keeps a state.
         ensures damaged { IfDamaged result (IsFailedCheck self.new.files (F.told f.new)) }
         ensures untold { ForSome (F.told f.old).files (KeepsAny self.old) → IfDamaged result (λ _. (F.told f.old).files ≡ None) }
         ensures silent { (F.told f.old).files ≡ None → (F.told f.new).files ≡ None }
@@ -199,8 +198,7 @@ impl Cache {
         ensures goes_on { IfOk result (GoesOn (early_write_refusal self.now handle stream offset (length bytes.now))) }
         ensures stays { Stays (F.told f.old) (F.told f.new) }
 
-        // Corruption is a check that fails on what is read here. A folder that tells its files gives none where the cache keeps a
-        // state.
+        // Corruption is a check that fails on what is read here. An observable folder gives none where the cache keeps a state.
         ensures damaged { IfDamaged result (IsFailedCheck self.now.files (F.told f.new)) }
         ensures untold { ForSome (F.told f.old).files (KeepsAny self.now) → IfDamaged result (λ _. (F.told f.old).files ≡ None) }
         ensures later { F.faults f.old ≤ F.faults f.new }

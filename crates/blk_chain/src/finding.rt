@@ -79,7 +79,7 @@ pub fn find<F: Folder>(
     ensures linked { IfOk result (λ answer. IfSome answer (λ found. ForSome (F.told f.old).files (λ image. CanBeSearched key.now image → CanBeUnlinked found.entry found.before image))) }
     ensures stays { Stays (F.told f.old) (F.told f.new) }
 
-    // A folder that tells its files reports corruption only for a chain that can't be searched.
+    // An observable folder reports corruption only for a chain that can't be searched.
     ensures damaged { IfDamaged result (IsSearchDamage files.now (F.told f.old) key.now child) }
     ensures untold { ForSome (F.told f.old).files HasWholeIndex → ForSome (F.told f.old).files (Agrees files.now) → ForSome (F.told f.old).files (CanBeSearched key.now) → IfDamaged result (λ _. (F.told f.old).files ≡ None) }
 

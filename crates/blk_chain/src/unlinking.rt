@@ -96,13 +96,12 @@ pub fn unlink<F: Folder>(f: &mut F, files: &BlockFiles, found: &Found) -> Result
     // Until that one word is written the chains are the old ones, and from then on the record is unlinked; each record checks as before.
     ensures commits { ForSome (F.told f.old).files (λ from. CanBeUnlinked found.now.entry found.now.before from → Commits (words_to_unlink found.now.before) (F.told f.old) (F.told f.new) (IsStillLinked from found.now.entry found.now.before) (IsUnlinked from found.now.entry found.now.before)) }
 
-    // A failed check is a short read or a record before that doesn't check, and nothing was written. A folder that tells its files gives one only for such a
-    // record.
+    // A failed check is a short read or a record before that doesn't check, and nothing was written. An observable folder gives one only for such a record.
     ensures damaged { IfDamaged result (IsUnlinkDamage (F.told f.old) found.now.entry found.now.before) }
     ensures unwritten { IfDamaged result (λ _. Stays (F.told f.old) (F.told f.new)) }
     ensures untold { ForSome (F.told f.old).files (BeforeChecks found.now.before) → IfDamaged result (λ _. (F.told f.old).files ≡ None) }
 
-    // A folder that tells no files goes on telling none.
+    // An opaque folder stays opaque.
 
     ensures later { F.faults f.old ≤ F.faults f.new }
     ensures device { IfDevice result (Rises (F.faults f.old) (F.faults f.new)) }

@@ -57,7 +57,7 @@ unsealed_is told w s found bytes damage place_is wrong file at is read =
       );
     }
 
--- a folder that tells its files gives a record that checks
+-- an observable folder gives a record that checks
 pub untold_unsealed : (told : Told) (w : ℕ) (damage : Damage) → IsUnsealed told w damage → ForSome told.files (RecordChecks w) → told.files ≡ None
 untold_unsealed told w damage unsealed checks = by_files told.files refl
   where

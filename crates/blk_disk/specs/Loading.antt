@@ -58,7 +58,7 @@ pub record FailsFileCheck (files : BlockFiles) (kind n : ℕ) (damage : Damage) 
   pub read : length header ≡ block_fields_length
   pub first : first_of (header_checks files kind n (content header) size) ≡ Some (damage_of damage)
 
--- why the next file of a kind can't be taken up, whether or not the folder tells its files: too few bytes of its header came, or a check of what was read fails
+-- why the next file of a kind can't be taken up, whether or not the folder is observable: too few bytes of its header came, or a check of what was read fails
 abbrev pub IsHeaderDamage : Told → BlockFiles → ℕ → ℕ → Damage → Type 0
 IsHeaderDamage told files kind n damage = IsShort told (names.Block n) 0 block_fields_length damage ⊎ FailsFileCheck files kind n damage
 

@@ -21,7 +21,7 @@ impl BlockFiles {
     pub fn load<F: Folder>(f: &mut F) -> Result<BlockFiles, Fault>
         ensures loaded { ForSome (F.told f.old).files (LoadsAs result) }
 
-        // The cause of a failed check, which holds for a folder that tells nothing too.
+        // The cause of a failed check, which holds for an opaque folder too.
         ensures cause { IfDamaged result (IsLoadDamage (F.told f.old)) }
 
         ensures stays { Stays (F.told f.old) (F.told f.new) }

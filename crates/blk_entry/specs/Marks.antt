@@ -53,9 +53,9 @@ pub record SetsDirty {A : Type 0} (files : BlockFiles) (old new : Told) (node ma
   pub steps : OnOk result (ForSome old.files (λ from. Applies old new (mark_steps from node mark)))
   pub prefix : ForSome old.files (λ from. AppliesPrefix old new (mark_steps from node mark))
   pub stops : ForSome old.files (λ from. RecordChecks node from → Passes old new (SetsDirtyInProgress from node mark))
-  -- a failed check is of the node, and nothing was written; a folder that tells its files gives one only for a node that doesn't check
+  -- a failed check is of the node, and nothing was written; an observable folder gives one only for a node that doesn't check
   pub damaged : IfDamaged result (IsFailedRecord old node (record_size node))
   pub unwritten : IfDamaged result (λ _. Stays old new)
   pub untold : ForSome old.files (RecordChecks node) → IfDamaged result (λ _. old.files ≡ None)
-  -- a folder that tells no files goes on telling none
+  -- an opaque folder stays opaque
   pub silent : old.files ≡ None → new.files ≡ None

@@ -43,7 +43,7 @@ pub fn key_equals<F: Folder>(
     ensures there { IfOk result (λ same. IsTrue same → ForSome (F.told f.old).files (HasKeyBytes entry 0 (length key.now))) }
     ensures stays { Stays (F.told f.old) (F.told f.new) }
 
-    // A folder that tells its files reports corruption only where the record doesn't check or has no key to read.
+    // An observable folder reports corruption only where the record doesn't check or has no key to read.
     ensures damaged { IfDamaged result (IsKeyDamage files.now (F.told f.old) entry (length key.now)) }
     ensures untold { ForSome (F.told f.old).files (CanBeRead files.now entry) → IfDamaged result (λ _. (F.told f.old).files ≡ None) }
 
@@ -82,8 +82,7 @@ pub fn key_is<F: Folder>(
     ensures there { IfOk result (λ same. IsTrue same → ForSome (F.told f.old).files (HasData (key_address entry head.now.key_len head.now.long_key) (bytes_before head.now.key_len) (length key.now))) }
     ensures stays { Stays (F.told f.old) (F.told f.new) }
 
-    // A folder that tells its files reports corruption only where the record has no key to read, or the words are
-    // others.
+    // An observable folder reports corruption only where the record has no key to read, or the words are others.
     ensures damaged { IfDamaged result (IsPlaceDamage files.now (F.told f.old) entry (length key.now) head.now.long_key) }
     ensures untold { ForSome (F.told f.old).files (CanBeRead files.now entry) → ForSome (F.told f.old).files (λ image. IsRecordHead image entry head.now) → IfDamaged result (λ _. (F.told f.old).files ≡ None) }
 

@@ -31,7 +31,7 @@ pub fn read_data<F: Folder>(
     ensures checked { OnOk result (ForSome (F.told f.old).files (HasData addr at (length out.old))) }
     ensures stays { Stays (F.told f.old) (F.told f.new) }
 
-    // Too few bytes, which a folder that tells its files gives only where its external file is too short.
+    // Too few bytes, which an observable folder gives only where its external file is too short.
     ensures short { IfDamaged result (IsCut (F.told f.old) addr at (length out.old)) }
     ensures untold { ForSome (F.told f.old).files (Agrees files.now) → ForSome (F.told f.old).files (IsInFile addr at (length out.old)) → IfDamaged result (λ _. (F.told f.old).files ≡ None) }
 

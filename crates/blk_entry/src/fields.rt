@@ -30,7 +30,7 @@ pub fn field<F: Folder>(f: &mut F, files: &BlockFiles, entry: Addr, at: u32) -> 
     ensures checked { OnOk result (ForSome (F.told f.old).files (λ image. HasRange image (block (file_selector entry)) (place entry + at) 4)) }
     ensures stays { Stays (F.told f.old) (F.told f.new) }
 
-    // Too few bytes, which a folder that tells its files gives only where the block files don't agree with it.
+    // Too few bytes, which an observable folder gives only where the block files don't agree with it.
     ensures short { IfDamaged result (IsShort (F.told f.old) (FileId.Block (file_selector entry)) (place entry + at) 4) }
     ensures untold { ForSome (F.told f.old).files (Agrees files.now) → IfDamaged result (λ _. (F.told f.old).files ≡ None) }
 
@@ -55,7 +55,7 @@ pub fn node_of<F: Folder>(f: &mut F, files: &BlockFiles, entry: Addr) -> Result<
     ensures checked { OnOk result (ForSome (F.told f.old).files (λ image. HasRange image (block (file_selector entry)) (place entry + node_place) 4)) }
     ensures stays { Stays (F.told f.old) (F.told f.new) }
 
-    // A folder that tells its files reports corruption only where the word is of no node that is there.
+    // An observable folder reports corruption only where the word is of no node that is there.
     ensures damaged { IfDamaged result (IsNodeWordDamage files.now (F.told f.old) (FileId.Block (file_selector entry)) (place entry + node_place)) }
     ensures untold { ForSome (F.told f.old).files (Agrees files.now) → ForSome (F.told f.old).files (λ image. is_node_among files.now (entry_at image entry).rankings_node ≡ true) → IfDamaged result (λ _. (F.told f.old).files ≡ None) }
 

@@ -83,7 +83,7 @@ pub fn key_piece<F: Folder>(
     ensures there { IfOk result (λ n. ForSome (F.told f.old).files (λ image. HasKeyBytes entry (min at (entry_at image entry).key_len) n image)) }
     ensures stays { Stays (F.told f.old) (F.told f.new) }
 
-    // A folder that tells its files reports corruption only where the record doesn't check or has no key to read.
+    // An observable folder reports corruption only where the record doesn't check or has no key to read.
     ensures damaged { IfDamaged result (keys.IsPartDamage files.now (F.told f.old) entry at (length out.old)) }
     ensures untold { ForSome (F.told f.old).files (CanBeRead files.now entry) → IfDamaged result (λ _. (F.told f.old).files ≡ None) }
 
@@ -109,7 +109,7 @@ pub fn read_head<F: Folder>(f: &mut F, files: &BlockFiles, entry: Addr) -> Resul
     ensures checked { OnOk result (ForSome (F.told f.old).files (HasRecord entry)) }
     ensures stays { Stays (F.told f.old) (F.told f.new) }
 
-    // A folder that tells its files reports corruption only for a record that doesn't check.
+    // An observable folder reports corruption only for a record that doesn't check.
     ensures damaged { IfDamaged result (IsHeadDamage (F.told f.old) entry) }
     ensures untold { ForSome (F.told f.old).files (Agrees files.now) → ForSome (F.told f.old).files (RecordChecks entry) → IfDamaged result (λ _. (F.told f.old).files ≡ None) }
 

@@ -25,7 +25,7 @@ pub fn read<F: Folder>(f: &mut F, addr: Addr, at: u64, out: &mut [u8]) -> Result
     ensures checked { OnOk result (ForSome (F.told f.old).files (λ image. HasRange image (named_file addr) at (length out.old) ⊎ (length out.old ≡ 0))) }
     ensures stays { Stays (F.told f.old) (F.told f.new) }
 
-    // Too few bytes, which a folder that tells its files gives only where the file is too short.
+    // Too few bytes, which an observable folder gives only where the file is too short.
     ensures few { IfDamaged result (IsFew (F.told f.old) (external_number addr) at (length out.old)) }
     ensures untold { ForSome (F.told f.old).files (λ image. HasRange image (named_file addr) at (length out.old)) → IfDamaged result (λ _. (F.told f.old).files ≡ None) }
 

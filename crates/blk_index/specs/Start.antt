@@ -43,7 +43,7 @@ pub record FailsIndexCheck (damage : Damage) : Type 0 where
   pub finished : magic_of (content header) ≢ 0
   pub first : first_of (head_checks (content header) size ++ list_checks (content header)) ≡ Some (damage_of damage)
 
--- why a look finds a failed check, whether or not the folder tells its files: too few bytes of the header came, or a check of what was read
+-- why a look finds a failed check, whether or not the folder is observable: too few bytes of the header came, or a check of what was read
 -- fails
 abbrev pub IsLookDamage : Told → Damage → Type 0
 IsLookDamage told damage = IsShort told names.Index 0 header_length damage ⊎ FailsIndexCheck damage

@@ -29,7 +29,7 @@ pub fn word<F: Folder>(f: &mut F, at: u64) -> Result<u32, Fault>
     ensures checked { OnOk result (ForSome (F.told f.old).files (λ image. HasRange image index at 4)) }
     ensures stays { Stays (F.told f.old) (F.told f.new) }
 
-    // Too few bytes, which a folder that tells its files gives only where the index is too short.
+    // Too few bytes, which an observable folder gives only where the index is too short.
     ensures short { IfDamaged result (IsShort (F.told f.old) FileId.Index at 4) }
     ensures untold { ForSome (F.told f.old).files HasWholeIndex → IfDamaged result (λ _. (F.told f.old).files ≡ None) }
 
@@ -47,7 +47,7 @@ pub fn bucket<F: Folder>(f: &mut F, number: u16) -> Result<u32, Fault>
     ensures checked { OnOk result (ForSome (F.told f.old).files (λ image. HasRange image index (place_of_bucket number) 4)) }
     ensures stays { Stays (F.told f.old) (F.told f.new) }
 
-    // Too few bytes, which a folder that tells its files gives only where the index is too short.
+    // Too few bytes, which an observable folder gives only where the index is too short.
     ensures short { IfDamaged result (IsShort (F.told f.old) FileId.Index (place_of_bucket number) 4) }
     ensures untold { ForSome (F.told f.old).files HasWholeIndex → IfDamaged result (λ _. (F.told f.old).files ≡ None) }
 
@@ -68,7 +68,7 @@ pub fn buckets<F: Folder>(f: &mut F, first: u16, out: &mut [u32]) -> Result<(), 
     ensures checked { OnOk result (ForSome (F.told f.old).files (λ image. HasRange image index (place_of_bucket first) (4 * length out.old) ⊎ (length out.old ≡ 0))) }
     ensures stays { Stays (F.told f.old) (F.told f.new) }
 
-    // Too few bytes, which a folder that tells its files gives only where the index is too short.
+    // Too few bytes, which an observable folder gives only where the index is too short.
     ensures short { IfDamaged result (IsShort (F.told f.old) FileId.Index (place_of_bucket first) (4 * length out.old)) }
     ensures untold { ForSome (F.told f.old).files HasWholeIndex → IfDamaged result (λ _. (F.told f.old).files ≡ None) }
 

@@ -79,7 +79,7 @@ IfInspectSink (Err (Damaged damage)) P = Unit {0}
 IfInspectSink (Err Sink) P = P
 IfInspectSink (Err Memory) P = Unit {0}
 
--- The causes of failed checks, which hold for a folder that tells nothing too.
+-- The causes of failed checks, which hold for an opaque folder too.
 
 -- the header of the index or of a block file was read, and its bytes are too few
 abbrev pub IsHeadDamage : Told → Damage → Type 0

@@ -35,8 +35,8 @@ pub enum Part {
 ///
 /// # Errors
 ///
-/// `Damaged` with the first check of the headers that fails; a folder that tells its files reports no other failed check.
-/// `Device` where the folder failed in this call, `Sink` where the sink did, and `Memory` when out of memory.
+/// `Damaged` with the first check of the headers that fails; an observable folder reports no other failed check. `Device` where
+/// the folder failed in this call, `Sink` where the sink did, and `Memory` when out of memory.
 pub fn inspect<F: Folder, K: Sink>(
     alloc: Global,
     f: &mut F,
@@ -54,7 +54,7 @@ pub fn inspect<F: Folder, K: Sink>(
 
     ensures stays { Stays (F.told f.old) (F.told f.new) }
 
-    // The cause of a failed check, which holds for a folder that tells nothing too.
+    // The cause of a failed check, which holds for an opaque folder too.
     ensures cause { IfInspectDamaged result (IsInspectDamage (F.told f.old)) }
 
     ensures later { F.faults f.old ≤ F.faults f.new }
@@ -89,7 +89,7 @@ pub fn verify<F: Folder, K: Sink>(alloc: Global, f: &mut F, out: &mut K) -> Resu
 
     ensures stays { Stays (F.told f.old) (F.told f.new) }
 
-    // The cause of a failed check, which holds for a folder that tells nothing too.
+    // The cause of a failed check, which holds for an opaque folder too.
     ensures cause { IfInspectDamaged result (IsInspectDamage (F.told f.old)) }
 
     ensures later { F.faults f.old ≤ F.faults f.new }

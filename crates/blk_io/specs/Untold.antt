@@ -1,4 +1,4 @@
--- What a folder tells that tells nothing.
+-- What an opaque folder tells.
 use Rattle.std.specs.Prelude.{◌≡◌, None, Some}
 use Rattle.spec_image.specs.Image.{Image}
 use Rattle.spec_image.specs.Told.{Told, AgreesWithTrail, TellsBytes}

@@ -218,7 +218,7 @@ module _ (files : BlockFiles) (range : PresentRange) (image : Image) (agrees : A
 
 -- ---- failed checks
 
--- corruption is reported only by a folder that tells nothing, where any that tells its files gives none
+-- corruption is reported only by an opaque folder, where any observable one gives none
 pub by-files : {A : Type 0} (r : Result A Fault) (files : Option Image) → ((image : Image) → files ≡ Some image → IfDamaged r (λ _. files ≡ None)) → IfDamaged r (λ _. files ≡ None)
 by-files r None each = damaged_any r (◌≡◌ {A = Option Image} None None) refl
 by-files r (Some image) each = each image refl

@@ -56,8 +56,7 @@ pub fn print_present<F: Folder, K: Sink>(
     ensures failed { FailsWhereItRose failed.old failed.new (K.faults out.old) (K.faults out.new) }
     ensures stays { Stays (F.told f.old) (F.told f.new) }
 
-    // Corruption is a check that fails on what is read here. A folder that tells its files, with such an object, gives
-    // none.
+    // Corruption is a check that fails on what is read here. An observable folder, with such an object, gives none.
     ensures damaged { IfDamaged result (IsFailedCheck files.now (F.told f.new)) }
     ensures untold { ForSome (F.told f.old).files (HasPresent range.now) → IfDamaged result (λ _. (F.told f.old).files ≡ None) }
     ensures later { F.faults f.old ≤ F.faults f.new }

@@ -208,7 +208,7 @@ item_is P (w ∷ ws) (suc i) d item lt is h = item_is P ws i d item (omega arith
 pub all_done : (ws : List Write) (i : ℕ) → length ws ≤ i → map meant (drop i ws) ≡ []
 all_done ws i past = ap (map meant) (drop_all i ws past)
 
--- a folder that tells nothing in the midst of the writes told nothing before them
+-- a folder that is opaque in the midst of the writes was opaque before them
 pub back_untold : {old now : Told} {writes : List ListWrite} → Wrote old now writes → now.files ≡ None → old.files ≡ None
 back_untold {old} {now} {writes} wrote none = by_files old.files refl
   where

@@ -48,7 +48,7 @@ pub fn insert_front<F: Folder>(f: &mut F, files: &BlockFiles, node: Addr) -> Res
 
     ensures is_open { ForSome (F.told f.new).files (IsOpen files.now) }
 
-    // A folder that tells its files reports corruption only where the node can't be inserted.
+    // An observable folder reports corruption only where the node can't be inserted.
     ensures damaged { IfDamaged result (IsInsertDamage files.now (F.told f.old) (F.told f.new)) }
     ensures untold { ForSome (F.told f.old).files (λ from. CanBeInserted (list_of from) (walked from) node) → IfDamaged result (λ _. (F.told f.old).files ≡ None) }
 
@@ -82,7 +82,7 @@ pub fn remove<F: Folder>(f: &mut F, files: &BlockFiles, node: Addr) -> Result<()
 
     ensures is_open { ForSome (F.told f.new).files (IsOpen files.now) }
 
-    // A folder that tells its files reports corruption only where the node isn't listed.
+    // An observable folder reports corruption only where the node isn't listed.
     ensures damaged { IfDamaged result (IsRemovalDamage node files.now (F.told f.old) (F.told f.new)) }
     ensures untold { ForSome (F.told f.old).files (IsListed node) → IfDamaged result (λ _. (F.told f.old).files ≡ None) }
 
@@ -118,7 +118,7 @@ pub fn touch<F: Folder>(f: &mut F, files: &BlockFiles, node: Addr, moment: u64) 
 
     ensures is_open { ForSome (F.told f.new).files (IsOpen files.now) }
 
-    // A folder that tells its files reports corruption only where the node isn't listed.
+    // An observable folder reports corruption only where the node isn't listed.
     ensures damaged { IfDamaged result (IsTouchDamage node files.now (F.told f.old) (F.told f.new)) }
     ensures untold { ForSome (F.told f.old).files (IsListed node) → IfDamaged result (λ _. (F.told f.old).files ≡ None) }
 

@@ -58,7 +58,7 @@ pub fn complete<F: Folder>(f: &mut F, files: &BlockFiles) -> Result<(), Fault>
 
     ensures is_open { ForSome (F.told f.new).files (IsOpen files.now) }
 
-    // A folder that tells its files never reports corruption.
+    // An observable folder never reports corruption.
     ensures damaged { IfDamaged result (IsCompletingDamage files.now (F.told f.new)) }
     ensures untold { IfDamaged result (λ _. (F.told f.old).files ≡ None) }
 
@@ -79,7 +79,7 @@ pub fn pending<F: Folder>(f: &mut F, files: &BlockFiles) -> Result<Plan, Fault>
     ensures checked { OnOk result (ForSome (F.told f.old).files (HasFlight files.now)) }
     ensures stays { Stays (F.told f.old) (F.told f.new) }
 
-    // Too few bytes, which a folder that tells its files gives only where its index is too short or the block files don't agree with it.
+    // Too few bytes, which an observable folder gives only where its index is too short or the block files don't agree with it.
     ensures damaged { IfDamaged result (IsPendingDamage files.now (F.told f.new)) }
     ensures untold { ForSome (F.told f.old).files (IsOpen files.now) → IfDamaged result (λ _. (F.told f.old).files ≡ None) }
 

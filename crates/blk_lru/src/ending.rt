@@ -37,7 +37,7 @@ pub fn end_at<F: Folder>(f: &mut F, files: &BlockFiles, last: Option<Addr>) -> R
     ensures prefix { MakesPartOf (F.told f.old) (F.told f.new) (λ from. steps_of_writes (ending_writes (list_of from) last) from) }
     ensures is_open { ForSome (F.told f.new).files (IsOpen files.now) }
 
-    // A folder that tells its files reports corruption only where the node is to be written and doesn't check.
+    // An observable folder reports corruption only where the node is to be written and doesn't check.
     ensures damaged { IfDamaged result (IsEndDamage last files.now (F.told f.old) (F.told f.new)) }
     ensures untold { ForSome (F.told f.old).files (λ from. CanBeMade from (ending_writes (list_of from) last)) → IfDamaged result (λ _. (F.told f.old).files ≡ None) }
 

@@ -41,7 +41,7 @@ pub fn first<F: Folder>(f: &mut F, files: &BlockFiles) -> Result<Option<Addr>, F
     ensures checked { OnOk result (ForSome (F.told f.old).files (λ image. HasRange image index IndexHead.HEADS 4)) }
     ensures stays { Stays (F.told f.old) (F.told f.new) }
 
-    // Too few bytes, or a word that names no node, which no told folder gives whose list is idle.
+    // Too few bytes, or a word that names no node, which no observable folder gives whose list is idle.
     ensures damaged { IfDamaged result (IsListHeadDamage files.now (F.told f.old)) }
     ensures untold { ForSome (F.told f.old).files HasWholeIndex → ForSome (F.told f.old).files (Agrees files.now) → ForSome (F.told f.old).files IsListAtRest → IfDamaged result (λ _. (F.told f.old).files ≡ None) }
 
@@ -61,7 +61,7 @@ pub fn last<F: Folder>(f: &mut F, files: &BlockFiles) -> Result<Option<Addr>, Fa
     ensures checked { OnOk result (ForSome (F.told f.old).files (λ image. HasRange image index IndexHead.TAILS 4)) }
     ensures stays { Stays (F.told f.old) (F.told f.new) }
 
-    // Too few bytes, or a word that names no node, which no told folder gives whose list is idle.
+    // Too few bytes, or a word that names no node, which no observable folder gives whose list is idle.
     ensures damaged { IfDamaged result (IsListTailDamage files.now (F.told f.old)) }
     ensures untold { ForSome (F.told f.old).files HasWholeIndex → ForSome (F.told f.old).files (Agrees files.now) → ForSome (F.told f.old).files IsListAtRest → IfDamaged result (λ _. (F.told f.old).files ≡ None) }
 
@@ -82,7 +82,7 @@ pub fn before<F: Folder>(f: &mut F, files: &BlockFiles, node: Addr) -> Result<Op
     ensures checked { OnOk result (ForSome (F.told f.old).files (λ image. HasRange image (block (file_selector node)) (place node + NodeView.PREV) 4)) }
     ensures stays { Stays (F.told f.old) (F.told f.new) }
 
-    // Too few bytes, or a word that names no node, which no told folder gives in whose list the node is.
+    // Too few bytes, or a word that names no node, which no observable folder gives in whose list the node is.
     ensures damaged { IfDamaged result (IsNodeLinkDamage node NodeView.PREV files.now (F.told f.old)) }
     ensures untold { ForSome (F.told f.old).files (Agrees files.now) → ForSome (F.told f.old).files (IsListed node) → IfDamaged result (λ _. (F.told f.old).files ≡ None) }
 
@@ -104,7 +104,7 @@ pub fn after<F: Folder>(f: &mut F, files: &BlockFiles, node: Addr) -> Result<Opt
     ensures checked { OnOk result (ForSome (F.told f.old).files (λ image. HasRange image (block (file_selector node)) (place node + NodeView.NEXT) 4)) }
     ensures stays { Stays (F.told f.old) (F.told f.new) }
 
-    // Too few bytes, or a word that names no node, which no told folder gives in whose list the node is.
+    // Too few bytes, or a word that names no node, which no observable folder gives in whose list the node is.
     ensures damaged { IfDamaged result (IsNodeLinkDamage node NodeView.NEXT files.now (F.told f.old)) }
     ensures untold { ForSome (F.told f.old).files (Agrees files.now) → ForSome (F.told f.old).files (IsListed node) → IfDamaged result (λ _. (F.told f.old).files ≡ None) }
 

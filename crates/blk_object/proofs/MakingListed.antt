@@ -97,6 +97,6 @@ module _ (a b : Told) (files : BlockFiles) (entry node : ℕ) where
             entries-kept state layout unlinked key loaded handle from mid.0 image q.kept q.entry q.valid (subst (λ (n : ℕ). IsInsertDone from n mid.0) (sym rn) (inserted from mid.0 there mid.1 c))
             (subst (λ (w : ℕ). HasRecordInFront mid.0 w image) (sym re) (in-front entry mid.0 image (linked mid.0 mid.1 (can-link from mid.0 there mid.1 c) image now)))
 
--- a folder that tells nothing after a part of some steps told nothing before
+-- a folder that is opaque after a part of some steps was opaque before
 pub part-tells : (a b : Told) (steps_on : Image → List TrailStep) → MakesPartOf a b steps_on → b.files ≡ None → a.files ≡ None
 part-tells a b steps_on part = none-before a b (λ from there. let made = part.made from there in (after made.made from, made.applies.files ∙ ap (option_map (after made.made)) there))

@@ -61,7 +61,7 @@ told-before (Some first) b last silent now = (first, refl)
 pub told-mid : {P Q : Image → Type 0} (a b : Told) (from : Image) → a.files ≡ Some from → PassesTo a b P Q → (mid : Image) × (b.files ≡ Some mid)
 told-mid {P} {Q} a b from there p = (after p.steps from, p.applies.files ∙ ap (option_map (after p.steps)) there)
 
--- a folder that tells its files in the middle, wherever it did at the start, told none if it tells none then
+-- a folder that is opaque in the middle was opaque at the start, where one that was observable is so in the middle
 pub none-before : (a b : Told) → ((from : Image) → a.files ≡ Some from → (mid : Image) × (b.files ≡ Some mid)) → b.files ≡ None → a.files ≡ None
 none-before a b mid none = untold_where a.files (λ from there. no-some (sym none ∙ (mid from there).1))
 

@@ -101,7 +101,7 @@ amid-listed node image a =
 some-none : {A : Type 0} {x : A} → ◌≡◌ {A = Option A} (Some x) None → ⊥
 some-none e = cc
 
--- a folder that tells nothing after some steps told nothing before
+-- a folder that is opaque after some steps was opaque before
 pub part-back : (a m : Told) (steps : Image → List TrailStep) → MakesPartOf a m steps → m.files ≡ None → a.files ≡ None
 part-back a m steps part none = by a.files refl where
   by : (o : Option Image) → a.files ≡ o → a.files ≡ None

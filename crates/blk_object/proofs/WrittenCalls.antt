@@ -94,7 +94,7 @@ module _ (a b : Told) (files kept : BlockFiles) (entry i offset : ℕ) (cut : Bo
           → IsWrittenUncounted state layout unlinked number object was i offset cut bytes from image) same
           (λ st w s seal. object-stages-end state layout unlinked number object was i offset cut bytes few from (kept-so state layout unlinked number object was entry i offset cut bytes from t) files kept st (open_folder from there).agrees image (agrees image now) s seal w)
 
-  -- a folder that tells its files, with such an object, reports no corruption
+  -- an observable folder, with such an object, reports no corruption
   pub object-untold : {A : Type 0} (r : Result A Fault) → (ForSome a.files (λ from. CanBeWritten files entry i (size_after cut (size_word from entry i) offset (length bytes)) from) → IfDamaged r (λ _. a.files ≡ None))
       → ForSome a.files (λ from. ForEachUnsettled entry i offset cut bytes from (λ state layout unlinked number object was. IfDamaged r (λ _. a.files ≡ None)))
   object-untold {A} r untold from there state layout unlinked number object was t =
@@ -173,7 +173,7 @@ module _ (a b : Told) (files kept : BlockFiles) (entry i offset : ℕ) (cut : Bo
             session = changed.session;
           })
 
-  -- a folder that tells its files, with such a part, reports no corruption
+  -- an observable folder, with such a part, reports no corruption
   pub part-untold : {A : Type 0} (r : Result A Fault) → (ForSome a.files (λ from. CanBeWritten files entry i (size_after cut (size_word from entry i) offset (length bytes)) from) → IfDamaged r (λ _. a.files ≡ None))
       → ForSome a.files (λ from. ForEachPartUnsettled entry i offset cut bytes from (λ state layout unlinked number object n value was role. IfDamaged r (λ _. a.files ≡ None)))
   part-untold {A} r untold from there state layout unlinked number object n value was role t =

@@ -46,7 +46,7 @@ pub fn doom_record<F: Folder>(f: &mut F, files: &BlockFiles, entry: Addr) -> Res
     // Corruption is a check that fails on what is read here; nothing is written after it.
     ensures damaged { IfDamaged result (IsFailedCheck files.now (F.told f.new)) }
 
-    // A folder that tells its files, with such an object, reports no corruption.
+    // An observable folder, with such an object, reports no corruption.
     ensures untold { ForSome (F.told f.old).files (λ from. ForEachOut entry from (λ state layout number object loaded chains unlinked. IfDamaged result (λ _. (F.told f.old).files ≡ None))) }
 
     ensures silent { (F.told f.old).files ≡ None → (F.told f.new).files ≡ None }
@@ -90,7 +90,7 @@ pub fn doom_plain<F: Folder>(
     // Corruption is a check that fails on what is read here; nothing is written after it.
     ensures damaged { IfDamaged result (IsFailedCheck files.now (F.told f.new)) }
 
-    // A folder that tells its files, with such an object, reports no corruption.
+    // An observable folder, with such an object, reports no corruption.
     ensures untold { ForSome (F.told f.old).files (λ from. ForEachHeld node found.now.entry found.now.before from (λ state layout unlinked number object loaded. IfDamaged result (λ _. (F.told f.old).files ≡ None))) }
 
     ensures silent { (F.told f.old).files ≡ None → (F.told f.new).files ≡ None }

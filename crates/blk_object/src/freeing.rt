@@ -37,7 +37,7 @@ pub fn free_places<F: Folder>(
     // Corruption is a check that fails on what is read here; nothing is written after it.
     ensures damaged { IfDamaged result (IsFailedCheck files.now (F.told f.new)) }
 
-    // A folder that tells its files reports corruption only for a place that is somebody's.
+    // An observable folder reports corruption only for a place that is somebody's.
     ensures untold { ForSome (F.told f.old).files (AreFreeable (words_at places.now)) → IfDamaged result (λ _. (F.told f.old).files ≡ None) }
 
     ensures silent { (F.told f.old).files ≡ None → (F.told f.new).files ≡ None }

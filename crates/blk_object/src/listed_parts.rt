@@ -66,7 +66,7 @@ pub fn next_part<F: Folder>(
     // Corruption is a check that fails on what is read here; nothing is written after it.
     ensures damaged { IfDamaged result (IsFailedCheck files.now (F.told f.new)) }
 
-    // A folder that tells its files, in which a state is so, reports no corruption.
+    // An observable folder, in which a state is so, reports no corruption.
     ensures untold { ForSome (F.told f.old).files (λ image. ForEachSearch from image (λ layout items. IfDamaged result (λ _. (F.told f.old).files ≡ None))) }
 
     ensures later { F.faults f.old ≤ F.faults f.new }

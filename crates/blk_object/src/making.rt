@@ -73,7 +73,7 @@ pub fn make_entry<F: Folder>(
     // Corruption is a check that fails on what is read here; nothing is written after it.
     ensures damaged { IfDamaged result (IsFailedCheck files.new (F.told f.new)) }
 
-    // A folder that tells its files, and keeps such a state, reports no corruption.
+    // An observable folder that keeps such a state reports no corruption.
     ensures untold { ForSome (F.told f.old).files (HasRoomForNew key.now mark) → IfDamaged result (λ _. (F.told f.old).files ≡ None) }
     ensures silent { (F.told f.old).files ≡ None → (F.told f.new).files ≡ None }
     ensures later { F.faults f.old ≤ F.faults f.new }

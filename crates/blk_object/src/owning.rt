@@ -53,7 +53,7 @@ pub fn read_owned<F: Folder>(f: &mut F, files: &BlockFiles, entry: Addr) -> Resu
     // Corruption is a check that fails on what is read here; nothing is written after it.
     ensures damaged { IfDamaged result (IsFailedCheck files.now (F.told f.new)) }
 
-    // A folder that tells its files reports corruption only where no entry lies there with this record.
+    // An observable folder reports corruption only where no entry lies there with this record.
     ensures untold { ForSome (F.told f.old).files (Agrees files.now) → ForSome (F.told f.old).files (λ image. (loaded : Loaded) × LoadsWith entry loaded image) → IfDamaged result (λ _. (F.told f.old).files ≡ None) }
 
     ensures later { F.faults f.old ≤ F.faults f.new }
@@ -86,7 +86,7 @@ pub fn free_owned<F: Folder>(f: &mut F, files: &BlockFiles, owned: &Owned) -> Re
     // Corruption is a check that fails on what is read here; nothing is written after it.
     ensures damaged { IfDamaged result (IsFailedCheck files.now (F.told f.new)) }
 
-    // A folder that tells its files reports corruption only for a place that is somebody's.
+    // An observable folder reports corruption only for a place that is somebody's.
     ensures untold { ForSome (F.told f.old).files (AreFreeable (words_at owned.now.places)) → IfDamaged result (λ _. (F.told f.old).files ≡ None) }
 
     ensures silent { (F.told f.old).files ≡ None → (F.told f.new).files ≡ None }

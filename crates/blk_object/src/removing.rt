@@ -45,7 +45,7 @@ pub fn take_out<F: Folder>(
     // Corruption is a check that fails on what is read here; nothing is written after it.
     ensures damaged { IfDamaged result (IsFailedCheck files.now (F.told f.new)) }
 
-    // A folder that tells its files reports corruption only for an item that may not go out.
+    // An observable folder reports corruption only for an item that may not go out.
     ensures untold { ForSome (F.told f.old).files (MayGoOut node found.now.entry found.now.before) → IfDamaged result (λ _. (F.told f.old).files ≡ None) }
 
     ensures silent { (F.told f.old).files ≡ None → (F.told f.new).files ≡ None }

@@ -54,7 +54,7 @@ pub fn take_main<F: Folder>(
     // Corruption is a check that fails on what is read here; nothing is written after it.
     ensures damaged { IfDamaged result (IsFailedCheck files.now (F.told f.new)) }
 
-    // A folder that tells its files, with such an item, reports no corruption.
+    // An observable folder, with such an item, reports no corruption.
     ensures untold { ForSome (F.told f.old).files (λ from. ForEachMain node found.now.entry found.now.before from (λ state layout unlinked number object was. IfDamaged result (λ _. (F.told f.old).files ≡ None))) }
 
     ensures silent { (F.told f.old).files ≡ None → (F.told f.new).files ≡ None }

@@ -58,7 +58,7 @@ pub fn remove_item<F: Folder>(
     // Corruption is a check that fails on what is read here; nothing is written after it.
     ensures damaged { IfDamaged result (IsFailedCheck files.now (F.told f.new)) }
 
-    // A folder that tells its files, with such an item in a state that is kept and counted, reports no corruption.
+    // An observable folder, with such an item in a state that is kept and counted, reports no corruption.
     ensures untold { ForSome (F.told f.old).files (λ from. ForEachAlone node found.now.entry found.now.before from (λ state after layout unlinked. IfDamaged result (λ _. (F.told f.old).files ≡ None))) }
 
     ensures silent { (F.told f.old).files ≡ None → (F.told f.new).files ≡ None }
@@ -100,7 +100,7 @@ pub fn remove_read<F: Folder>(
     // Corruption is a check that fails on what is read here; nothing is written after it.
     ensures damaged { IfDamaged result (IsFailedCheck files.now (F.told f.new)) }
 
-    // A folder that tells its files, with such an item in a state that is kept and counted, reports no corruption.
+    // An observable folder, with such an item in a state that is kept and counted, reports no corruption.
     ensures untold { ForSome (F.told f.old).files (λ from. IsOwnedBy found.now.entry owned.now from → ForEachAlone node found.now.entry found.now.before from (λ state after layout unlinked. IfDamaged result (λ _. (F.told f.old).files ≡ None))) }
 
     ensures silent { (F.told f.old).files ≡ None → (F.told f.new).files ≡ None }

@@ -70,7 +70,7 @@ pub fn write_object<F: Folder>(
     // Corruption is a check that fails on what is read here; nothing is written after it.
     ensures damaged { IfDamaged result (IsFailedCheck files.new (F.told f.new)) }
 
-    // A folder that tells its files, with such an object or such a part, reports no corruption.
+    // An observable folder, with such an object or such a part, reports no corruption.
     ensures untold { ForSome (F.told f.old).files (λ from. ForEachUnsettled entry stream offset cut bytes.now from (λ state layout unlinked number object was. IfDamaged result (λ _. (F.told f.old).files ≡ None))) }
     ensures part_untold { ForSome (F.told f.old).files (λ from. ForEachPartUnsettled entry stream offset cut bytes.now from (λ state layout unlinked number object n value was role. IfDamaged result (λ _. (F.told f.old).files ≡ None))) }
 

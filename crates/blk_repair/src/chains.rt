@@ -34,7 +34,7 @@ pub(crate) fn mend_chain<F: Folder>(
     ensures others { OnOk result (ForSome (F.told f.old).files (λ from. ForSome (F.told f.new).files (KeepsOtherBuckets bucket from))) }
     ensures is_open { ForSome (F.told f.new).files (IsOpen files.now) }
 
-    // A folder that tells its files reports corruption only where not all of the records check.
+    // An observable folder reports corruption only where not all of the records check.
     ensures damaged { IfDamaged result (IsFailedLink files.now (F.told f.new)) }
     ensures untold { ForSome (F.told f.old).files (AllCheck records.now) → IfDamaged result (λ _. (F.told f.old).files ≡ None) }
 
@@ -53,7 +53,7 @@ fn link<F: Folder>(f: &mut F, files: &BlockFiles, records: &[Addr]) -> Result<()
     ensures prefix { MakesPartOf (F.told f.old) (F.told f.new) (λ from. next_words_steps records.now from) }
     ensures damaged { IfDamaged result (IsFailedLink files.now (F.told f.new)) }
 
-    // A folder that tells its files reports corruption only where not all of them check.
+    // An observable folder reports corruption only where not all of them check.
     ensures untold { ForSome (F.told f.old).files (AllCheck records.now) → IfDamaged result (λ _. (F.told f.old).files ≡ None) }
     ensures later { F.faults f.old ≤ F.faults f.new }
     ensures device { IfDevice result (Rises (F.faults f.old) (F.faults f.new)) }

@@ -31,7 +31,7 @@ pub fn mend_index<F: Folder>(f: &mut F, items: u32, bytes: u32, this_id: u32) ->
 
     ensures complete { ForSome (F.told f.new).files HasWholeIndex }
 
-    // A folder that tells its files reports no corruption.
+    // An observable folder reports no corruption.
     ensures damaged { IfDamaged result (IsShortIndexWord (F.told f.new)) }
     ensures untold { IfDamaged result (λ _. (F.told f.old).files ≡ None) }
 

@@ -39,7 +39,7 @@ pub fn mend_list<F: Folder>(
 
     ensures is_open { ForSome (F.told f.new).files (IsOpen files.now) }
 
-    // A folder that tells its files reports corruption only where these aren't its walked and kept nodes.
+    // An observable folder reports corruption only where these aren't its walked and kept nodes.
     ensures damaged { IfDamaged result (IsListRepairDamage files.now (F.told f.new)) }
     ensures untold { ForSome (F.told f.old).files (IsListScanned walked.now kept.now) → IfDamaged result (λ _. (F.told f.old).files ≡ None) }
 

@@ -21,7 +21,7 @@ use blk_io::{Fault, Folder};
 /// added to the used blocks.
 ///
 /// A word is written only where it differs, and a length only where the file is too short. A failed check is a read of
-/// a header that gave too few bytes, which needs a folder that tells nothing.
+/// a header that gave too few bytes, which needs an opaque folder.
 pub fn mend_files<F: Folder>(
     f: &mut F,
     files: &mut BlockFiles,

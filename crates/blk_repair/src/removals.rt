@@ -38,7 +38,7 @@ pub fn remove_others<F: Folder>(
 
     ensures is_open { ForSome (F.told f.new).files (IsOpen files.now) }
 
-    // A folder that tells its files reports corruption only where the list wasn't ended with the walked nodes.
+    // An observable folder reports corruption only where the list wasn't ended with the walked nodes.
     ensures damaged { IfDamaged result (IsRemovalsDamage files.now (F.told f.new)) }
     ensures untold { ForSome (F.told f.old).files (λ from. (entry : Image) × IsEndedList entry walked.now kept.now from) → IfDamaged result (λ _. (F.told f.old).files ≡ None) }
 

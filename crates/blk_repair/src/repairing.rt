@@ -40,7 +40,7 @@ use blk_scan::Scan;
 /// the seals, and the words of the index. The last step makes the crash word 1, in a session with the next number.
 ///
 /// It takes no memory and walks nothing. At each word the same is kept and found, so it may crash anywhere and be begun
-/// again. A failed check is one of a part. A folder that tells its files gives none where the scan is its own.
+/// again. A failed check is one of a part. An observable folder gives none where the scan is its own.
 pub fn repair<F: Folder>(f: &mut F, files: &mut BlockFiles, scan: &Scan) -> Result<(), Fault>
     requires stand { StandAmong files.old scan.now }
     requires is_open { ForSome (F.told f.old).files (IsOpen files.old) }
@@ -69,7 +69,7 @@ pub fn repair<F: Folder>(f: &mut F, files: &mut BlockFiles, scan: &Scan) -> Resu
     // Where nothing else is to be repaired, the only steps are those of the words of the index.
     ensures clean { OnOk result (ForSome (F.told f.old).files (λ from. IsRepairable scan.now from → NeedsOnlyWords scan.now from → Applies (F.told f.old) (F.told f.new) (counting_steps from (id_after (this_id_of (byte from index))) from))) }
 
-    // A folder that tells its files reports corruption only where the scan isn't its own.
+    // An observable folder reports corruption only where the scan isn't its own.
     ensures damaged { IfDamaged result (IsRepairDamage files.new (F.told f.new)) }
     ensures untold { ForSome (F.told f.old).files (IsRepairable scan.now) → IfDamaged result (λ _. (F.told f.old).files ≡ None) }
 

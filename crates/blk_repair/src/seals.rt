@@ -29,7 +29,7 @@ pub fn seal_records<F: Folder>(f: &mut F, files: &BlockFiles, records: &[Addr]) 
 
     ensures is_open { ForSome (F.told f.new).files (IsOpen files.now) }
 
-    // A folder that tells its files reports corruption only where not all of them are kept.
+    // An observable folder reports corruption only where not all of them are kept.
     ensures damaged { IfDamaged result (IsWrongSealed files.now (F.told f.new)) }
     ensures untold { ForSome (F.told f.old).files (λ from. (entry : Image) × IsNextSealed entry records.now from) → IfDamaged result (λ _. (F.told f.old).files ≡ None) }
 

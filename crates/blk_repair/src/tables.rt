@@ -50,7 +50,7 @@ pub fn mend_chains<F: Folder>(
     ensures is_open { ForSome (F.told f.new).files (IsOpen files.now) }
     ensures silent { (F.told f.old).files ≡ None → (F.told f.new).files ≡ None }
 
-    // A folder that tells its files reports corruption only where these aren't its kept records.
+    // An observable folder reports corruption only where these aren't its kept records.
     ensures damaged { IfDamaged result (IsChainsRepairDamage files.now (F.told f.new)) }
     ensures untold { ForSome (F.told f.old).files (AreChainsScanned records.now ends.now whole.now) → IfDamaged result (λ _. (F.told f.old).files ≡ None) }
 

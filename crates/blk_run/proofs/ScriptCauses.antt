@@ -1,4 +1,4 @@
--- The cause of how a fixed script ended, and that a folder that tells its files reports no corruption.
+-- The cause of how a fixed script ended, and that an observable folder reports no corruption.
 use Rattle.std.proofs.Common.{ℕ, ◌≤◌, ◌≡◌, ◌≢◌, ◌⊎◌, inl, inr, Bool, true, false, List, Result, Ok, Err, sym, ◌∙◌, subst, arith}
 use Rattle.std.specs.Prelude.{if◌then◌else◌}
 use Rattle.spec_image.specs.Image.{Image}

@@ -161,7 +161,7 @@ kept_after (Err step_fault.Sink) budget input left far keeps notes spare old new
 kept_after (Err step_fault.Device) budget input left far keeps notes spare old new may plays = absurd (no_true may)
 kept_after (Err (step_fault.Damaged damage)) budget input left far keeps notes spare old new may plays = absurd (no_true may)
 
--- a folder that tells its files reports no corruption
+-- an observable folder reports no corruption
 pub input_undamaged : (r : Result InputEnd StepFault) (refused : Bool) (s : Status) (budget : ℕ) (input left : Option (List ℕ)) (far : SoFar) (keeps : State → Image → Type 0) (notes spare : ℕ) (old new : Around) → s ≡ status_after r refused
     → PlaysInput r budget input left far keeps notes spare old new → s ≢ status.Damaged
 input_undamaged r refused s budget input left far keeps notes spare old new is plays damaged = by_result r plays (sym is ∙ damaged)

@@ -17,8 +17,7 @@ pub record AreClosed (commands : List Stamped) (far : SoFar) (keeps : State → 
   pub stands : StandsAt (with_more far commands) keeps notes left now
   pub read : clock_new ≡ option_map (λ r. clock_after r (length commands)) clock_old
 
--- as an answer tells: where the folder failed in one of them, a crash leaves what it may; a folder that tells its files reports no
--- corruption
+-- as an answer tells: where the folder failed in one of them, a crash leaves what it may; an observable folder reports no corruption
 abbrev pub Closes : Result (Unit {0}) Fault → List Stamped → SoFar → (State → Image → Type 0) → (notes left : ℕ) → Told → (clock_old clock_new : Option Readings) → Type 0
 Closes (Ok done) commands far keeps notes left now clock_old clock_new = AreClosed commands far keeps notes left now clock_old clock_new
 Closes (Err fault.Device) commands far keeps notes left now clock_old clock_new = Stops far.from far.opened (far.done ++ commands) far.start now

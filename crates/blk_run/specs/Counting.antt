@@ -29,7 +29,7 @@ pub record Counts (result : Status) (limits : Bounds) (before now : ℕ) (old ne
   pub made : IsDoneOrSink result → ForSome old.folder.files (λ start. IsUnfinished start → ForSome new.folder.files (IsMadeAtNext old.clock))
   -- at each word the same is found, and the folder is unfinished or well formed where it was
   pub stops : ForSome old.folder.files (λ start. Passes old.folder new.folder (HoldsStill start))
-  -- no step is made when out of memory, and where a folder that tells its files is corrupt
+  -- no step is made when out of memory, and where an observable folder is corrupt
   pub stays : result ≡ status.Memory → Stays old.folder new.folder
   pub unwritten : result ≡ status.Damaged → ForSome old.folder.files (λ _. Stays old.folder new.folder)
   pub silent : old.folder.files ≡ None → new.folder.files ≡ None

@@ -20,7 +20,7 @@ pub record IsClosed (commands : List Stamped) (far : SoFar) (new : Told) (clock_
   pub ends : ForSome new.files EndsSession
   pub read : clock_new ≡ option_map (λ r. clock_after r (length commands)) clock_old
 
--- as an answer tells: where the folder failed, a crash leaves what it may; a folder that tells its files reports no corruption
+-- as an answer tells: where the folder failed, a crash leaves what it may; an observable folder reports no corruption
 abbrev pub ClosesBy : Result (Unit {0}) Fault → List Stamped → SoFar → Told → (clock_old clock_new : Option Readings) → Type 0
 ClosesBy (Ok done) commands far new clock_old clock_new = IsClosed commands far new clock_old clock_new
 ClosesBy (Err fault.Device) commands far new clock_old clock_new = Stops far.from far.opened (far.done ++ commands) far.start new

@@ -21,14 +21,14 @@ pub record IsCommandDamage (told : Told) (damage : Damage) : Type 0 where
 abbrev pub IsFailedSomewhere : Told → Type 0
 IsFailedSomewhere told = (damage : Damage) × IsCommandDamage told damage
 
--- a check of the opening fails, and is printed; where the folder told its files it is the first check of the headers that fails; before and now are the sink's counts of faults
+-- a check of the opening fails, and is printed; where the folder was observable it is the first check of the headers that fails; before and now are the sink's counts of faults
 pub record IsFailedInOpening (start final : Told) (old new : Option (List ℕ)) (before now : ℕ) : Type 0 where
   pub damage : Damage
   pub cause : IsOpeningDamage final damage
   pub first : ForSome start.files (IsFirstDamage damage)
   pub printed : Prints old new before now (damage_line (damage_of damage))
 
--- the folder doesn't tell its files, and a failed check was met in a command, after the opening; which one isn't seen outside, and where nothing is told some always may be
+-- the folder is opaque, and a failed check was met in a command, after the opening; which one isn't seen outside, and where nothing is told some always may be
 pub record IsFailedBehind (start final : Told) : Type 0 where
   pub untold : start.files ≡ None
   pub fails : IsFailedSomewhere final
@@ -37,7 +37,7 @@ pub record IsFailedBehind (start final : Told) : Type 0 where
 abbrev pub IsDamagedRun : (start final : Told) → (old new : Option (List ℕ)) → (before now : ℕ) → Type 0
 IsDamagedRun start final old new before now = IsFailedInOpening start final old new before now ⊎ IsFailedBehind start final
 
--- a check of what an inspection reads fails, and is printed; where the folder tells its files it is the first check of the headers that fails
+-- a check of what an inspection reads fails, and is printed; where the folder is observable it is the first check of the headers that fails
 pub record IsFailedInReading (told : Told) (old new : Option (List ℕ)) (before now : ℕ) : Type 0 where
   pub damage : Damage
   pub cause : IsInspectDamage told damage

@@ -32,7 +32,7 @@ state_now far = state_after far.opened far.done
 abbrev pub with_more : SoFar → List Stamped → SoFar
 with_more far more = record { start = far.start; from = far.from; opened = far.opened; done = far.done ++ more }
 
--- a run holds so far, in a folder that tells its files: its commands are done, the state after them is kept, each has its note, and they are few where so many bytes are to come; at each crash it would have left what it may
+-- a run holds so far, in an observable folder: its commands are done, the state after them is kept, each has its note, and they are few where so many bytes are to come; at each crash it would have left what it may
 pub record StandsAt (far : SoFar) (keeps : State → Image → Type 0) (notes left : ℕ) (now : Told) : Type 0 where
   pub began : far.start.files ≡ Some far.from
   pub image : Image
@@ -74,7 +74,7 @@ pub record AreStopped (made : List Turn) (far : SoFar) (old new : Around) : Type
   pub stops : (more : List Stamped) → Stops far.from far.opened (far.done ++ (commands_of made ++ more)) far.start new.folder
   pub printed : Appends old.written new.written (text_of made)
 
--- iterations were made, as an answer tells; a folder that tells its files reports no corruption
+-- iterations were made, as an answer tells; an observable folder reports no corruption
 abbrev pub Plays : {A : Type 0} → Result A StepFault → List Turn → SoFar → (State → Image → Type 0) → (notes left : ℕ) → (old new : Around) → Type 0
 Plays (Ok a) made far keeps notes left old new = AreMade made far keeps notes left old new
 Plays (Err fault.Sink) made far keeps notes left old new = AreMadeTo made far keeps notes left old new

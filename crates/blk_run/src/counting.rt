@@ -69,7 +69,7 @@ pub(crate) fn run_count<F: Folder, K: Sink, C: Clock>(
     // At each word the same is found, and the folder is unfinished or well formed where it was.
     ensures stops { ForSome (F.told folder.old).files (λ start. Passes (F.told folder.old) (F.told folder.new) (HoldsStill start)) }
 
-    // No step is made when out of memory, and where a folder that tells its files is corrupt.
+    // No step is made when out of memory, and where an observable folder is corrupt.
     ensures stays { result ≡ Status.Memory → Stays (F.told folder.old) (F.told folder.new) }
     ensures unwritten { result ≡ Status.Damaged → ForSome (F.told folder.old).files (λ _. Stays (F.told folder.old) (F.told folder.new)) }
     ensures silent { (F.told folder.old).files ≡ None → (F.told folder.new).files ≡ None }

@@ -20,8 +20,8 @@ pub enum Status {
     Sink = 5,
     /// Out of memory. Nothing was done.
     Memory = 6,
-    /// A check of the folder failed. At the start what it found was printed, and where the folder tells its files nothing was
-    /// written. Later one fails only in a folder that doesn't tell its files, and nothing of it is printed.
+    /// A check of the folder failed. At the start what it found was printed, and where the folder is observable nothing was
+    /// written. Later one fails only in an opaque folder, and nothing of it is printed.
     Damaged = 7,
     /// The input is longer than it may be.
     TooLong = 8,

@@ -39,8 +39,8 @@ use std::alloc::Global;
 ///
 /// # Errors
 ///
-/// `Damaged` with the first check of the index and of the headers of the block files that fails; a folder that tells its files
-/// reports no other failed check. `Device` where the folder failed in this call, and `Memory` when out of memory.
+/// `Damaged` with the first check of the index and of the headers of the block files that fails; an observable folder reports
+/// no other failed check. `Device` where the folder failed in this call, and `Memory` when out of memory.
 pub fn scan_folder<F: Folder>(alloc: Global, f: &mut F) -> Result<Scan, ScanFault>
     ensures scanned { IfOk result (λ scan. ForSome (F.told f.old).files (λ image. IsWellFormed image → IsScanOf image scan)) }
     ensures exact { IfOk result (λ scan. ForSome (F.told f.old).files (λ image. IsWellFormed image → IsExactScan image scan)) }
@@ -49,10 +49,10 @@ pub fn scan_folder<F: Folder>(alloc: Global, f: &mut F) -> Result<Scan, ScanFaul
     ensures checked { IfOk result (λ _. ForSome (F.told f.old).files (λ image. IsUnfinished image ⊎ IsWellFormed image)) }
     ensures stays { Stays (F.told f.old) (F.told f.new) }
 
-    // A folder that tells its files reports corruption only where a check of its headers fails: the first that does.
+    // An observable folder reports corruption only where a check of its headers fails: the first that does.
     ensures damaged { IfScanDamaged result (λ damage. ForSome (F.told f.old).files (λ image. (IsUnfinished image → ⊥) × (first_damage image ≡ Some (damage_of damage)))) }
 
-    // The cause of a failed check, which holds for a folder that tells nothing too.
+    // The cause of a failed check, which holds for an opaque folder too.
     ensures cause { IfScanDamaged result (IsFolderDamage (F.told f.old)) }
 
     ensures later { F.faults f.old ≤ F.faults f.new }
@@ -97,8 +97,7 @@ pub fn scan_files<F: Folder>(
     ensures few { IfOk result (λ scan. length scan.walked.items ≤ most_nodes) }
     ensures stays { Stays (F.told f.old) (F.told f.new) }
 
-    // A folder that tells its files reports corruption only where its index is too short or the block files don't agree with
-    // it.
+    // An observable folder reports corruption only where its index is too short or the block files don't agree with it.
     ensures damaged { IfScanDamaged result (IsScanDamage files.now (F.told f.new)) }
     ensures untold { ForSome (F.told f.old).files (IsOpen files.now) → IfScanDamaged result (λ _. (F.told f.old).files ≡ None) }
 

@@ -74,7 +74,7 @@ pub fn drop_children<F: Folder>(
     // Corruption is a check that fails on what is read here; nothing is written after it.
     ensures damaged { IfDamaged result (IsFailedCheck files.now (F.told f.new)) }
 
-    // A folder that tells its files, with such a parent, reports no corruption.
+    // An observable folder, with such a parent, reports no corruption.
     ensures untold { ForSome (F.told f.old).files (λ from. ForEachParentOut parent.now.node parent.now.entry (cast_unsigned w64 parent.now.signature) from (λ state layout keep unlinked number object. IfDamaged result (λ _. (F.told f.old).files ≡ None))) }
 
     ensures silent { (F.told f.old).files ≡ None → (F.told f.new).files ≡ None }
@@ -133,7 +133,7 @@ pub fn drop_children_with<F: Folder, E: FnMut(u32)>(
     // Corruption is a check that fails on what is read here; nothing is written after it.
     ensures damaged { IfDamaged result (IsFailedCheck files.now (F.told f.new)) }
 
-    // A folder that tells its files, with such a parent, reports no corruption.
+    // An observable folder, with such a parent, reports no corruption.
     ensures untold { ForSome (F.told f.old).files (λ from. ForEachParentOut parent.now.node parent.now.entry (cast_unsigned w64 parent.now.signature) from (λ state layout keep unlinked number object. IfDamaged result (λ _. (F.told f.old).files ≡ None))) }
 
     ensures silent { (F.told f.old).files ≡ None → (F.told f.new).files ≡ None }

@@ -103,7 +103,7 @@ pub fn drop_parts_with<F: Folder, E: FnMut(u32)>(
     // Corruption is a check that fails on what is read here; nothing is written after it.
     ensures damaged { IfDamaged result (IsFailedCheck files.now (F.told f.new)) }
 
-    // A folder that tells its files, in which parts are left so, reports no corruption.
+    // An observable folder, in which parts are left so, reports no corruption.
     ensures untold { ForSome (F.told f.old).files (λ from. ForEachLeft key.now (cast_unsigned w64 signature) from (λ state layout keep unlinked number object. IfDamaged result (λ _. (F.told f.old).files ≡ None))) }
 
     ensures silent { (F.told f.old).files ≡ None → (F.told f.new).files ≡ None }

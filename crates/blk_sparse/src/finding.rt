@@ -60,8 +60,7 @@ pub fn find_parts<F: Folder>(
 
     ensures stays { Stays (F.told f.old) (F.told f.new) }
 
-    // Corruption is a check that fails on what is read here. A folder that tells its files, with such an object, gives
-    // none.
+    // Corruption is a check that fails on what is read here. An observable folder, with such an object, gives none.
     ensures damaged { IfDamaged result (IsFailedCheck files.now (F.told f.new)) }
     ensures untold { ForSome (F.told f.old).files (λ from. ForEachKeptParent parent.now.node parent.now.entry (cast_unsigned w64 parent.now.signature) from (λ state layout unlinked number object. IfDamaged result (λ _. (F.told f.old).files ≡ None))) }
 

@@ -76,8 +76,7 @@ pub fn measure<F: Folder>(
     ensures light { IfOk result (λ found. found.bytes < 2 ^ 36) }
     ensures stays { Stays (F.told f.old) (F.told f.new) }
 
-    // Corruption is a check that fails on what is read here. A folder that tells its files, with such an object, gives
-    // none.
+    // Corruption is a check that fails on what is read here. An observable folder, with such an object, gives none.
     ensures damaged { IfDamaged result (IsFailedCheck files.now (F.told f.new)) }
     ensures untold { ForSome (F.told f.old).files (λ from. ForEachParentMeasured parent.now.node parent.now.entry (cast_unsigned w64 parent.now.signature) from (λ layout object. IfDamaged result (λ _. (F.told f.old).files ≡ None))) }
 
@@ -272,8 +271,7 @@ pub fn measure_plain<F: Folder>(
     ensures light { IfOk result (λ found. found.bytes < 2 ^ 36) }
     ensures stays { Stays (F.told f.old) (F.told f.new) }
 
-    // Corruption is a check that fails on what is read here. A folder that tells its files, with such an object, gives
-    // none.
+    // Corruption is a check that fails on what is read here. An observable folder, with such an object, gives none.
     ensures damaged { IfDamaged result (IsFailedCheck files.now (F.told f.new)) }
     ensures untold { ForSome (F.told f.old).files (λ from. ForEachPlainMeasured entry from (λ layout object. IfDamaged result (λ _. (F.told f.old).files ≡ None))) }
 

@@ -57,7 +57,7 @@ pub fn use_parts<F: Folder>(
     // Corruption is a check that fails on what is read here; nothing is written after it.
     ensures damaged { IfDamaged result (IsFailedCheck files.now (F.told f.new)) }
 
-    // A folder that tells its files, with such an object, reports no corruption.
+    // An observable folder, with such an object, reports no corruption.
     ensures untold { ForSome (F.told f.old).files (λ from. ForEachKeptParent parent.now.node parent.now.entry (cast_unsigned w64 parent.now.signature) from (λ state layout unlinked number object. IfDamaged result (λ _. (F.told f.old).files ≡ None))) }
 
     ensures silent { (F.told f.old).files ≡ None → (F.told f.new).files ≡ None }
@@ -188,7 +188,7 @@ pub fn read<F: Folder>(
     // Corruption is a check that fails on what is read here; nothing is written after it.
     ensures damaged { IfDamaged result (IsFailedCheck files.now (F.told f.new)) }
 
-    // A folder that tells its files, with such an object, reports no corruption.
+    // An observable folder, with such an object, reports no corruption.
     ensures untold { ForSome (F.told f.old).files (λ from. ForEachKeptParent parent.now.node parent.now.entry (cast_unsigned w64 parent.now.signature) from (λ state layout unlinked number object. IfDamaged result (λ _. (F.told f.old).files ≡ None))) }
 
     ensures silent { (F.told f.old).files ≡ None → (F.told f.new).files ≡ None }
@@ -236,7 +236,7 @@ pub fn range<F: Folder>(
     // Corruption is a check that fails on what is read here; nothing is written after it.
     ensures damaged { IfDamaged result (IsFailedCheck files.now (F.told f.new)) }
 
-    // A folder that tells its files, with such an object, reports no corruption.
+    // An observable folder, with such an object, reports no corruption.
     ensures untold { ForSome (F.told f.old).files (λ from. ForEachKeptParent parent.now.node parent.now.entry (cast_unsigned w64 parent.now.signature) from (λ state layout unlinked number object. IfDamaged result (λ _. (F.told f.old).files ≡ None))) }
 
     ensures silent { (F.told f.old).files ≡ None → (F.told f.new).files ≡ None }

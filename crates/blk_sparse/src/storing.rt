@@ -71,7 +71,7 @@ pub fn store_sparse<F: Folder>(
     // Corruption is a check that fails on what is read here; nothing is written after it.
     ensures damaged { IfDamaged result (IsFailedCheck files.new (F.told f.new)) }
 
-    // A folder that tells its files, with such an object, reports no corruption.
+    // An observable folder, with such an object, reports no corruption.
     ensures untold { ForSome (F.told f.old).files (λ from. ForEachToStore target.now offset bytes.now entries charge from (λ state layout number object. IfDamaged result (λ _. (F.told f.old).files ≡ None))) }
 
     ensures silent { (F.told f.old).files ≡ None → (F.told f.new).files ≡ None }

@@ -35,8 +35,7 @@ pub fn drop_streams<F: Folder>(f: &mut F, files: &BlockFiles, entry: Addr) -> Re
     // At each word the record checks, and nothing but the words of the streams and their places has changed; until the record names a stream no longer, its place is as it was; and a well-formed folder is well formed.
     ensures stops { ForSome (F.told f.old).files (λ from. RecordChecks entry from → Passes (F.told f.old) (F.told f.new) (DropsInProgress entry from)) }
 
-    // A folder that tells its files reports corruption only where the record doesn't check, or a stream isn't stored and allocated
-    // alone.
+    // An observable folder reports corruption only where the record doesn't check, or a stream isn't stored and allocated alone.
     ensures damaged { IfDamaged result (IsDropDamage files.now (F.told f.old) (F.told f.new) entry) }
     ensures untold { ForSome (F.told f.old).files (StreamsCanBeDropped entry) → IfDamaged result (λ _. (F.told f.old).files ≡ None) }
     ensures silent { (F.told f.old).files ≡ None → (F.told f.new).files ≡ None }

@@ -19,7 +19,7 @@ pub record MayStop (state : State) (moment : ℕ) (request : Request) (image : I
   pub well_formed : IsWellFormed image
   pub left : StopOutcome state moment request (step state moment request).state (found image)
 
--- P holds of each state that is kept, where the folder tells its files
+-- P holds of each state that is kept, where the folder is observable
 abbrev pub ForKept : (State → Image → Type 0) → Told → (State → Type 0) → Type 0
 ForKept keeps told P = ForSome told.files (λ image. (state : State) → keeps state image → P state)
 

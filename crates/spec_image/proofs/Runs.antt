@@ -198,7 +198,7 @@ passes_weaker {a} {b} {P} {P'} {Q} {Q'} first before last = record {
 pub passes_stayed : {a m b : Told} {P Q : Image → Type 0} → m ≡ a → PassesTo m b P Q → PassesTo a b P Q
 passes_stayed {a} {m} {b} {P} {Q} stays rest = subst (λ (t : Told). PassesTo t b P Q) stays rest
 
--- a folder that tells nothing owes nothing
+-- an opaque folder owes nothing
 pub part_untold : {a b : Told} (s : List TrailStep) → a.files ≡ None → a.trail ≡ None → b ≡ a → AppliesPrefix a b s
 part_untold {a} {b} s files trail same = record { made = []; left = s; split = refl; applies = grows_none same }
 

@@ -43,7 +43,7 @@ pub record AppliesPrefix (old new : Told) (steps : List TrailStep) : Type 0 wher
   pub split : steps ≡ made ++ left
   pub applies : Applies old new made
 
--- of files that are told, some of the steps that they ask for were made, from the first on; files that aren't told stay untold
+-- of files that are told, some of the steps that they ask for were made, from the first on; files that are opaque stay so
 pub record MakesPartOf (old new : Told) (steps_on : Image → List TrailStep) : Type 0 where
   pub made : ForSome old.files (λ from. AppliesPrefix old new (steps_on from))
   pub silent : old.files ≡ None → new.files ≡ None

@@ -1,4 +1,4 @@
-// The walk and the chains of a small folder in memory that tells nothing.
+// The walk and the chains of a small opaque folder in memory.
 use crate::folders::put_all;
 use blk_addr::Claims;
 use blk_audit::{ScanFault, Walked, chains, read_lists, walk};

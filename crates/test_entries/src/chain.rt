@@ -1,4 +1,4 @@
-// Chains in a folder in memory that tells nothing.
+// Chains in an opaque folder in memory.
 ghost use Rattle.std.specs.Prelude.{◌≡◌, ◌<◌, ◌^◌, IfSome, IsTrue};
 ghost use Rattle.spec_format.specs.Address.{blocks_256, kind_of};
 ghost use Rattle.blk_disk.specs.Tables.{stands_among};
@@ -13,7 +13,7 @@ use blk_record::{EntryMut, RecordMut, super_fast_hash};
 use std::alloc::Global;
 use std::test::Fail;
 
-// A folder in memory that tells nothing.
+// An opaque folder in memory.
 pub(crate) type Silent = SilentFolder<MemFolder>;
 
 // Three keys of one bucket, with their hashes, and two keys of one hash. The hashes are from a program of the

@@ -1,4 +1,4 @@
-// Entries in a folder in memory that tells nothing.
+// Entries in an opaque folder in memory.
 ghost use Rattle.std.specs.Prelude.{◌≡◌, ◌≤◌, IfSome, IsTrue, None, length};
 ghost use Rattle.spec_format.specs.Address.{blocks_256, kind_of, rankings};
 ghost use Rattle.blk_disk.specs.Tables.{stands_among};
@@ -16,7 +16,7 @@ use blk_record::{EntryMut, NodeMut, RecordMut, super_fast_hash};
 use std::alloc::Global;
 use std::test::Fail;
 
-// A folder in memory that tells nothing.
+// An opaque folder in memory.
 type Mem = SilentFolder<MemFolder>;
 
 // The first node, and where it begins.

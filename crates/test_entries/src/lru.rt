@@ -1,4 +1,4 @@
-// The LRU list of three nodes in a folder in memory, that tells nothing or all.
+// The LRU list of three nodes in a folder in memory, opaque or observable.
 ghost use Rattle.std.specs.Prelude.{IfSome, IsTrue};
 ghost use Rattle.blk_disk.specs.Tables.{is_node_among};
 
@@ -26,7 +26,7 @@ const MOMENT: u64 = 0x0123_4567_89AB_CDEF;
 
 const TIMES: [u32; 4] = [0x89AB_CDEF, 0x0123_4567, 0x89AB_CDEF, 0x0123_4567];
 
-// A folder in memory that crashes, and tells nothing.
+// An opaque folder in memory that crashes.
 pub(crate) type Silent = SilentFolder<StopFolder>;
 
 // Lets so many steps pass.
@@ -39,7 +39,7 @@ fn again(f: Silent, steps: u64) -> Silent {
     stopping(f.into_inner().into_inner(), steps)
 }
 
-// Such a folder, which tells nothing.
+// Such a folder, which is opaque.
 fn folder(alloc: Global) -> Result<Silent, Failed> {
     let mut f = stopping(MemFolder::without_trail(alloc), u64::MAX);
     put_all(&mut f, [1024, 0, 0, 0])?;

@@ -1,4 +1,4 @@
-// The verdict on a node, in a small folder in memory that tells nothing.
+// The verdict on a node, in a small opaque folder in memory.
 ghost use Rattle.std.specs.Prelude.{◌<◌, length};
 
 use crate::folders::put_files;

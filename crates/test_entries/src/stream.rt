@@ -1,4 +1,4 @@
-// Streams in a folder in memory that tells nothing.
+// Streams in an opaque folder in memory.
 ghost use Rattle.std.specs.Prelude.{◌≡◌, IfSome, IsTrue};
 ghost use Rattle.spec_format.specs.Address.{blocks_256, kind_of};
 ghost use Rattle.blk_disk.specs.Tables.{stands_among};

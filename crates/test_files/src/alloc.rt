@@ -357,7 +357,7 @@ fn a_wrong_map_is_made_that_of_the_claims(rt: HostRuntime) -> Result<(), Fail> {
     Ok(())
 }
 
-// Loads the block files of a folder that tells nothing, cuts `data_1`, and allocates a block.
+// Loads the block files of an opaque folder, cuts `data_1`, and allocates a block.
 fn give_cut(f: &mut SilentFolder<MemFolder>, length: u64) -> Result<u32, Fault> {
     let mut files = BlockFiles::load(f)?;
     f.set_len(FileId::Block(1), length)?;

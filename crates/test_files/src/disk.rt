@@ -330,7 +330,7 @@ fn the_first_new_file_is_data_4(rt: HostRuntime) -> Result<(), Fail> {
     Ok(())
 }
 
-// Reads the first node in a folder that tells nothing, once its file has this length.
+// Reads the first node in an opaque folder, once its file has this length.
 fn read_cut(f: &mut SilentFolder<MemFolder>, length: u64) -> Result<bool, Fault> {
     let files = BlockFiles::load(f)?;
     let Some(addr) = files.node(0x9000_0000) else {

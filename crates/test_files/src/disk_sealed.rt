@@ -83,7 +83,7 @@ fn an_updated_entry_record_has_its_hash_as_seal(rt: HostRuntime) -> Result<(), F
     Ok(())
 }
 
-// Updates the last node in a folder that tells nothing, once it has this seal and its file this length.
+// Updates the last node in an opaque folder, once it has this seal and its file this length.
 fn update_broken(f: &mut SilentFolder<MemFolder>, seal: u32, length: u64) -> Result<bool, Fault> {
     let files = BlockFiles::load(f)?;
     let Some(addr) = files.node(LAST_NODE) else {

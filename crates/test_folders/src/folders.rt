@@ -1,4 +1,4 @@
-// Folders in memory that tell nothing, written by the format alone.
+// Opaque folders in memory, written by the format alone.
 use blk_audit::ScanFault;
 use blk_disk::BlockFiles;
 use blk_io::{Failed, Fault, FileId, Folder, MemFolder, SilentFolder, read_word};

@@ -1,4 +1,4 @@
-// Objects that are made and removed, in a folder in memory that tells nothing.
+// Objects that are made and removed, in an opaque folder in memory.
 use blk_chain::find;
 use blk_disk::BlockFiles;
 use blk_entry::node_of;
